@@ -1,0 +1,2 @@
+-- Binary digits of numbers.
+pub mod Digits  -- digit, setDigit, fromDigits

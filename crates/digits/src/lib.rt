@@ -1,0 +1,22 @@
+// Binary digits: reading one, and writing one, in a byte. The theory that shifts, masks and patterns rest on is in specs/ and
+// proofs/. Nothing here knows of tiles.
+ghost use mathlib.Core.Path.{_≡_};
+ghost use Prim.Native.Nat.{_<_};
+ghost use Rattle.digits.specs.Digits.{digit, setDigit};
+
+// Digit k of a byte.
+pub fn digit_of(byte: u8, k: u32) -> u8
+    requires { ⌜ k < 8 ⌝ }
+    ensures { λ r. ⌜ r ≡ digit byte k ⌝ }
+{
+    (byte >> k) & 1
+}
+
+// A byte with `value` for its digit k.
+pub fn with_digit(byte: u8, k: u32, value: u8) -> u8
+    requires { ⌜ (k < 8) × (value < 2) ⌝ }
+    ensures { λ r. ⌜ r ≡ setDigit byte k value ⌝ }
+{
+    let old = (byte >> k) & 1;
+    byte - (old << k) + (value << k)
+}

@@ -1,0 +1,28 @@
+// Slices of numbers: clearing them. The theory that every crate's loops cite is in specs/ and proofs/: searches by a test,
+// counts, lists given by a function, lists in equal parts. Nothing here knows of tiles.
+ghost use mathlib.Core.Path.{_≡_};
+ghost use lib.ListN.{length};
+ghost use Rattle.lists.specs.Tables.{zeros};
+
+// Zeros everywhere.
+// Rules out: leaving the last number; clearing only what is not zero up to the first zero.
+pub fn clear(room: &mut [u16])
+    ensures { λ r. ⌜ now (room .exit) ≡ zeros (length (now (room .entry))) ⌝ }
+{
+    let mut i = 0;
+    while i < room.len() {
+        room[i] = 0;
+        i += 1;
+    }
+}
+
+// The same for bytes.
+pub fn clear_bytes(room: &mut [u8])
+    ensures { λ r. ⌜ now (room .exit) ≡ zeros (length (now (room .entry))) ⌝ }
+{
+    let mut i = 0;
+    while i < room.len() {
+        room[i] = 0;
+        i += 1;
+    }
+}

@@ -1,0 +1,44 @@
+-- The grounds for a no: number and place of each case of `Refusal` (document 01, 'Grounds for a no').
+use Prim.Native.Nat.{ℕ}
+use mathlib.Core.Bool.{Bool, true, false}
+use Rattle.refusal.specs.declared.Refusal.{Refusal}
+use Rattle.refusal.specs.declared.Refusal.the-variants.{Size, Length, Table, Undecodable, Contention, DisabledCarry, Loop, CellClock, NoSuchSettings, NotABit, Line, Row, OutOfRange}
+use Rattle.refusal.specs.declared.Answer.{Answer}
+use Rattle.refusal.specs.declared.Answer.the-variants.{Done, Refused}
+
+-- the column 'No.'
+abbrev pub numberOf : Refusal → ℕ
+numberOf Size = 1
+numberOf Length = 2
+numberOf (Table part) = 3
+numberOf (Undecodable tile) = 4
+numberOf (Contention wire) = 5
+numberOf (DisabledCarry wire) = 6
+numberOf (Loop wire) = 7
+numberOf (CellClock tile) = 8
+numberOf (NoSuchSettings tile) = 9
+numberOf (NotABit index) = 10
+numberOf (Line line) = 11
+numberOf (Row row) = 12
+numberOf (OutOfRange number) = 20
+
+-- the column 'Place'
+abbrev pub placeOf : Refusal → ℕ
+placeOf Size = 0
+placeOf Length = 0
+placeOf (Table part) = part
+placeOf (Undecodable tile) = tile
+placeOf (Contention wire) = wire
+placeOf (DisabledCarry wire) = wire
+placeOf (Loop wire) = wire
+placeOf (CellClock tile) = tile
+placeOf (NoSuchSettings tile) = tile
+placeOf (NotABit index) = index
+placeOf (Line line) = line
+placeOf (Row row) = row
+placeOf (OutOfRange number) = number
+
+-- One check in a chain of checks, "in these orders": where the test holds the later checks decide, else this no is the answer.
+abbrev pub unless : Bool → Refusal → Answer → Answer
+unless true refusal later = later
+unless false refusal later = Refused refusal

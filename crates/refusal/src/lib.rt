@@ -1,0 +1,84 @@
+// The grounds for a no (document 01, 'Grounds for a no'): one case for each, with its place. Nothing here knows how a ground is found.
+//
+// Every entry point of the project answers with a `Refusal` or with what it was asked for. `specs/Grounds.antt` gives the
+// number and the place of each case; `specs/Memory.antt` what an answer leaves in lent memory.
+ghost use mathlib.Core.Path.{_≡_};
+ghost use Rattle.refusal.specs.Grounds.{numberOf, placeOf};
+
+pub enum Refusal {
+    // W or H is not 1 to 8.
+    Size,
+    // A lent length differs from the exact one.
+    Length,
+    // The part of the routing table that breaks a rule: 0 the fields, 1 the passive list, 2 + g group g, 514 a group too many.
+    Table(u32),
+    // The tile that cannot be decoded.
+    Undecodable(u32),
+    // The wire that two enabled switches end on (document 01: fight).
+    Contention(u32),
+    // The wire of a disabled carry output that is read.
+    DisabledCarry(u32),
+    // The wire that depends on itself (document 01: loop).
+    Loop(u32),
+    // The tile whose clock, or asynchronous set or reset, comes from a cell.
+    CellClock(u32),
+    // The tile whose settings no bits have.
+    NoSuchSettings(u32),
+    // The index of a state, before or after byte above 1, the three joined.
+    NotABit(u32),
+    // The line that is malformed, out of turn, missing or extra, from 1.
+    Line(u32),
+    // The row of the list that may not stand where it does, from 0.
+    Row(u32),
+    // A port, tile or lookup input out of range: that number.
+    OutOfRange(u32),
+}
+
+// A yes that has nothing to say, or a no.
+pub enum Answer {
+    Done,
+    Refused(Refusal),
+}
+
+// The paper's number of a ground.
+// Rules out: one number for two grounds; counting the cases instead of the paper's numbers (20 follows 12).
+pub fn number(r: Refusal) -> u8
+    ensures { λ n. ⌜ n ≡ numberOf r ⌝ }
+{
+    match r {
+        Refusal::Size => 1,
+        Refusal::Length => 2,
+        Refusal::Table(_) => 3,
+        Refusal::Undecodable(_) => 4,
+        Refusal::Contention(_) => 5,
+        Refusal::DisabledCarry(_) => 6,
+        Refusal::Loop(_) => 7,
+        Refusal::CellClock(_) => 8,
+        Refusal::NoSuchSettings(_) => 9,
+        Refusal::NotABit(_) => 10,
+        Refusal::Line(_) => 11,
+        Refusal::Row(_) => 12,
+        Refusal::OutOfRange(_) => 20,
+    }
+}
+
+// The place of a no.
+pub fn place(r: Refusal) -> u32
+    ensures { λ n. ⌜ n ≡ placeOf r ⌝ }
+{
+    match r {
+        Refusal::Size => 0,
+        Refusal::Length => 0,
+        Refusal::Table(p) => p,
+        Refusal::Undecodable(p) => p,
+        Refusal::Contention(p) => p,
+        Refusal::DisabledCarry(p) => p,
+        Refusal::Loop(p) => p,
+        Refusal::CellClock(p) => p,
+        Refusal::NoSuchSettings(p) => p,
+        Refusal::NotABit(p) => p,
+        Refusal::Line(p) => p,
+        Refusal::Row(p) => p,
+        Refusal::OutOfRange(p) => p,
+    }
+}

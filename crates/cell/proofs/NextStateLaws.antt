@@ -62,12 +62,12 @@ module _ (c : Cell) (control : Control) (lookup state : ℕ) where
 
   pub next-state-async : c .flipflop ≡ true → c .asynchronous ≡ true
       → nextState c control lookup state
-      ≡ nextAsync state (control .tick) (rose (control .reset) (control .after)) (control .enable) (control .after) (bitOf (c .set)) lookup
+      ≡ nextAsync state (control .tick) (rose (control .before) (control .after)) (control .enable) (control .after) (bitOf (c .set)) lookup
   unfolding nextState
   next-state-async h a = rw (h, a)
 
   pub next-state-sync : c .flipflop ≡ true → c .asynchronous ≡ false
-      → nextState c control lookup state ≡ nextSync state (control .tick) (control .enable) (control .reset) (bitOf (c .set)) lookup
+      → nextState c control lookup state ≡ nextSync state (control .tick) (control .enable) (control .before) (bitOf (c .set)) lookup
   unfolding nextState
   next-state-sync h a = rw (h, a)
 
@@ -95,7 +95,7 @@ unfolding nextState nextSync nextAsync
 next-state-lt c control lookup state l s =
     cond-lt (c .flipflop) _ _
     (cond-lt (c .asynchronous) _ _
-    (cond-lt (control .tick || rose (control .reset) (control .after)) _ _
+    (cond-lt (control .tick || rose (control .before) (control .after)) _ _
     (cond-lt (eqb (control .after) 1) _ _ (bit-of-lt (c .set)) (cond-lt (control .tick && eqb (control .enable) 1) _ _ l s)) s)
-    (cond-lt (control .tick && eqb (control .enable) 1) _ _ (cond-lt (eqb (control .reset) 1) _ _ (bit-of-lt (c .set)) l) s))
+    (cond-lt (control .tick && eqb (control .enable) 1) _ _ (cond-lt (eqb (control .before) 1) _ _ (bit-of-lt (c .set)) l) s))
     s

@@ -27,7 +27,7 @@ unfoldable pub nextAsync : ℕ → Bool → Bool → ℕ → ℕ → ℕ → ℕ
 nextAsync state tick rise enable after set lookup =
     cond (tick || rise) (cond (eqb after 1) set (cond (tick && eqb enable 1) lookup state)) state
 
--- "the set value is bit 18"
+-- a flag as a value; "the set value is bit 18"
 abbrev pub bitOf : Bool → ℕ
 bitOf on = cond on 1 0
 
@@ -36,6 +36,6 @@ unfoldable pub nextState : Cell → Control → ℕ → ℕ → ℕ
 nextState cell control lookup state =
     cond (cell .flipflop)
     (cond (cell .asynchronous)
-    (nextAsync state (control .tick) (rose (control .reset) (control .after)) (control .enable) (control .after) (bitOf (cell .set)) lookup)
-    (nextSync state (control .tick) (control .enable) (control .reset) (bitOf (cell .set)) lookup))
+    (nextAsync state (control .tick) (rose (control .before) (control .after)) (control .enable) (control .after) (bitOf (cell .set)) lookup)
+    (nextSync state (control .tick) (control .enable) (control .before) (bitOf (cell .set)) lookup))
     state

@@ -7,11 +7,11 @@ pub struct FlipFlop {
     pub value: u8,
 }
 
-// What a tile's wires say of one step: its tick, cen before, s_r before (`reset`) and after (`after`).
+// What a tile's wires say of one step: its tick, cen before, s_r before and after.
 pub struct Control {
     pub tick: bool,
     pub enable: u8,
-    pub reset: u8,
+    pub before: u8,
     pub after: u8,
 }
 
@@ -78,7 +78,7 @@ impl FlipFlop {
         }
         let set = bit_of(cell.set);
         if cell.asynchronous {
-            let rise = is_rise(control.reset, control.after);
+            let rise = is_rise(control.before, control.after);
             return self.asynchronous(
                 control.tick,
                 rise,
@@ -88,7 +88,7 @@ impl FlipFlop {
                 lookup,
             );
         }
-        self.synchronous(control.tick, control.enable, control.reset, set, lookup)
+        self.synchronous(control.tick, control.enable, control.before, set, lookup)
     }
 }
 

@@ -44,7 +44,7 @@ fn next_of(n: u32) -> u8 {
     let control = Control {
         tick: bit(n, 5) == 1,
         enable: bit(n, 4),
-        reset: bit(n, 3),
+        before: bit(n, 3),
         after: bit(n, 2),
     };
     let old = FlipFlop { value: bit(n, 0) };

@@ -11,11 +11,11 @@ digit n k = n / 2 ^ k % 2
 abbrev pub isSet : ℕ → ℕ → Bool
 isSet n k = eqb (digit n k) 1
 
--- n with v for its digit k
+-- n with v, which is 0 or 1, for its digit k
 unfoldable pub setDigit : ℕ → ℕ → ℕ → ℕ
 setDigit n k v = (n / 2 ^ (1 + k) * 2 + v) * 2 ^ k + n % 2 ^ k
 
--- the number whose digits below n are those of f
+-- the number whose digits below n are those of f, each 0 or 1
 unfoldable pub fromDigits : (ℕ → ℕ) → ℕ → ℕ
 fromDigits f zero = zero
 fromDigits f (suc n) = f n * 2 ^ n + fromDigits f n

@@ -38,7 +38,16 @@ placeOf (Line line) = line
 placeOf (Row row) = row
 placeOf (OutOfRange number) = number
 
--- One check in a chain of checks, "in these orders": where the test holds the later checks decide, else this no is the answer.
-abbrev pub unless : Bool → Refusal → Answer → Answer
-unless true refusal later = later
-unless false refusal later = Refused refusal
+-- "in these orders": one check in a chain of checks. Where the test holds the later checks decide, else this no is the answer.
+abbrev pub unless : {A : Type 0} → Bool → A → A → A
+unless true refused later = later
+unless false refused later = refused
+
+-- The paper's number of an answer, that of the ground and 0 for a yes (frame 08), and what comes with it.
+abbrev pub answerNumber : Answer → ℕ
+answerNumber Done = 0
+answerNumber (Refused refusal) = numberOf refusal
+
+abbrev pub answerValue : Answer → ℕ
+answerValue Done = 0
+answerValue (Refused refusal) = placeOf refusal

@@ -1,3 +1,3 @@
 -- What a refusal is and what it leaves behind.
-pub mod Grounds  -- numberOf, placeOf: the paper's columns; unless: one check in a chain of checks
+pub mod Grounds  -- numberOf, placeOf: the paper's columns; unless: one check in a chain; answerNumber, answerValue
 pub mod Memory  -- output, workRoom: lent memory after an answer

@@ -1,20 +1,16 @@
--- Lent memory after an answer (demand 1; document 01, 'Grounds for a no').
+-- Lent memory after an answer (demand 1; document 01, 'Grounds for a no'). It hangs on the answer's number alone, 0 for a yes, so every kind
+-- of answer shares it.
 use Prim.Native.Nat.{ℕ}
-use mathlib.Core.Bool.{cond}
+use mathlib.Core.Bool.{cond, _||_}
 use mathlib.Core.List.{List}
-use lib.Dec.{ltb}
+use lib.Dec.{eqb}
 use lib.ListN.{length}
 use Rattle.lists.specs.Tables.{zeros}
-use Rattle.refusal.specs.Grounds.{numberOf}
-use Rattle.refusal.specs.declared.Answer.{Answer}
-use Rattle.refusal.specs.declared.Answer.the-variants.{Done, Refused}
 
 -- "On a refusal the outputs keep their old contents": an output after an answer, `new` being what a yes writes.
-abbrev pub output : Answer → List ℕ → List ℕ → List ℕ
-output Done old new = new
-output (Refused refusal) old new = old
+abbrev pub output : ℕ → List ℕ → List ℕ → List ℕ
+output number old new = cond (eqb number 0) new old
 
--- "the work room is zeroed, on a yes too, but untouched under 1 and 2".
-abbrev pub workRoom : Answer → List ℕ → List ℕ
-workRoom Done old = zeros (length old)
-workRoom (Refused refusal) old = cond (ltb (numberOf refusal) 3) old (zeros (length old))
+-- "the work room is zeroed, on a yes too, but untouched under 1 and 2"
+abbrev pub workRoom : ℕ → List ℕ → List ℕ
+workRoom number old = cond (eqb number 1 || eqb number 2) old (zeros (length old))

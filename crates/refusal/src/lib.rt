@@ -28,7 +28,7 @@ pub enum Refusal {
     NotABit(u32),
     // The line that is malformed, out of turn, missing or extra, from 1.
     Line(u32),
-    // The row of the list that may not stand where it does, from 0.
+    // The row of a lent list whose kind, wire, operand or unused number is not as it must be, from 0.
     Row(u32),
     // A port, tile or lookup input out of range: that number.
     OutOfRange(u32),

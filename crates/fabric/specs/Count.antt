@@ -1,0 +1,16 @@
+-- How many wires a block has (document 01, 'The list and a step': "the row count, which is the number of wires").
+use Prim.Native.Nat.{ℕ}
+use mathlib.Core.Bool.{Bool}
+use lib.Dec.{eqb}
+use Rattle.lists.specs.Search.{count}
+use Rattle.fabric.specs.declared.Block.{Block}
+use Rattle.fabric.specs.Block.{ports}
+use Rattle.fabric.specs.Wire.{wireOf}
+
+-- whether a port of the block is the lowest of its wire; it says nothing of a number that is no port of the block
+unfoldable pub ownWire : Block → ℕ → Bool
+ownWire B p = eqb (wireOf B p) p
+
+-- every wire has one lowest port, so they are counted by these
+unfoldable pub wires : Block → ℕ
+wires B = count (ownWire B) (ports B)

@@ -1,0 +1,35 @@
+-- What `wire_number` answers (document 01, 'Grounds for a no': "a wire number 1, 20 [..] in these orders").
+use Prim.Native.Nat.{ℕ}
+use mathlib.Core.Path.{_≡_}
+use lib.Dec.{ltb}
+use Rattle.refusal.specs.declared.Refusal.{Refusal}
+use Rattle.refusal.specs.declared.Refusal.the-variants.{Size, OutOfRange}
+use Rattle.refusal.specs.Grounds.{numberOf, placeOf, unless}
+use Rattle.fabric.specs.declared.Block.{Block}
+use Rattle.fabric.specs.declared.WireNumber.{WireNumber}
+use Rattle.fabric.specs.declared.WireNumber.the-variants.{Wire, Refused}
+use Rattle.fabric.specs.Block.{block, tiles, sized, portsPerTile, portOf}
+use Rattle.fabric.specs.Joins.{Lowest}
+use Rattle.fabric.specs.Wire.{wireOf}
+
+-- "1: W or H not 1 to 8"; "20: a port (0 to 505 in its tile), tile [..] out of range", place "that number, a tile's first"
+unfoldable pub wireNumber : ℕ → ℕ → ℕ → ℕ → WireNumber
+wireNumber W H t q =
+    unless (sized (block W H)) (Refused Size)
+    (unless (ltb t (tiles (block W H))) (Refused (OutOfRange t))
+    (unless (ltb q portsPerTile) (Refused (OutOfRange q))
+    (Wire (wireOf (block W H) (portOf t q)))))
+
+-- the paper's number of an answer: that of the ground, and 0 for a yes, as in the last line of a report
+abbrev pub answerNumber : WireNumber → ℕ
+answerNumber (Wire n) = 0
+answerNumber (Refused refusal) = numberOf refusal
+
+-- what comes with it: the wire's number, or the place
+abbrev pub answerValue : WireNumber → ℕ
+answerValue (Wire n) = n
+answerValue (Refused refusal) = placeOf refusal
+
+-- what an answer for port p says of the joins themselves
+abbrev pub IsWire : Block → ℕ → WireNumber → Type 0
+IsWire B p r = answerNumber r ≡ 0 → Lowest B p (answerValue r)

@@ -1,0 +1,68 @@
+// A group by itself: its destination, its counts and its entries (document 01, 'The routing table').
+ghost use mathlib.Core.Path.{_≡_};
+ghost use Prim.Native.Nat.{_<_, _≤_};
+ghost use lib.ListN.{length};
+ghost use Rattle.routing.specs.LogicTile.{logicTile};
+ghost use Rattle.routing.specs.Table.{maxGroups, maxEntries, maxPositions, tableLength, widthOf, entryCount};
+ghost use Rattle.routing.specs.TableCheck.{entryOk, groupAloneOk};
+use crate::ports::is_destination;
+use crate::ports::is_source;
+use crate::table::MAX_ENTRIES;
+use crate::table::MAX_POSITIONS;
+use crate::table::destination;
+use crate::table::entry_count;
+use crate::table::find_entry;
+use crate::table::pattern;
+use crate::table::source;
+use crate::table::width;
+
+// Entry e of group g, by itself and with the entries before it.
+pub fn entry_ok(table: &[u16], g: usize, e: usize) -> bool
+    requires { ⌜ (length (now table) ≡ tableLength logicTile) × (g < maxGroups) × (e < maxEntries) × (widthOf logicTile (now table) g ≤ maxPositions) × (entryCount logicTile (now table) g ≤ maxEntries) ⌝ }
+    ensures { λ r. ⌜ r ≡ entryOk logicTile (now (table .entry)) g e ⌝ }
+{
+    let v = pattern(table, g, e);
+    if v == 0 {
+        return false;
+    }
+    let top: u16 = 1 << width(table, g);
+    if top <= v {
+        return false;
+    }
+    if find_entry(table, g, v) != e {
+        return false;
+    }
+    is_source(source(table, g, e))
+}
+
+// Group g by itself.
+pub fn group_alone_ok(table: &[u16], g: usize) -> bool
+    requires { ⌜ (length (now table) ≡ tableLength logicTile) × (g < maxGroups) ⌝ }
+    ensures { λ r. ⌜ r ≡ groupAloneOk logicTile (now (table .entry)) g ⌝ }
+{
+    if !is_destination(destination(table, g)) {
+        return false;
+    }
+    let w = width(table, g);
+    if w == 0 {
+        return false;
+    }
+    if MAX_POSITIONS < w {
+        return false;
+    }
+    let n = entry_count(table, g);
+    if n == 0 {
+        return false;
+    }
+    if MAX_ENTRIES < n {
+        return false;
+    }
+    let mut e = 0;
+    while e < n {
+        if !entry_ok(table, g, e) {
+            return false;
+        }
+        e += 1;
+    }
+    true
+}

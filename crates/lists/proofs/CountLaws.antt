@@ -1,5 +1,5 @@
 -- How many numbers below n pass a test.
-use mathlib.Core.Path.{_≡_, refl, sym, ap, _∙_}
+use mathlib.Core.Path.{_≡_, refl, sym, ap, _∙_, subst}
 use mathlib.Core.Bool.{Bool, true, false, cond}
 use mathlib.Core.Logic.{⊎-elim, _≢_}
 use Prim.Native.Nat.{ℕ, zero, suc, _+_, _<_, _≤_}
@@ -52,3 +52,26 @@ pub count-add : (p : ℕ → Bool) (n m : ℕ) → count p (n + m) ≡ count p n
 unfolding count
 count-add p n zero = ap (count p) (add-zero n) ∙ sym (add-zero (count p n))
 count-add p n (suc m) = rw (add-suc n m) (let r = count-add p n m in omega arith)
+
+-- a test that passes whatever another does
+weigh : (x y : Bool) → (x ≡ true → y ≡ true) → cond {A = ℕ} x 1 0 ≤ cond {A = ℕ} y 1 0
+weigh true y h = rw (h refl) (omega arith)
+weigh false y h = omega arith
+
+pub count-sub : (p q : ℕ → Bool) (n : ℕ) → ((i : ℕ) → p i ≡ true → q i ≡ true) → count p n ≤ count q n
+unfolding count
+count-sub p q zero sub = omega arith
+count-sub p q (suc n) sub = let c = count-sub p q n sub in let d = weigh (p n) (q n) (sub n) in omega arith
+
+-- and one number more
+pub count-lt : (p q : ℕ → Bool) (n w : ℕ) → ((i : ℕ) → p i ≡ true → q i ≡ true) → w < n → p w ≡ false → q w ≡ true → count p n < count q n
+unfolding count
+count-lt p q zero w sub l a b = absurd (omega arith)
+count-lt p q (suc n) w sub l a b =
+    ⊎-elim
+    (λ (e : w ≡ n).
+    let pn : p n ≡ false = subst (λ (x : ℕ). p x ≡ false) e a in
+    let qn : q n ≡ true = subst (λ (x : ℕ). q x ≡ true) e b in
+    rw (pn, qn) (let c = count-sub p q n sub in omega arith))
+    (λ (lt : w < n). let c = count-lt p q n w sub lt a b in let d = weigh (p n) (q n) (sub n) in omega arith)
+    (eq-or-lt-of-le (le-of-suc-le-suc l))

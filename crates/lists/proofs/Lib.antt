@@ -1,7 +1,7 @@
 -- The laws that every loop cites. A search, a count or a fill of another crate is an instance of one of these.
 pub mod CaseLaws  -- cases, lt-or-le, eq-or-ne: a choice with its fact; and-true, and-left, and-right
 pub mod SearchLaws  -- first-exact: what the first is; first-turn-hit, -skip, -end: a turn of a loop that searches; the same for all
-pub mod CountLaws  -- count-ext, count-one-more, count-none
+pub mod CountLaws  -- count-ext, count-one-more, count-lt, count-add, count-none, count-le
 pub mod TableLaws  -- tabulate-at, tabulate-is; Filled with its start, step and end: a slice filled from the front
 pub mod PartLaws  -- part-joined; joined-step, joined-end: a slice filled part by part
 pub mod Clearing  -- cleared-start, -step, -end: a slice set to zeros

@@ -1,0 +1,22 @@
+-- The laws of `netlist`. Callers cite OrderLaws, ListLaws and PassedLaws; RowLaws and MarkLaws where they write rows or marks.
+pub mod OrderLaws  -- order-exact, order-member, order-length; run-solves, others-break; lowest-loop-unique
+pub mod ListLaws  -- list-solves, list-others-break, list-fits, list-bits: the same of the list that building writes
+pub mod PassedLaws  -- passed-every, passed-once, passed-fits, passed-local, passed-bits: of a list that passes ground 12
+pub mod CheckingLaws  -- first-bad-exact: the test of ground 12 is its sentence
+pub mod RowLaws  -- row-set-same, row-set-other, row-rows; Written with its start, step and end: a list filled row by row
+pub mod MarkLaws  -- listed-set-same, -other, -kept; unmarked-set: a mark is one less
+pub mod ValueLaws  -- value-local, value-lt: what a row gives
+pub mod ReadyLaws  -- ready, next; order-induction
+pub mod LoopLaws  -- stuck-loop: where none is ready one depends on itself; Safe: no listed wire does
+pub mod PlacedLaws  -- Placed: the order's wires, each once, none before what it reads
+pub mod EquationLaws  -- solved-step, agree-step: one step of running the order
+pub mod GraphLaws  -- what a row that was read says of its wire
+pub mod Listing  -- the loop that lists the wires
+pub mod Reaching  -- the loop that follows readings from a wire on
+pub mod Settling  -- the loop that runs a list; run-bits
+pub mod SchedulingLaws  -- answers-unique: the promise determines the answer; whether a wire is left over; the rows written are the order's
+pub mod OperandLaws  -- an operand by its use
+pub mod GoodLaws  -- a good row by its parts, a zero row by its numbers
+pub mod FirstBadLaws  -- the loops of ground 12
+pub mod Example  -- closed-test; three wires
+pub mod LoopWireLaws  -- loop-at-exact, loop-wire-is: the computed place of a loop is the lowest wire that depends on itself

@@ -1,0 +1,316 @@
+-- `loops::depends_on_itself` meets its contract. Invariant: what is queued is reached from the start, and what the first of the queue read is
+-- marked (`Reaching`); in the inner loop, the operands below j too (`Taking`). Measures: the indices, and the operands, left. Assumes nothing.
+use borrow.Author.Needs.{needs}
+use Rattle.netlist.proofs.Reaching.{Reaching, Taking, reaching-start, reaching-end, taking-start, taking-reach, taking-keep, taking-room, taking-push, taking-done}
+use Rattle.netlist.proofs.GraphLaws.{row-arity, row-reads}
+use Rattle.netlist.proofs.ValueLaws.{arity-le}
+use Rattle.netlist.proofs.MarkLaws.{listed-true, listed-false}
+use Rattle.netlist.specs.declared.row.Row.{Row}
+use Rattle.netlist.specs.Rows.{graphOf, operandOf}
+use Rattle.netlist.specs.Marks.{listed}
+use Rattle.netlist.specs.Graph.{DependsOn}
+use lib.ListN.{length, set, length-set}
+use native.Mathlib.Omega.{arith}
+use mathlib.Core.List.{List}
+use mathlib.Core.Logic.{⊎-elim}
+use mathlib.Core.Bool.{true, true≢false}
+use mathlib.Core.Path.{_≡_, refl, sym, ap, subst, _∙_}
+use Prim.Native.Nat.{ℕ, _≤_, _-_}
+use Rattle.netlist.proofs.loops.depends_on_itself.Statement.{statement}
+use Rattle.netlist.proofs.loops.depends_on_itself.Tie as tie
+
+abbrev Inv-loop2 : tie.InvT-loop2
+Inv-loop2 rows start marks₀ queue₀ n head tail₀ v row count j₀ marks queue tail j = Taking (graphOf rows) n start marks queue head tail v j × ((j ≤ count) × (length queue ≡ length queue₀))
+
+abbrev μ-loop2 : tie.MeasureT-loop2
+μ-loop2 rows start marks₀ queue₀ n head tail₀ v row count j₀ marks queue tail j = count - j
+
+abbrev Inv-loop : tie.InvT-loop
+Inv-loop rows start marks₀ queue₀ n head₀ tail₀ marks queue head tail = Reaching (graphOf rows) n start marks queue head tail × (length queue ≡ length queue₀)
+
+abbrev μ-loop : tie.MeasureT-loop
+μ-loop rows start marks₀ queue₀ n head₀ tail₀ marks queue head tail = n - head
+
+clear-requires : tie.Need-clear-requires Inv-loop2 μ-loop2 Inv-loop μ-loop
+clear-requires c κs = search needs
+
+mul-marks : tie.Need-mul-marks Inv-loop2 μ-loop2 Inv-loop μ-loop
+mul-marks c = omega arith
+
+slice-write-marks : tie.Need-slice-write-marks Inv-loop2 μ-loop2 Inv-loop μ-loop
+slice-write-marks c = omega arith
+
+cast-queue : tie.Need-cast-queue Inv-loop2 μ-loop2 Inv-loop μ-loop
+cast-queue c = omega arith
+
+slice-write-queue : tie.Need-slice-write-queue Inv-loop2 μ-loop2 Inv-loop μ-loop
+slice-write-queue c = omega arith
+
+loop-holds : tie.Need-loop-holds Inv-loop2 μ-loop2 Inv-loop μ-loop
+loop-holds c =
+    let at-clear = c .before .before in
+    let at-start = at-clear .before .before .before .before .before in (
+      subst (λ (t : List ℕ). Reaching (graphOf (at-start .args .rows .now)) (length (at-start .args .marks .now)) (at-start .args .start)
+          (set t (at-start .args .start) 1) (set (at-start .args .queue .now) 0 (at-start .args .start)) 0 1) (sym (at-clear .clear .ensures))
+          (reaching-start (graphOf (at-start .args .rows .now)) (length (at-start .args .marks .now)) (at-start .args .start) (at-start .args .queue .now)
+          (at-start .pre .1 .1 .1) (at-start .pre .1 .1 .0 .0)),
+      refl,
+    )
+
+mul-wide : tie.Need-mul-wide Inv-loop2 μ-loop2 Inv-loop μ-loop
+mul-wide c = omega arith
+
+slice-read-wide : tie.Need-slice-read-wide Inv-loop2 μ-loop2 Inv-loop μ-loop
+slice-read-wide c = omega arith
+
+wide-requires : tie.Need-wide-requires Inv-loop2 μ-loop2 Inv-loop μ-loop
+wide-requires c κs = search needs
+
+row-at-requires : tie.Need-row-at-requires Inv-loop2 μ-loop2 Inv-loop μ-loop
+row-at-requires c κs =
+    let at-test = c .before .before in
+    let at-loop = at-test .before in
+    let b = at-loop .loop .inv .0 .below _ (at-test .loop-test .taken) in let e = c .wide .ensures in omega arith
+
+arity-requires : tie.Need-arity-requires Inv-loop2 μ-loop2 Inv-loop μ-loop
+arity-requires c κs = search needs
+
+loop2-holds : tie.Need-loop2-holds Inv-loop2 μ-loop2 Inv-loop μ-loop
+loop2-holds c =
+    let at-wide = c .before .before in
+    let at-test = at-wide .before .before in
+    let at-loop = at-test .before in
+    (taking-start _ _ _ _ _ _ _ _ (at-loop .loop .inv .0) (at-test .loop-test .taken) (at-wide .wide .ensures), (omega arith, refl))
+
+operand-requires : tie.Need-operand-requires Inv-loop2 μ-loop2 Inv-loop μ-loop
+operand-requires c κs =
+    let at-arity = c .before .before in
+    let at-row-at = at-arity .before in
+    omega (arith, arity-le (at-row-at .row-at .result), at-arity .arity .ensures)
+
+wide-requires-2 : tie.Need-wide-requires-2 Inv-loop2 μ-loop2 Inv-loop μ-loop
+wide-requires-2 c κs = search needs
+
+same-length : tie.Need-same-length Inv-loop2 μ-loop2 Inv-loop μ-loop
+same-length c = omega arith
+
+same-length-2 : tie.Need-same-length-2 Inv-loop2 μ-loop2 Inv-loop μ-loop
+same-length-2 c =
+    let at-start = c .before .before .before .before .before .before .before .before .before .before .before .before .before .before .before .before .before .before in
+    omega (arith, length-set (at-start .args .queue .now) 0 (at-start .args .start))
+
+returns : tie.Need-returns Inv-loop2 μ-loop2 Inv-loop μ-loop
+returns c =
+    let at-operand = c .before .before in
+    let at-test2 = at-operand .before in
+    let at-loop2 = at-test2 .before in
+    let at-arity = at-loop2 .before in
+    let at-row-at = at-arity .before in
+    let at-start = at-row-at .before .before .before .before .before .before .before .before .before .before .before .before in (
+      λ t. subst (λ (x : ℕ). DependsOn (graphOf (at-start .args .rows .now)) (at-start .args .start) x)
+          (sym (c .before .wide2 .ensures ∙ at-operand .operand .ensures ∙ ap (λ (r : Row). operandOf r (at-loop2 .loop2 .j)) (at-row-at .row-at .ensures)) ∙ c .if1 .taken)
+          (taking-reach _ _ _ _ _ _ _ _ _ (at-loop2 .loop2 .inv .0) (let q = row-arity _ _ _ (at-row-at .row-at .ensures) _ (at-arity .arity .ensures) in
+          let t = at-test2 .loop2-test .taken in omega arith)),
+      λ t. absurd (true≢false t),
+    )
+
+mul-if2 : tie.Need-mul-if2 Inv-loop2 μ-loop2 Inv-loop μ-loop
+mul-if2 c =
+    let at-operand = c .before .before in
+    let at-test2 = at-operand .before in
+    let at-loop2 = at-test2 .before in
+    let at-arity = at-loop2 .before in
+    let at-row-at = at-arity .before in
+    let at-start = at-row-at .before .before .before .before .before .before .before .before .before .before .before .before in
+    omega (
+      arith,
+      (at-start .pre .1 .0 .below _ _ (row-reads _ _ _ (at-row-at .row-at .ensures) _ (at-arity .arity .ensures) (at-loop2 .loop2 .j)
+          (c .before .wide2 .result) (at-test2 .loop2-test .taken) (c .before .wide2 .ensures ∙ at-operand .operand .ensures))),
+    )
+
+slice-read-if2 : tie.Need-slice-read-if2 Inv-loop2 μ-loop2 Inv-loop μ-loop
+slice-read-if2 c =
+    let at-wide2 = c .before .before in
+    let at-operand = at-wide2 .before in
+    let at-test2 = at-operand .before in
+    let at-loop2 = at-test2 .before in
+    let at-arity = at-loop2 .before in
+    let at-row-at = at-arity .before in
+    let at-start = at-row-at .before .before .before .before .before .before .before .before .before .before .before .before in
+    omega (
+      arith,
+      (at-start .pre .1 .0 .below _ _ (row-reads _ _ _ (at-row-at .row-at .ensures) _ (at-arity .arity .ensures) (at-loop2 .loop2 .j)
+          (at-wide2 .wide2 .result) (at-test2 .loop2-test .taken) (at-wide2 .wide2 .ensures ∙ at-operand .operand .ensures))),
+    )
+
+mul-marks-2 : tie.Need-mul-marks-2 Inv-loop2 μ-loop2 Inv-loop μ-loop
+mul-marks-2 c =
+    let at-wide2 = c .before .before .before in
+    let at-operand = at-wide2 .before in
+    let at-test2 = at-operand .before in
+    let at-loop2 = at-test2 .before in
+    let at-arity = at-loop2 .before in
+    let at-row-at = at-arity .before in
+    let at-start = at-row-at .before .before .before .before .before .before .before .before .before .before .before .before in
+    omega (
+      arith,
+      (at-start .pre .1 .0 .below _ _ (row-reads _ _ _ (at-row-at .row-at .ensures) _ (at-arity .arity .ensures) (at-loop2 .loop2 .j)
+          (at-wide2 .wide2 .result) (at-test2 .loop2-test .taken) (at-wide2 .wide2 .ensures ∙ at-operand .operand .ensures))),
+    )
+
+slice-write-marks-2 : tie.Need-slice-write-marks-2 Inv-loop2 μ-loop2 Inv-loop μ-loop
+slice-write-marks-2 c =
+    let at-wide2 = c .before .before .before in
+    let at-operand = at-wide2 .before in
+    let at-test2 = at-operand .before in
+    let at-loop2 = at-test2 .before in
+    let at-arity = at-loop2 .before in
+    let at-row-at = at-arity .before in
+    let at-start = at-row-at .before .before .before .before .before .before .before .before .before .before .before .before in
+    omega (
+      arith,
+      (at-start .pre .1 .0 .below _ _ (row-reads _ _ _ (at-row-at .row-at .ensures) _ (at-arity .arity .ensures) (at-loop2 .loop2 .j)
+          (at-wide2 .wide2 .result) (at-test2 .loop2-test .taken) (at-wide2 .wide2 .ensures ∙ at-operand .operand .ensures))),
+    )
+
+mul-queue : tie.Need-mul-queue Inv-loop2 μ-loop2 Inv-loop μ-loop
+mul-queue c =
+    let at-wide2 = c .before .before .before in
+    let at-operand = at-wide2 .before in
+    let at-test2 = at-operand .before in
+    let at-loop2 = at-test2 .before in
+    let at-arity = at-loop2 .before in
+    let at-row-at = at-arity .before in
+    let at-start = at-row-at .before .before .before .before .before .before .before .before .before .before .before .before in
+    omega (
+      arith,
+      taking-room _ _ _ _ _ _ _ _ _ (at-loop2 .loop2 .inv .0) (at-wide2 .wide2 .result)
+          (at-start .pre .1 .0 .below _ _ (row-reads _ _ _ (at-row-at .row-at .ensures) _ (at-arity .arity .ensures) (at-loop2 .loop2 .j) (at-wide2 .wide2 .result)
+          (at-test2 .loop2-test .taken) (at-wide2 .wide2 .ensures ∙ at-operand .operand .ensures)))
+          (listed-false (at-loop2 .loop2 .marks) (at-wide2 .wide2 .result) (c .if2 .taken)),
+    )
+
+slice-write-queue-2 : tie.Need-slice-write-queue-2 Inv-loop2 μ-loop2 Inv-loop μ-loop
+slice-write-queue-2 c =
+    let at-wide2 = c .before .before .before in
+    let at-operand = at-wide2 .before in
+    let at-test2 = at-operand .before in
+    let at-loop2 = at-test2 .before in
+    let at-arity = at-loop2 .before in
+    let at-row-at = at-arity .before in
+    let at-start = at-row-at .before .before .before .before .before .before .before .before .before .before .before .before in
+    omega (
+      arith,
+      taking-room _ _ _ _ _ _ _ _ _ (at-loop2 .loop2 .inv .0) (at-wide2 .wide2 .result)
+          (at-start .pre .1 .0 .below _ _ (row-reads _ _ _ (at-row-at .row-at .ensures) _ (at-arity .arity .ensures) (at-loop2 .loop2 .j) (at-wide2 .wide2 .result)
+          (at-test2 .loop2-test .taken) (at-wide2 .wide2 .ensures ∙ at-operand .operand .ensures)))
+          (listed-false (at-loop2 .loop2 .marks) (at-wide2 .wide2 .result) (c .if2 .taken)),
+    )
+
+add-tail : tie.Need-add-tail Inv-loop2 μ-loop2 Inv-loop μ-loop
+add-tail c = omega arith
+
+add-j : tie.Need-add-j Inv-loop2 μ-loop2 Inv-loop μ-loop
+add-j c = omega arith
+
+loop2-less : tie.Need-loop2-less Inv-loop2 μ-loop2 Inv-loop μ-loop
+loop2-less c = omega arith
+
+loop2-again : tie.Need-loop2-again Inv-loop2 μ-loop2 Inv-loop μ-loop
+loop2-again c =
+    let at-if1 = c .before .before in
+    let at-wide2 = at-if1 .before in
+    let at-operand = at-wide2 .before in
+    let at-test2 = at-operand .before in
+    let at-loop2 = at-test2 .before in
+    let at-arity = at-loop2 .before in
+    let at-row-at = at-arity .before in
+    let at-start = at-row-at .before .before .before .before .before .before .before .before .before .before .before .before in
+    ⊎-elim
+    (λ w. rw (w .1, w .2, w .3) (
+      taking-push _ _ _ _ _ _ _ _ _ (at-loop2 .loop2 .inv .0) (at-wide2 .wide2 .result) (at-operand .operand .result)
+          (let q = row-arity _ _ _ (at-row-at .row-at .ensures) _ (at-arity .arity .ensures) in let t = at-test2 .loop2-test .taken in omega arith)
+          (at-wide2 .wide2 .ensures ∙ at-operand .operand .ensures ∙ ap (λ (r : Row). operandOf r (at-loop2 .loop2 .j)) (at-row-at .row-at .ensures))
+          (at-wide2 .wide2 .ensures) (at-start .pre .1 .0 .below _ _ (row-reads _ _ _ (at-row-at .row-at .ensures) _ (at-arity .arity .ensures) (at-loop2 .loop2 .j)
+          (at-wide2 .wide2 .result) (at-test2 .loop2-test .taken) (at-wide2 .wide2 .ensures ∙ at-operand .operand .ensures)))
+          (listed-false (at-loop2 .loop2 .marks) (at-wide2 .wide2 .result) (w .0 .taken)) (at-if1 .if1 .left),
+      (omega arith, simp length-set (omega arith)),
+    ))
+    (λ w. rw (w .1, w .2, w .3) (
+      taking-keep _ _ _ _ _ _ _ _ _ (at-loop2 .loop2 .inv .0)
+          (subst (λ (x : ℕ). listed (at-loop2 .loop2 .marks) x ≡ true)
+          (at-wide2 .wide2 .ensures ∙ at-operand .operand .ensures ∙ ap (λ (r : Row). operandOf r (at-loop2 .loop2 .j)) (at-row-at .row-at .ensures))
+          (listed-true (at-loop2 .loop2 .marks) (at-wide2 .wide2 .result) (w .0 .left)))
+          (λ e. at-if1 .if1 .left ((at-wide2 .wide2 .ensures ∙ at-operand .operand .ensures ∙ ap (λ (r : Row). operandOf r (at-loop2 .loop2 .j)) (at-row-at .row-at .ensures))
+          ∙ e)),
+      (omega arith, omega arith),
+    ))
+    (c .if2 .came)
+
+add-head : tie.Need-add-head Inv-loop2 μ-loop2 Inv-loop μ-loop
+add-head c = omega arith
+
+loop-less : tie.Need-loop-less Inv-loop2 μ-loop2 Inv-loop μ-loop
+loop-less c = omega arith
+
+loop-again : tie.Need-loop-again Inv-loop2 μ-loop2 Inv-loop μ-loop
+loop-again c =
+    let at-arity = c .before .before in
+    let at-row-at = at-arity .before in (
+      taking-done _ _ _ _ _ _ _ _ _ (c .before .loop2 .inv .0) (let q = row-arity _ _ _ (at-row-at .row-at .ensures) _ (at-arity .arity .ensures) in
+          omega arith),
+      omega arith,
+    )
+
+same-length-3 : tie.Need-same-length-3 Inv-loop2 μ-loop2 Inv-loop μ-loop
+same-length-3 c = omega arith
+
+same-length-4 : tie.Need-same-length-4 Inv-loop2 μ-loop2 Inv-loop μ-loop
+same-length-4 c =
+    let at-start = c .before .before .before .before .before .before .before .before .before in
+    omega (arith, length-set (at-start .args .queue .now) 0 (at-start .args .start))
+
+returns-2 : tie.Need-returns-2 Inv-loop2 μ-loop2 Inv-loop μ-loop
+returns-2 c = (λ t. absurd (true≢false (sym t)), λ t dep. reaching-end _ _ _ _ _ _ _ (c .before .loop .inv .0) (omega arith) dep)
+
+pub depends-on-itself-spec : {M : Type 1} → statement M
+depends-on-itself-spec =
+    tie.close
+    (tie.spec
+    Inv-loop2
+    μ-loop2
+    Inv-loop
+    μ-loop
+    clear-requires
+    mul-marks
+    slice-write-marks
+    cast-queue
+    slice-write-queue
+    loop-holds
+    mul-wide
+    slice-read-wide
+    wide-requires
+    row-at-requires
+    arity-requires
+    loop2-holds
+    operand-requires
+    wide-requires-2
+    same-length
+    same-length-2
+    returns
+    mul-if2
+    slice-read-if2
+    mul-marks-2
+    slice-write-marks-2
+    mul-queue
+    slice-write-queue-2
+    add-tail
+    add-j
+    loop2-less
+    loop2-again
+    add-head
+    loop-less
+    loop-again
+    same-length-3
+    same-length-4
+    returns-2)

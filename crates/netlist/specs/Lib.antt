@@ -1,0 +1,11 @@
+-- Rows, their order, running them, and the check of a list (document 01, 'The list and a step').
+pub mod Graph  -- Graph, Reads, DependsOn, Closed, LowestLoop: what is read, with no word on what it computes
+pub mod Marks  -- listed, marksAfter: which wires are listed
+pub mod Order  -- ready, next, order: the lowest wire that is not listed and waits for none
+pub mod Equations  -- Solves, Local, runOrder: what the wires' values have to meet
+pub mod Kinds  -- the seven kinds of rows
+pub mod Rows  -- rowAt, operandOf, arityOf, graphOf, rowsOf: a row as a record, and a list as its rows
+pub mod Running  -- rowValue, runFrom, RowFits: what rows give
+pub mod Scheduling  -- Answers, Queued: what scheduling answers; listOf: the list of the rows in order
+pub mod Loops  -- loopAt, loopWire: ground 7's place, computed
+pub mod Checking  -- RowGood, FirstBad and the test that computes them: ground 12

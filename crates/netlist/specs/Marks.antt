@@ -1,0 +1,14 @@
+-- Marks: a number for each index, not 0 where it is marked.
+use mathlib.Core.Bool.{Bool, not}
+use mathlib.Core.List.{List, [], _∷_}
+use Prim.Native.Nat.{ℕ}
+use lib.Dec.{eqb}
+use lib.ListN.{getD, set}
+
+abbrev pub listed : List ℕ → ℕ → Bool
+listed marks w = not (eqb (getD marks w 0) 0)
+
+-- the marks once the wires of a list are marked too
+abbrev pub marksAfter : List ℕ → List ℕ → List ℕ
+marksAfter marks [] = marks
+marksAfter marks (w ∷ ws) = marksAfter (set marks w 1) ws

@@ -1,0 +1,68 @@
+// Combinational loops (the papers' loop): which wire depends on itself.
+ghost use mathlib.Core.Path.{_≡_};
+ghost use Prim.Native.Nat.{_+_, _*_, _^_, _<_, _≤_};
+ghost use mathlib.Core.Bool.{true, false};
+ghost use lib.ListN.{length};
+ghost use Rattle.netlist.specs.Graph.{Closed, DependsOn, LowestLoop};
+ghost use Rattle.netlist.specs.Rows.{rowLength, graphOf};
+use crate::row::arity;
+use crate::row::operand;
+use crate::row::row_at;
+use crate::row::wide;
+
+// Whether a wire depends on itself: follows the readings from it on, each wire once, until it is met again.
+pub fn depends_on_itself(rows: &[u16], start: usize, marks: &mut [u16], queue: &mut [u16]) -> bool
+    requires { ⌜ length (now rows) ≡ rowLength * length (now marks) ⌝ }
+    requires { ⌜ Closed (graphOf (now rows)) (length (now marks)) ⌝ }
+    requires { ⌜ (length (now marks) ≤ length (now queue)) × (length (now marks) ≤ 2 ^ 16) ⌝ }
+    requires { ⌜ start < length (now marks) ⌝ }
+    ensures yes { λ r. ⌜ (r ≡ true → DependsOn (graphOf (now (rows .entry))) start start) ⌝ }
+    ensures no { λ r. ⌜ (r ≡ false → DependsOn (graphOf (now (rows .entry))) start start → ⊥) ⌝ }
+{
+    let n = marks.len();
+    lists::clear(marks);
+    marks[start] = 1;
+    queue[0] = start as u16;
+    let mut head = 0;
+    let mut tail = 1;
+    while head < tail {
+        let v = wide(queue[head]);
+        let row = row_at(rows, v);
+        let count = arity(row);
+        let mut j = 0;
+        while j < count {
+            let x = operand(row, j);
+            let d = wide(x);
+            if d == start {
+                return true;
+            }
+            if marks[d] == 0 {
+                marks[d] = 1;
+                queue[tail] = x;
+                tail += 1;
+            }
+            j += 1;
+        }
+        head += 1;
+    }
+    false
+}
+
+// The lowest wire that depends on itself, or the number of indices.
+// Rules out: a wire that only hangs on a loop; a loop's highest wire.
+pub fn lowest_loop(rows: &[u16], marks: &mut [u16], queue: &mut [u16]) -> usize
+    requires { ⌜ length (now rows) ≡ rowLength * length (now marks) ⌝ }
+    requires { ⌜ Closed (graphOf (now rows)) (length (now marks)) ⌝ }
+    requires { ⌜ (length (now marks) ≤ length (now queue)) × (length (now marks) ≤ 2 ^ 16) ⌝ }
+    ensures { λ r. ⌜ LowestLoop (graphOf (now (rows .entry))) (length (now (marks .entry))) r ⌝ }
+{
+    let n = marks.len();
+    let mut w = 0;
+    while w < n {
+        if depends_on_itself(rows, w, marks, queue) {
+            return w;
+        }
+        w += 1;
+    }
+    w
+}

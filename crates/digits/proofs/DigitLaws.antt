@@ -1,5 +1,5 @@
 -- Digits of a number in two parts, of one with a digit written, and of one made of digits.
--- Main laws: `digit-set-same`, `digit-set-other`; `digit-from-digits`, `from-digits-all`.
+-- Main laws: `digit-set-same`, `digit-set-other`; `digit-from-digits`, `from-digits-all`, `digits-same`.
 use mathlib.Core.Path.{_≡_, refl, sym, ap, _∙_, subst}
 use mathlib.Core.Logic.{⊎-elim, _≢_}
 use Prim.Native.Nat.{ℕ, zero, suc, _+_, _-_, _*_, _/_, _%_, _^_, _<_, _≤_}
@@ -89,3 +89,7 @@ from-digits-mod v (suc n) = let r : fromDigits (digit v) n ≡ v % 2 ^ n = from-
 -- all the digits are the number
 pub from-digits-all : (v n : ℕ) → v < 2 ^ n → fromDigits (digit v) n ≡ v
 from-digits-all v n h = from-digits-mod v n ∙ mod-eq-of-lt h
+
+-- numbers with the same digits are the same
+pub digits-same : (n a b : ℕ) → a < 2 ^ n → b < 2 ^ n → ((k : ℕ) → k < n → digit a k ≡ digit b k) → a ≡ b
+digits-same n a b ha hb h = sym (from-digits-all a n ha) ∙ from-digits-ext (digit a) (digit b) n h ∙ from-digits-all b n hb

@@ -1,0 +1,138 @@
+-- The bits of a list of numbers: read, written, and two lists that agree at each bit; first over the number u of bits in a lent number,
+-- then for the form that a tile's bits have. Main laws: `bit-set-same`, `bit-set-other`, `bits-ext`; `bit-count-step`. Assumes nothing.
+use mathlib.Core.Path.{_≡_, sym, ap, ap₂, _∙_, subst}
+use mathlib.Core.Logic.{⊎-elim, _≢_}
+use mathlib.Core.List.{List}
+use Prim.Native.Nat.{ℕ, _+_, _*_, _/_, _%_, _^_, _<_, _≤_}
+use native.Mathlib.Omega.{arith}
+use native.Mathlib.Nat.{div-add-mod', mod-lt}
+use lib.Arith.{digits-div, digits-mod, digits-lt}
+use lib.Count.{ones}
+use lib.Dec.{eqb}
+use lib.ListN.{length, getD, length-set}
+use lib.Seq.{getD-set-same, getD-set-other, set-out, ext-getD}
+use Rattle.lists.specs.Search.{count}
+use Rattle.lists.proofs.CaseLaws.{lt-or-le, eq-or-ne}
+use Rattle.lists.proofs.CountLaws.{count-ext, count-add}
+use Rattle.digits.specs.Digits.{digit, isSet, setDigit, fromDigits}
+use Rattle.digits.proofs.DigitLaws.{digit-set-same, digit-set-other, set-digit-lt, from-digits-ext, from-digits-all}
+use Rattle.digits.proofs.OnesLaws.{ones-count}
+use Rattle.codec.specs.Bits.{unit, tileBytes, bitIn, bitAt, setBitIn, setBit, Bytes, isSetAt}
+
+-- ---- u bits in a number
+
+module _ (u : ℕ) (some : 0 < u) where
+  same-place : (p q : ℕ) → q / u ≡ p / u → q % u ≡ p % u → q ≡ p
+  same-place p q a b = sym (div-add-mod' q u) ∙ ap₂ (λ (x y : ℕ). x * u + y) a b ∙ div-add-mod' p u
+
+  bit-in-lt : (bits : List ℕ) (p : ℕ) → bitIn u bits p < 2
+  unfolding bitIn
+  bit-in-lt bits p = omega arith
+
+  -- bit k of number i
+  bit-in-number : (bits : List ℕ) (i k : ℕ) → k < u → bitIn u bits (i * u + k) ≡ digit (getD bits i 0) k
+  unfolding bitIn
+  bit-in-number bits i k l = rw (digits-div i l, digits-mod i l)
+
+  module _ (bits : List ℕ) (p v : ℕ) (hv : v < 2) where
+    -- the number that v is written to
+    abbrev new : ℕ
+    new = setDigit (getD bits (p / u) 0) (p % u) v
+
+    in-set-same : p / u < length bits → bitIn u (setBitIn u bits p v) p ≡ v
+    unfolding bitIn setBitIn
+    in-set-same h = rw (getD-set-same bits (p / u) new 0 h) (digit-set-same (getD bits (p / u) 0) (p % u) v hv)
+
+    in-set-other : (q : ℕ) → q ≢ p → bitIn u (setBitIn u bits p v) q ≡ bitIn u bits q
+    unfolding bitIn setBitIn
+    in-set-other q ne = ⊎-elim here away (eq-or-ne (q / u) (p / u))
+      where
+        away : q / u ≢ p / u → bitIn u (setBitIn u bits p v) q ≡ bitIn u bits q
+        away n = ap (λ (x : ℕ). digit x (q % u)) (getD-set-other bits (p / u) (q / u) new 0 n)
+
+        here : q / u ≡ p / u → bitIn u (setBitIn u bits p v) q ≡ bitIn u bits q
+        here e = ⊎-elim inside outside (lt-or-le (p / u) (length bits))
+          where
+            inside : p / u < length bits → bitIn u (setBitIn u bits p v) q ≡ bitIn u bits q
+            inside h =
+                rw (e, getD-set-same bits (p / u) new 0 h)
+                (digit-set-other (getD bits (p / u) 0) (p % u) v hv (q % u) (λ d. ne (same-place p q e d)))
+
+            outside : length bits ≤ p / u → bitIn u (setBitIn u bits p v) q ≡ bitIn u bits q
+            outside h = ap (λ (l : List ℕ). bitIn u l q) (set-out bits (p / u) new h)
+
+    in-set-fits : ((i : ℕ) → getD bits i 0 < 2 ^ u) → (i : ℕ) → getD (setBitIn u bits p v) i 0 < 2 ^ u
+    unfolding setBitIn
+    in-set-fits b i = ⊎-elim here away (eq-or-ne i (p / u))
+      where
+        away : i ≢ p / u → getD (setBitIn u bits p v) i 0 < 2 ^ u
+        away n = subst (λ (x : ℕ). x < 2 ^ u) (sym (getD-set-other bits (p / u) i new 0 n)) (b i)
+
+        here : i ≡ p / u → getD (setBitIn u bits p v) i 0 < 2 ^ u
+        here e = ⊎-elim inside outside (lt-or-le (p / u) (length bits))
+          where
+            inside : p / u < length bits → getD (setBitIn u bits p v) i 0 < 2 ^ u
+            inside h =
+                rw (e, getD-set-same bits (p / u) new 0 h)
+                (set-digit-lt (getD bits (p / u) 0) (p % u) v hv u (mod-lt p some) (b (p / u)))
+
+            outside : length bits ≤ p / u → getD (setBitIn u bits p v) i 0 < 2 ^ u
+            outside h = subst (λ (l : List ℕ). getD l i 0 < 2 ^ u) (sym (set-out bits (p / u) new h)) (b i)
+
+  -- a number is its u bits
+  number-is : (bits : List ℕ) (i : ℕ) → getD bits i 0 < 2 ^ u → fromDigits (λ (k : ℕ). bitIn u bits (i * u + k)) u ≡ getD bits i 0
+  number-is bits i h =
+      from-digits-ext (λ (k : ℕ). bitIn u bits (i * u + k)) (digit (getD bits i 0)) u (bit-in-number bits i)
+      ∙ from-digits-all (getD bits i 0) u h
+
+  bits-in-ext : (xs ys : List ℕ) → length xs ≡ length ys → ((i : ℕ) → getD xs i 0 < 2 ^ u) → ((i : ℕ) → getD ys i 0 < 2 ^ u)
+      → ((p : ℕ) → p < length xs * u → bitIn u xs p ≡ bitIn u ys p) → xs ≡ ys
+  bits-in-ext xs ys n bx by h =
+      ext-getD 0 xs ys n
+      (λ i l. sym (number-is xs i (bx i))
+      ∙ from-digits-ext (λ (k : ℕ). bitIn u xs (i * u + k)) (λ (k : ℕ). bitIn u ys (i * u + k)) u (λ k m. h (i * u + k) (digits-lt l m))
+      ∙ number-is ys i (by i))
+
+  -- one number more: its ones more
+  ones-in-step : (bits : List ℕ) (i : ℕ) → getD bits i 0 < 2 ^ u
+      → count (λ (p : ℕ). eqb (bitIn u bits p) 1) (i * u + u) ≡ count (λ (p : ℕ). eqb (bitIn u bits p) 1) (i * u) + ones (getD bits i 0)
+  ones-in-step bits i h =
+      count-add (λ (p : ℕ). eqb (bitIn u bits p) 1) (i * u) u
+      ∙ ap (λ (x : ℕ). count (λ (p : ℕ). eqb (bitIn u bits p) 1) (i * u) + x)
+      (count-ext (λ (j : ℕ). eqb (bitIn u bits (i * u + j)) 1) (isSet (getD bits i 0)) u (λ k l. ap (λ (x : ℕ). eqb x 1) (bit-in-number bits i k l))
+      ∙ sym (ones-count u (getD bits i 0) h))
+
+-- ---- the bits of a tile
+
+pub bit-lt : (bits : List ℕ) (p : ℕ) → bitAt bits p < 2
+bit-lt bits p = bit-in-lt unit (omega arith) bits p
+
+-- a position of the tile is in one of its lent numbers
+pub position-within : {p n : ℕ} → p < 864 → n ≡ tileBytes → p / unit < n
+position-within h e = omega arith
+
+pub set-bit-length : (bits : List ℕ) (p v : ℕ) → length (setBit bits p v) ≡ length bits
+unfolding setBitIn
+set-bit-length bits p v = simp length-set
+
+module _ (bits : List ℕ) (p v : ℕ) (hv : v < 2) where
+  pub bit-set-same : p / unit < length bits → bitAt (setBit bits p v) p ≡ v
+  bit-set-same h = in-set-same unit (omega arith) bits p v hv h
+
+  pub bit-set-other : (q : ℕ) → q ≢ p → bitAt (setBit bits p v) q ≡ bitAt bits q
+  bit-set-other q n = in-set-other unit (omega arith) bits p v hv q n
+
+  pub set-bit-bytes : Bytes bits → Bytes (setBit bits p v)
+  set-bit-bytes b = in-set-fits unit (omega arith) bits p v hv b
+
+-- two lists that agree at each bit are equal
+pub bits-ext : (xs ys : List ℕ) → length xs ≡ length ys → Bytes xs → Bytes ys → ((p : ℕ) → p < length xs * unit → bitAt xs p ≡ bitAt ys p) → xs ≡ ys
+bits-ext xs ys n bx by h = bits-in-ext unit (omega arith) xs ys n bx by h
+
+-- one byte more: its ones more
+pub bit-count-step : (bits : List ℕ) (i : ℕ) → getD bits i 0 < 2 ^ unit
+    → count (isSetAt bits) (unit * (i + 1)) ≡ count (isSetAt bits) (unit * i) + ones (getD bits i 0)
+bit-count-step bits i h =
+    ap (count (isSetAt bits)) (let e : unit * (i + 1) ≡ i * unit + unit = omega arith in e)
+    ∙ ones-in-step unit (omega arith) bits i h
+    ∙ ap (λ (x : ℕ). count (isSetAt bits) x + ones (getD bits i 0)) (let e : i * unit ≡ unit * i = omega arith in e)

@@ -1,0 +1,140 @@
+-- The eight cells by value. Main laws: `value-lt`; `cell-back`: the round trip of one cell; `put-cells-table`, `-flags`, `-kept`: settings
+-- that cells were put into; `table-digit`, `flags-digit`: their digits are the tile's bits; `same-cell-table`, `-flags`: how two compare. Assumes nothing.
+use mathlib.Core.Path.{_≡_, refl, sym, ap, _∙_}
+use mathlib.Core.Logic.{⊎-elim, _≢_}
+use mathlib.Core.Bool.{false}
+use mathlib.Core.List.{List}
+use Prim.Native.Nat.{ℕ, zero, suc, _+_, _*_, _/_, _%_, _^_, _<_, _≤_}
+use native.Mathlib.Omega.{arith}
+use native.Mathlib.Numerals.{add-one}
+use borrow.Author.Tests.{eq-eqb, ne-eqb}
+use lib.Dec.{eqb}
+use lib.ListN.{length, getD, set, length-set}
+use lib.Seq.{getD-set-same, getD-set-other}
+use Rattle.lists.proofs.CaseLaws.{lt-or-le}
+use Rattle.lists.proofs.TableLaws.{tabulate-zero}
+use lib.Pow.{shr-shr}
+use Rattle.digits.specs.Digits.{digit}
+use Rattle.digits.proofs.DigitLaws.{from-digits-lt, digit-from-digits, digit-mod}
+use Rattle.cell.specs.declared.logic.Cell.{Cell}
+use Rattle.cell.specs.Settings.{flagsOf}
+use Rattle.cell.proofs.SettingsLaws.{flags-of-cell}
+use Rattle.routing.specs.TileKind.{bitsPerCell}
+use Rattle.routing.specs.LogicTile.{logicTile, lcBits, lcPosition, cellPosition}
+use Rattle.routing.proofs.LogicTileLaws.{cell-position-lt, cell-position-once}
+use Rattle.codec.specs.Bits.{bitAt, tileBytes, setBits}
+use Rattle.codec.specs.Settings.{cellsFrom, settingsLength}
+use Rattle.codec.specs.Cells.{cellBitIn, valueIn, cellIn, cellsIn, emptyCell, writeCells, putCells, sameCell}
+use Rattle.codec.proofs.BitLaws.{bit-lt, position-within}
+use Rattle.codec.proofs.SetBitsLaws.{set-bits-back}
+
+pub value-lt : (bits : List ℕ) (i : ℕ) → valueIn bits i < 2 ^ bitsPerCell
+value-lt bits i = from-digits-lt (cellBitIn bits i) (λ j. bit-lt bits _) bitsPerCell
+
+-- the digits of a cell's table and flags are its bits
+module _ (bits : List ℕ) (i j : ℕ) where
+  value-digit : j < bitsPerCell → digit (valueIn bits i) j ≡ bitAt bits (lcPosition i (getD lcBits j 0))
+  unfolding cellPosition
+  value-digit h = digit-from-digits (cellBitIn bits i) (λ k. bit-lt bits _) bitsPerCell j h
+
+  pub table-digit : j < 16 → digit (valueIn bits i % 2 ^ 16) j ≡ bitAt bits (lcPosition i (getD lcBits j 0))
+  table-digit h = digit-mod (valueIn bits i) 16 j h ∙ value-digit (omega arith)
+
+module _ (bits : List ℕ) (i j : ℕ) where
+  pub flags-digit : j < 4 → digit (valueIn bits i / 2 ^ 16) j ≡ bitAt bits (lcPosition i (getD lcBits (16 + j) 0))
+  flags-digit h = ap (λ (x : ℕ). x % 2) (shr-shr (valueIn bits i) 16 j) ∙ value-digit bits i (16 + j) (omega arith)
+
+-- the round trip of one cell
+pub cell-back : (bits : List ℕ) (i v : ℕ) → length bits ≡ tileBytes → i < 8 → v < 2 ^ bitsPerCell → valueIn (setBits bits (cellPosition i) v bitsPerCell) i ≡ v
+cell-back bits i v n h hv =
+    set-bits-back bits (cellPosition i) v bitsPerCell hv (λ j l a b e. cell-position-once i j i l a b e .1)
+    (λ j a. position-within (cell-position-lt i j h a) n)
+
+-- the cells that bits hold
+module _ (bits : List ℕ) (i : ℕ) (h : i < 8) where
+  pub cells-in-table : getD (cellsIn bits) i emptyCell .table ≡ valueIn bits i % 2 ^ 16
+  unfolding cellsIn
+  cells-in-table = ap (λ (c : Cell). c .table) (tabulate-zero (cellIn bits) emptyCell 8 i h)
+
+  pub cells-in-flags : flagsOf (getD (cellsIn bits) i emptyCell) ≡ valueIn bits i / 2 ^ 16
+  unfolding cellsIn
+  cells-in-flags =
+      ap flagsOf (tabulate-zero (cellIn bits) emptyCell 8 i h)
+      ∙ flags-of-cell (valueIn bits i % 2 ^ 16) (valueIn bits i / 2 ^ 16) (omega (arith, value-lt bits i))
+
+-- ---- cells put in, one after another
+
+-- a turn of the loops; `flags` is what the code computed
+module _ (cells : List Cell) (i flags : ℕ) (f : flags ≡ flagsOf (getD cells i emptyCell)) where
+  pub write-cells-turn : (bits now : List ℕ) → now ≡ writeCells bits cells i
+      → setBits now (cellPosition i) (getD cells i emptyCell .table + 65536 * flags) bitsPerCell ≡ writeCells bits cells (i + 1)
+  unfolding writeCells
+  write-cells-turn bits now e = rw (e, f, add-one i)
+
+  pub put-cells-turn : (settings now : List ℕ) → now ≡ putCells settings cells i
+      → set (set now (cellsFrom logicTile + 2 * i) (getD cells i emptyCell .table)) (cellsFrom logicTile + 2 * i + 1) flags ≡ putCells settings cells (i + 1)
+  unfolding putCells
+  put-cells-turn settings now e = rw (e, f, add-one i)
+
+module _ (settings : List ℕ) (cells : List Cell) where
+  pub put-cells-length : (n : ℕ) → length (putCells settings cells n) ≡ length settings
+  unfolding putCells
+  put-cells-length zero = refl
+  put-cells-length (suc n) = simp length-set (put-cells-length n)
+
+  -- the settings below the cells
+  pub put-cells-kept : (n k : ℕ) → k < cellsFrom logicTile → getD (putCells settings cells n) k 0 ≡ getD settings k 0
+  unfolding putCells
+  put-cells-kept zero k h = refl
+  put-cells-kept (suc n) k h =
+      getD-set-other (set (putCells settings cells n) (cellsFrom logicTile + 2 * n) (getD cells n emptyCell .table)) (cellsFrom logicTile + 2 * n + 1) k
+      (flagsOf (getD cells n emptyCell)) 0 (λ z. omega arith)
+      ∙ getD-set-other (putCells settings cells n) (cellsFrom logicTile + 2 * n) k (getD cells n emptyCell .table) 0 (λ z. omega arith)
+      ∙ put-cells-kept n k h
+
+  module _ (long : length settings ≡ settingsLength logicTile) where
+    -- one turn: the table and the flags of cell n
+    put-at : (n i : ℕ) (x : List ℕ) (t f : ℕ) → length x ≡ settingsLength logicTile → n < 8 → i ≡ n
+        → (getD (set (set x (cellsFrom logicTile + 2 * n) t) (cellsFrom logicTile + 2 * n + 1) f) (cellsFrom logicTile + 2 * i) 0 ≡ t)
+        × (getD (set (set x (cellsFrom logicTile + 2 * n) t) (cellsFrom logicTile + 2 * n + 1) f) (cellsFrom logicTile + 2 * i + 1) 0 ≡ f)
+    put-at n i x t f e h q =
+        rw q (
+          getD-set-other (set x (cellsFrom logicTile + 2 * n) t) (cellsFrom logicTile + 2 * n + 1) (cellsFrom logicTile + 2 * n) f 0 (λ z. omega arith)
+              ∙ getD-set-same x (cellsFrom logicTile + 2 * n) t 0 (omega arith),
+          getD-set-same (set x (cellsFrom logicTile + 2 * n) t) (cellsFrom logicTile + 2 * n + 1) f 0 (simp length-set (omega arith)),
+        )
+
+    put-away : (n m : ℕ) (x : List ℕ) (t f : ℕ) → m < cellsFrom logicTile + 2 * n
+        → getD (set (set x (cellsFrom logicTile + 2 * n) t) (cellsFrom logicTile + 2 * n + 1) f) m 0 ≡ getD x m 0
+    put-away n m x t f h =
+        getD-set-other (set x (cellsFrom logicTile + 2 * n) t) (cellsFrom logicTile + 2 * n + 1) m f 0 (λ z. omega arith)
+        ∙ getD-set-other x (cellsFrom logicTile + 2 * n) m t 0 (λ z. omega arith)
+
+    pub put-cells-table : (n i : ℕ) → n ≤ 8 → i < n → getD (putCells settings cells n) (cellsFrom logicTile + 2 * i) 0 ≡ getD cells i emptyCell .table
+    unfolding putCells
+    put-cells-table zero i h l = absurd (omega arith)
+    put-cells-table (suc n) i h l =
+        ⊎-elim
+        (λ (a : i < n). put-away n (cellsFrom logicTile + 2 * i) (putCells settings cells n) _ _ (omega arith) ∙ put-cells-table n i (omega arith) a)
+        (λ (a : n ≤ i). let q : i ≡ n = omega arith in
+        put-at n i (putCells settings cells n) _ _ (put-cells-length n ∙ long) (omega arith) q .0 ∙ ap (λ (k : ℕ). getD cells k emptyCell .table) (sym q))
+        (lt-or-le i n)
+
+    pub put-cells-flags : (n i : ℕ) → n ≤ 8 → i < n → getD (putCells settings cells n) (cellsFrom logicTile + 2 * i + 1) 0 ≡ flagsOf (getD cells i emptyCell)
+    unfolding putCells
+    put-cells-flags zero i h l = absurd (omega arith)
+    put-cells-flags (suc n) i h l =
+        ⊎-elim
+        (λ (a : i < n). put-away n (cellsFrom logicTile + 2 * i + 1) (putCells settings cells n) _ _ (omega arith) ∙ put-cells-flags n i (omega arith) a)
+        (λ (a : n ≤ i). let q : i ≡ n = omega arith in
+        put-at n i (putCells settings cells n) _ _ (put-cells-length n ∙ long) (omega arith) q .1 ∙ ap (λ (k : ℕ). flagsOf (getD cells k emptyCell)) (sym q))
+        (lt-or-le i n)
+
+-- ---- two cells compared
+
+module _ (a b : Cell) where
+  pub same-cell-table : a .table ≢ b .table → sameCell a b ≡ false
+  same-cell-table n = rw (ne-eqb (a .table) (b .table) n)
+
+  pub same-cell-flags : a .table ≡ b .table → sameCell a b ≡ eqb (flagsOf a) (flagsOf b)
+  same-cell-flags e = rw (eq-eqb (a .table) (b .table) e)

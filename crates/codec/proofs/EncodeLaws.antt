@@ -1,0 +1,83 @@
+-- The bits of a tile whose slots hold values. Main laws: `encode-slot`: written, then read; `encode-is`: read, then written. Assumes nothing.
+use mathlib.Core.Path.{_≡_, sym, ap, _∙_}
+use mathlib.Core.Logic.{⊎-elim}
+use mathlib.Core.Bool.{Bool, true, false, cond}
+use mathlib.Core.List.{List}
+use Prim.Native.Nat.{ℕ, _+_, _*_, _/_, _%_, _^_, _<_, _≤_}
+use native.Mathlib.Omega.{arith}
+use borrow.Author.Tests.{lt-ltb, le-ltb}
+use lib.Dec.{ltb}
+use lib.ListN.{length, getD}
+use Rattle.lists.specs.Tables.{tabulate}
+use Rattle.lists.proofs.CaseLaws.{lt-or-le}
+use Rattle.lists.proofs.SearchLaws.{first-true}
+use Rattle.lists.proofs.TableLaws.{tabulate-length, tabulate-zero, tabulate-past}
+use Rattle.digits.specs.Digits.{digit}
+use Rattle.digits.proofs.DigitLaws.{from-digits-lt, digit-from-digits}
+use Rattle.routing.specs.Slots.{Slots, claims, owner, Once}
+use Rattle.routing.proofs.OwnerLaws.{claims-at, claims-used, owner-is}
+use Rattle.codec.specs.Bits.{unit, tileBytes, bitIn, bitAt, Bytes}
+use Rattle.codec.specs.Encode.{ownedBit, ownedByte, bitsOf}
+use Rattle.codec.proofs.BitLaws.{bits-ext}
+
+module _ (S : Slots) (value : ℕ → ℕ) (two : (s : ℕ) → value s < 2) where
+  owned-bit-lt : (p : ℕ) → ownedBit S value p < 2
+  owned-bit-lt p = go (ltb (owner S p) (S .count))
+    where
+      go : (b : Bool) → cond b (value (owner S p)) 0 < 2
+      go true = two (owner S p)
+      go false = omega arith
+
+  pub encode-length : length (bitsOf S value) ≡ tileBytes
+  unfolding bitsOf
+  encode-length = tabulate-length (ownedByte S value) 0 tileBytes
+
+  -- the bits of the tile are those that the owners say
+  pub encode-bit : (p : ℕ) → p < 864 → bitAt (bitsOf S value) p ≡ ownedBit S value p
+  unfolding bitIn bitsOf
+  encode-bit p h =
+      ap (λ (x : ℕ). digit x (p % unit)) (tabulate-zero (ownedByte S value) 0 tileBytes (p / unit) (omega arith))
+      ∙ digit-from-digits (λ (j : ℕ). ownedBit S value (unit * (p / unit) + j)) (λ j. owned-bit-lt (unit * (p / unit) + j)) unit (p % unit) (omega arith)
+      ∙ ap (ownedBit S value) (let e : unit * (p / unit) + p % unit ≡ p = omega arith in e)
+
+  pub encode-bytes : Bytes (bitsOf S value)
+  unfolding bitsOf
+  encode-bytes i = ⊎-elim inside outside (lt-or-le i tileBytes)
+    where
+      inside : i < tileBytes → getD (tabulate (ownedByte S value) 0 tileBytes) i 0 < 2 ^ unit
+      inside h =
+          rw (tabulate-zero (ownedByte S value) 0 tileBytes i h)
+          (from-digits-lt (λ (j : ℕ). ownedBit S value (unit * i + j)) (λ j. owned-bit-lt (unit * i + j)) unit)
+
+      outside : tileBytes ≤ i → getD (tabulate (ownedByte S value) 0 tileBytes) i 0 < 2 ^ unit
+      outside h = rw (tabulate-past (ownedByte S value) 0 0 tileBytes i h) (omega arith)
+
+  -- a position that nothing claims
+  pub encode-unclaimed : (p : ℕ) → p < 864 → S .count ≤ owner S p → bitAt (bitsOf S value) p ≡ 0
+  encode-unclaimed p h l = encode-bit p h ∙ rw (le-ltb (owner S p) (S .count) l)
+
+  -- written, then read: each slot's bit is what was to be put there
+  pub encode-slot : Once S → (s : ℕ) → s < S .count → S .used s ≡ true → S .at s < 864 → bitAt (bitsOf S value) (S .at s) ≡ value s
+  encode-slot once s h u l =
+      encode-bit (S .at s) l
+      ∙ (let e : owner S (S .at s) ≡ s = owner-is S once s h u in rw (e, lt-ltb s (S .count) h))
+
+  -- read, then written: bits that are 0 where nothing claims them, and whose slots hold the values, are those bits
+  pub encode-is : (bits : List ℕ) → length bits ≡ tileBytes → Bytes bits
+      → ((s : ℕ) → s < S .count → S .used s ≡ true → bitAt bits (S .at s) ≡ value s)
+      → ((p : ℕ) → p < 864 → S .count ≤ owner S p → bitAt bits p ≡ 0)
+      → bits ≡ bitsOf S value
+  encode-is bits n by held stray =
+      bits-ext bits (bitsOf S value) (n ∙ sym encode-length) by encode-bytes (λ p h. same p (omega arith) ∙ sym (encode-bit p (omega arith)))
+    where
+      same : (p : ℕ) → p < 864 → bitAt bits p ≡ ownedBit S value p
+      same p h = ⊎-elim owned free (lt-or-le (owner S p) (S .count))
+        where
+          owned : owner S p < S .count → bitAt bits p ≡ ownedBit S value p
+          owned l =
+              let c : claims S p (owner S p) ≡ true = first-true (claims S p) 0 (S .count) (omega arith) in
+              ap (bitAt bits) (sym (claims-at S p (owner S p) c)) ∙ held (owner S p) l (claims-used S p (owner S p) c)
+              ∙ rw (lt-ltb (owner S p) (S .count) l)
+
+          free : S .count ≤ owner S p → bitAt bits p ≡ ownedBit S value p
+          free l = stray p h l ∙ rw (le-ltb (owner S p) (S .count) l)

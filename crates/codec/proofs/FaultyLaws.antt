@@ -1,0 +1,144 @@
+-- Ground 4 for one tile is what the paper says: the computed test of a position, and of a tile, against the sentences of specs/Reading.antt.
+-- Main laws: `fault-exact`; `tile-fault-exact`, `tile-fault-lowest`; `faulty-lt`. Assumes nothing.
+use mathlib.Core.Path.{_≡_, sym, ap, _∙_, subst}
+use mathlib.Core.Logic.{_≢_, _↔_, ⊎-elim}
+use mathlib.Core.Bool.{true}
+use mathlib.Core.List.{List}
+use Prim.Native.Nat.{ℕ, _+_, _-_, _*_, _/_, _%_, _<_, _≤_}
+use native.Mathlib.Omega.{arith}
+use borrow.Author.Tests.{eq-eqb, lt-ltb, eqb-true}
+use Rattle.lists.proofs.CaseLaws.{cases, clash, lt-or-le, eq-or-ne, and-left, and-right, and-true}
+use Rattle.lists.proofs.SearchLaws.{first-le, first-true, first-before, first-none}
+use Rattle.routing.specs.LogicTile.{logicTile, carryInSet}
+use Rattle.routing.specs.Table.{maxPositions, fieldAt, groupCount, widthOf, positionAt}
+use Rattle.routing.specs.Rules.{TableRules}
+use Rattle.routing.specs.Slots.{claims, owner, Once, slotsOf, slotAt, fieldSlots, groupSlots, groupSlot, slotCount}
+use Rattle.routing.proofs.OwnerLaws.{claims-used, claims-at, claims-it, claims-not, owner-is}
+use Rattle.routing.proofs.SlotLaws.{slot-at-field, slot-used-field, slot-at-group, slot-used-group}
+use Rattle.routing.proofs.LogicTileLaws.{logic-tile-once}
+use Rattle.routing.proofs.TableOnceLaws.{table-once}
+use Rattle.routing.proofs.ClaimLaws.{claimed-exact}
+use Rattle.codec.specs.Bits.{isSetAt}
+use Rattle.codec.specs.Groups.{readGroup}
+use Rattle.codec.specs.Fault.{isUnlisted, carryPair, faultAt, tileFault}
+use Rattle.codec.specs.Reading.{Unclaimed, CarryPair, Faulty, unlisted, stray, carry-pair, Decodable}
+use Rattle.codec.proofs.FaultLaws.{used-group, fault-stray, fault-carry, fault-low, fault-inner, fault-group}
+use Rattle.codec.proofs.TileRunLaws.{field-position-lt, group-position-lt}
+use Rattle.codec.proofs.ListedLaws.{unlisted-exact}
+
+-- ---- who owns a position
+
+module _ (table : List ℕ) (T : TableRules logicTile table) where
+  pub unclaimed-owner : (p : ℕ) → Unclaimed table p → owner (slotsOf logicTile table) p ≡ slotCount logicTile
+  unclaimed-owner p n =
+      first-none (claims (slotsOf logicTile table) p) (slotCount logicTile)
+      (λ s h. claims-not (slotsOf logicTile table) p s (λ u e. n (claimed-exact logicTile table T p .1 (record { slot = s; within = h; used = u; at = e }))))
+
+  pub owner-unclaimed : (p : ℕ) → slotCount logicTile ≤ owner (slotsOf logicTile table) p → Unclaimed table p
+  owner-unclaimed p l claimed =
+      let S = claimed-exact logicTile table T p .0 claimed in
+      clash (claims-it (slotsOf logicTile table) p (S .slot) (S .used) (S .at))
+      (first-before (claims (slotsOf logicTile table) p) 0 (slotCount logicTile) (S .slot) (omega arith) (omega (arith, S .within)))
+
+  once : Once (slotsOf logicTile table)
+  once = table-once logicTile table logic-tile-once T
+
+  carry-owner : owner (slotsOf logicTile table) (fieldAt table carryInSet) ≡ fieldSlots logicTile + carryInSet
+  carry-owner =
+      subst (λ (p : ℕ). owner (slotsOf logicTile table) p ≡ fieldSlots logicTile + carryInSet) (slot-at-field logicTile table carryInSet (omega arith))
+      (owner-is (slotsOf logicTile table) once (fieldSlots logicTile + carryInSet) (omega arith) (slot-used-field logicTile table carryInSet (omega arith)))
+
+  group-owner : (g : ℕ) → g < groupCount logicTile table → owner (slotsOf logicTile table) (positionAt logicTile table g 0) ≡ groupSlot logicTile g + 0
+  group-owner g h =
+      subst (λ (p : ℕ). owner (slotsOf logicTile table) p ≡ groupSlot logicTile g + 0) (slot-at-group logicTile table g 0 (omega arith))
+      (owner-is (slotsOf logicTile table) once (groupSlot logicTile g + 0) (omega (arith, T .few-groups))
+      (slot-used-group logicTile table g 0 (omega arith) h ∙ lt-ltb 0 (widthOf logicTile table g) (T .groups g h .some-positions)))
+
+-- ---- a position
+
+module _ (table bits : List ℕ) (T : TableRules logicTile table) where
+  pub carry-exact : (carryPair table bits ≡ true) ↔ CarryPair table bits
+  unfolding carryPair
+  carry-exact = (
+    λ e. (eqb-true _ 1 (and-left (isSetAt bits (fieldAt table carryInSet)) _ e), eqb-true _ 1 (and-right (isSetAt bits (fieldAt table carryInSet)) _ e)),
+    λ q. and-true (eq-eqb _ 1 (q .0)) (eq-eqb _ 1 (q .1)),
+  )
+
+  fault-of : (p : ℕ) → Faulty table bits p → faultAt table bits p ≡ true
+  fault-of p (unlisted g h n m) =
+      fault-group table bits (positionAt logicTile table g 0) (maxPositions * g) (group-owner table T g h ∙ omega arith)
+      (omega (arith, T .few-groups)) (omega arith)
+      ∙ ap (λ (x : ℕ). isUnlisted (readGroup logicTile table bits x)) (let e : maxPositions * g / maxPositions ≡ g = omega arith in e)
+      ∙ unlisted-exact table bits g (T .groups g h) .1 (n, m)
+  fault-of p (stray q h n e) = fault-stray table bits p (unclaimed-owner table T p n) ∙ eq-eqb _ 1 e
+  fault-of p (carry-pair q) = fault-carry table bits (fieldAt table carryInSet) (carry-owner table T) ∙ carry-exact .1 q
+
+  of-fault : (p : ℕ) → p < 864 → faultAt table bits p ≡ true → Faulty table bits p
+  of-fault p h f = ⊎-elim owned free (lt-or-le mine (slotCount logicTile))
+    where
+      mine : ℕ
+      mine = owner (slotsOf logicTile table) p
+
+      free : slotCount logicTile ≤ mine → Faulty table bits p
+      free l =
+          let e : mine ≡ slotCount logicTile = omega (arith, first-le (claims (slotsOf logicTile table) p) 0 (slotCount logicTile)) in
+          stray p h (owner-unclaimed table T p l) (eqb-true _ 1 (sym (fault-stray table bits p e) ∙ f))
+
+      owned : mine < slotCount logicTile → Faulty table bits p
+      owned l = ⊎-elim low high (lt-or-le mine (groupSlots logicTile))
+        where
+          claim : claims (slotsOf logicTile table) p mine ≡ true
+          claim = first-true (claims (slotsOf logicTile table) p) 0 (slotCount logicTile) (omega arith)
+
+          at : slotAt logicTile table mine ≡ p
+          at = claims-at (slotsOf logicTile table) p mine claim
+
+          low : mine < groupSlots logicTile → Faulty table bits p
+          low a =
+              ⊎-elim
+              (λ (e : mine ≡ fieldSlots logicTile + carryInSet).
+              subst (Faulty table bits) (sym (slot-at-field logicTile table carryInSet (omega arith)) ∙ ap (slotAt logicTile table) (sym e) ∙ at)
+              (carry-pair (carry-exact .0 (sym (fault-carry table bits p e) ∙ f))))
+              (λ (n : mine ≢ fieldSlots logicTile + carryInSet). clash f (fault-low table bits p n a))
+              (eq-or-ne mine (fieldSlots logicTile + carryInSet))
+
+          high : groupSlots logicTile ≤ mine → Faulty table bits p
+          high a =
+              ⊎-elim
+              (λ (e : (mine - groupSlots logicTile) % maxPositions ≡ 0).
+              let g : ℕ = (mine - groupSlots logicTile) / maxPositions in
+              let h2 = used-group table mine a (claims-used (slotsOf logicTile table) p mine claim) .0 in
+              let n = unlisted-exact table bits g (T .groups g h2) .0
+              (sym (fault-group table bits p (mine - groupSlots logicTile) (omega arith) (omega arith) e) ∙ f) in
+              subst (Faulty table bits)
+              (sym (slot-at-group logicTile table g 0 (omega arith)) ∙ ap (slotAt logicTile table)
+              (let q : groupSlot logicTile g + 0 ≡ mine = omega arith in q) ∙ at)
+              (unlisted g h2 (n .0) (n .1)))
+              (λ (n : (mine - groupSlots logicTile) % maxPositions ≢ 0).
+              clash f (fault-inner table bits p (mine - groupSlots logicTile) (omega arith) (omega arith) n))
+              (eq-or-ne ((mine - groupSlots logicTile) % maxPositions) 0)
+
+  -- the computed test of a position is the paper's
+  pub fault-exact : (p : ℕ) → p < 864 → (faultAt table bits p ≡ true) ↔ Faulty table bits p
+  fault-exact p h = (of-fault p h, fault-of p)
+
+  pub faulty-lt : (p : ℕ) → Faulty table bits p → p < 864
+  faulty-lt p (unlisted g h n m) = group-position-lt table T g 0 h (T .groups g h .some-positions)
+  faulty-lt p (stray q h n e) = h
+  faulty-lt p (carry-pair q) = field-position-lt table T carryInSet (omega arith)
+
+  -- ---- a tile
+
+  -- below 864 the answer is a position at fault, and nothing lower is
+  pub tile-fault-lowest : tileFault table bits < 864 → Faulty table bits (tileFault table bits) × ((q : ℕ) → q < tileFault table bits → Faulty table bits q → ⊥)
+  tile-fault-lowest h = (
+    of-fault (tileFault table bits) h (first-true (faultAt table bits) 0 864 (omega arith)),
+    λ q l F. clash (fault-of q F) (first-before (faultAt table bits) 0 864 q (omega arith) l),
+  )
+
+  -- the answer is 864 exactly if the tile can be decoded
+  pub tile-fault-exact : (tileFault table bits ≡ 864) ↔ Decodable table bits
+  tile-fault-exact = (
+    λ e p F. clash (fault-of p F) (first-before (faultAt table bits) 0 864 p (omega arith) (omega (arith, faulty-lt p F))),
+    λ D. first-none (faultAt table bits) 864 (λ p h. ⊎-elim (λ f. absurd (D p (of-fault p h f))) (λ f. f) (cases (faultAt table bits p))),
+  )

@@ -1,0 +1,59 @@
+-- A group's pattern is zero, listed, or neither. Main laws: `unlisted-exact`: the computed test against the sentences of specs/Reading.antt;
+-- `group-listed`. Assumes nothing.
+use mathlib.Core.Path.{_≡_, refl, sym, ap, _∙_}
+use mathlib.Core.Logic.{_≢_, _↔_, _⊎_, inl, inr, ⊎-elim}
+use mathlib.Core.Bool.{true, false}
+use mathlib.Core.List.{List}
+use Prim.Native.Nat.{ℕ, suc, _<_, _≤_}
+use native.Mathlib.Omega.{arith}
+use borrow.Author.Tests.{eqb-true}
+use Rattle.lists.proofs.CaseLaws.{cases, clash, lt-or-le, eq-or-ne}
+use Rattle.lists.proofs.SearchLaws.{first-true}
+use Rattle.routing.specs.LogicTile.{logicTile}
+use Rattle.routing.specs.Table.{entryCount, patternAt, hasPattern, entryOf}
+use Rattle.routing.specs.Rules.{GroupRules}
+use Rattle.codec.specs.Groups.{groupPattern, settingOfPattern, readGroup}
+use Rattle.codec.specs.Fault.{isUnlisted}
+use Rattle.codec.specs.Reading.{Off, Listed}
+use Rattle.codec.proofs.GroupLaws.{setting-unlisted, setting-back}
+
+module _ (table bits : List ℕ) (g : ℕ) where
+  -- a pattern that is not unlisted is zero or an entry's
+  pub group-listed : isUnlisted (readGroup logicTile table bits g) ≡ false → Off table bits g ⊎ ((e : ℕ) × Listed table bits g e)
+  group-listed ok = ⊎-elim (λ (z : v ≡ 0). inl z) on (eq-or-ne v 0)
+    where
+      v : ℕ
+      v = groupPattern logicTile table bits g
+
+      on : v ≢ 0 → Off table bits g ⊎ ((e : ℕ) × Listed table bits g e)
+      on n =
+          ⊎-elim
+          (λ (l : entryOf logicTile table g v < entryCount logicTile table g).
+          inr (
+            entryOf logicTile table g v,
+            record {
+              entry = l;
+              pattern = sym (eqb-true (patternAt logicTile table g (entryOf logicTile table g v)) v
+                  (first-true (hasPattern logicTile table g v) 0 (entryCount logicTile table g) (omega arith)));
+            },
+          ))
+          (λ (l : entryCount logicTile table g ≤ entryOf logicTile table g v).
+          clash (sym (ap isUnlisted (setting-unlisted logicTile table g v (entryOf logicTile table g v) n refl l))) ok)
+          (lt-or-le (entryOf logicTile table g v) (entryCount logicTile table g))
+
+  pub off-listed : Off table bits g → isUnlisted (readGroup logicTile table bits g) ≡ false
+  off-listed z = ap (λ (v : ℕ). isUnlisted (settingOfPattern logicTile table g v)) z
+
+  pub entry-listed : GroupRules logicTile table g → (e : ℕ) → Listed table bits g e → isUnlisted (readGroup logicTile table bits g) ≡ false
+  entry-listed R e L =
+      ap (λ (v : ℕ). isUnlisted (settingOfPattern logicTile table g v)) (L .pattern)
+      ∙ ap isUnlisted (setting-back logicTile table g R (suc e) (L .entry))
+
+  -- a pattern is unlisted exactly if it is neither zero nor an entry's
+  pub unlisted-exact : GroupRules logicTile table g
+      → (isUnlisted (readGroup logicTile table bits g) ≡ true) ↔ ((Off table bits g → ⊥) × ((e : ℕ) → Listed table bits g e → ⊥))
+  unlisted-exact R = (
+    λ u. (λ z. clash u (off-listed z), λ e L. clash u (entry-listed R e L)),
+    λ n. ⊎-elim (λ u. u) (λ u. ⊎-elim (λ z. absurd (n .0 z)) (λ q. absurd (n .1 (q .0) (q .1))) (group-listed u))
+        (cases (isUnlisted (readGroup logicTile table bits g))),
+  )

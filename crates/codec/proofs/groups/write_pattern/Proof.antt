@@ -1,0 +1,117 @@
+-- `write_pattern` meets its contract. Invariant: the first k digits are written. Measure: the positions left. Assumes nothing.
+use mathlib.Core.Path.{_≡_, sym, ap, _∙_, subst}
+use Prim.Native.Nat.{ℕ, _-_, _<_, _≤_, _/_, _^_}
+use native.Mathlib.Omega.{arith}
+use borrow.Author.Needs.{needs}
+use lib.ListN.{length}
+use Rattle.digits.proofs.MaskLaws.{and-one}
+use Rattle.routing.specs.Table.{widthOf, positionAt}
+use Rattle.routing.specs.LogicTile.{logicTile}
+use Rattle.codec.specs.Bits.{tileBytes, setBits}
+use Rattle.codec.proofs.TileRunLaws.{group-position-lt}
+use Rattle.codec.proofs.SetBitsLaws.{set-bits-turn}
+use Rattle.codec.proofs.BitLaws.{position-within}
+use Rattle.codec.proofs.groups.write_pattern.Statement.{statement}
+use Rattle.codec.proofs.groups.write_pattern.Tie as tie
+
+abbrev Inv-loop : tie.InvT-loop
+Inv-loop table g bits₀ pattern n k₀ bits k = (k ≤ n) × (length bits ≡ tileBytes) × (bits ≡ setBits bits₀ (positionAt logicTile table g) pattern k)
+
+abbrev μ-loop : tie.MeasureT-loop
+μ-loop table g bits₀ pattern n k₀ bits k = n - k
+
+width-requires : tie.Need-width-requires Inv-loop μ-loop
+width-requires c κs = let at-start = c .before .before in (at-start .pre .0 .long, omega (arith, at-start .pre .0 .few-groups))
+
+loop-holds : tie.Need-loop-holds Inv-loop μ-loop
+unfolding setBits
+loop-holds c = search needs
+
+position-requires : tie.Need-position-requires Inv-loop μ-loop
+position-requires c κs =
+    let at-start = c .before .before .before .before .before in
+    let at-width = c .before .before in (
+      at-start .pre .0 .long,
+      omega (arith, at-start .pre .0 .few-groups),
+      omega
+          (arith, at-width .width .ensures, at-start .pre .0 .groups (at-start .args .g) (at-start .pre .1) .few-positions),
+    )
+
+cast-write-bit : tie.Need-cast-write-bit Inv-loop μ-loop
+cast-write-bit c =
+    let at-start = c .before .before .before .before .before .before .before in
+    let at-width = c .before .before .before .before in
+    omega (arith, at-width .width .ensures, at-start .pre .0 .groups (at-start .args .g) (at-start .pre .1) .few-positions)
+
+shr-write-bit : tie.Need-shr-write-bit Inv-loop μ-loop
+shr-write-bit c =
+    let at-start = c .before .before .before .before .before .before .before in
+    let at-width = c .before .before .before .before in
+    omega (arith, at-width .width .ensures, at-start .pre .0 .groups (at-start .args .g) (at-start .pre .1) .few-positions)
+
+cast-write-bit-2 : tie.Need-cast-write-bit-2 Inv-loop μ-loop
+cast-write-bit-2 c =
+    let at-start = c .before .before .before .before .before .before .before in
+    let at-loop = c .before .before .before in
+    omega (arith, and-one (at-start .args .pattern / 2 ^ at-loop .loop .k))
+
+write-bit-requires : tie.Need-write-bit-requires Inv-loop μ-loop
+write-bit-requires c κs =
+    let at-start = c .before .before .before .before .before .before .before in
+    let at-width = c .before .before .before .before in
+    let at-loop = c .before .before .before in (
+      position-within (subst (λ (x : ℕ). x < 864) (sym (c .before .position .ensures))
+          (group-position-lt (at-start .args .table .now) (at-start .pre .0) (at-start .args .g) (at-loop .loop .k) (at-start .pre .1)
+          (omega (arith, at-width .width .ensures)))) (at-loop .loop .inv .1),
+      omega (arith, and-one (at-start .args .pattern / 2 ^ at-loop .loop .k)),
+    )
+
+add-k : tie.Need-add-k Inv-loop μ-loop
+add-k c = search needs
+
+loop-less : tie.Need-loop-less Inv-loop μ-loop
+loop-less c = search needs
+
+loop-again : tie.Need-loop-again Inv-loop μ-loop
+loop-again c =
+    let at-start = c .before .before .before .before .before .before .before .before .before .before in
+    let at-loop = c .before .before .before .before .before .before in
+    let at-position = c .before .before .before .before in
+    let at-write-bit = c .before .before in (
+      omega arith,
+      at-write-bit .write-bit .kept .0 ∙ at-loop .loop .inv .1,
+      at-write-bit .write-bit .ensures ∙ set-bits-turn
+          (at-start .args .bits .now) (positionAt logicTile (at-start .args .table .now) (at-start .args .g)) (at-start .args .pattern)
+          (at-loop .loop .k) _ (at-loop .loop .bits) (at-loop .loop .inv .2) (at-position .position .ensures),
+    )
+
+same-length : tie.Need-same-length Inv-loop μ-loop
+same-length c = let at-start = c .before .before .before .before .before in c .before .loop .inv .1 ∙ sym (at-start .pre .2)
+
+returns : tie.Need-returns Inv-loop μ-loop
+returns c =
+    let at-start = c .before .before .before .before .before in
+    let at-width = c .before .before in
+    let at-loop = c .before in
+    at-loop .loop .inv .2 ∙ ap (setBits (at-start .args .bits .now) (positionAt logicTile (at-start .args .table .now) (at-start .args .g))
+    (at-start .args .pattern)) (let e : at-loop .loop .k ≡ widthOf logicTile (at-start .args .table .now) (at-start .args .g) = omega
+    (arith, at-width .width .ensures) in e)
+
+pub write-pattern-spec : {M : Type 1} → statement M
+write-pattern-spec =
+    tie.close
+    (tie.spec
+    Inv-loop
+    μ-loop
+    width-requires
+    loop-holds
+    position-requires
+    cast-write-bit
+    shr-write-bit
+    cast-write-bit-2
+    write-bit-requires
+    add-k
+    loop-less
+    loop-again
+    same-length
+    returns)

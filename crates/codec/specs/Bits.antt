@@ -1,0 +1,45 @@
+-- The bits of a tile in their lent form. Only this file, `src/bits.rt` and their laws know the form.
+use Prim.Native.Nat.{ℕ, zero, suc, _/_, _%_, _<_, _^_}
+use mathlib.Core.Bool.{Bool}
+use mathlib.Core.List.{List}
+use lib.Dec.{eqb}
+use lib.ListN.{getD, set}
+use Rattle.lists.specs.Search.{count}
+use Rattle.digits.specs.Digits.{digit, setDigit}
+
+-- how many positions stand in one lent number, and how many numbers a tile is: "A tile is 108 bytes"
+abbrev pub unit : ℕ
+unit = 8
+
+abbrev pub tileBytes : ℕ
+tileBytes = 108
+
+-- "position p is in byte p/8 with weight 2^(p mod 8)", over the number of positions in a lent number
+unfoldable pub bitIn : ℕ → List ℕ → ℕ → ℕ
+bitIn u bits p = digit (getD bits (p / u) 0) (p % u)
+
+abbrev pub bitAt : List ℕ → ℕ → ℕ
+bitAt bits p = bitIn unit bits p
+
+-- v written to position p
+unfoldable pub setBitIn : ℕ → List ℕ → ℕ → ℕ → List ℕ
+setBitIn u bits p v = set bits (p / u) (setDigit (getD bits (p / u) 0) (p % u) v)
+
+abbrev pub setBit : List ℕ → ℕ → ℕ → List ℕ
+setBit bits p v = setBitIn unit bits p v
+
+-- the digits of v below n written to the positions `at`, the first with weight 1
+unfoldable pub setBits : List ℕ → (ℕ → ℕ) → ℕ → ℕ → List ℕ
+setBits bits at v zero = bits
+setBits bits at v (suc n) = setBit (setBits bits at v n) (at n) (digit v n)
+
+-- each lent number has `unit` digits
+abbrev pub Bytes : List ℕ → Type 0
+Bytes bits = (i : ℕ) → getD bits i 0 < 2 ^ unit
+
+abbrev pub isSetAt : List ℕ → ℕ → Bool
+isSetAt bits p = eqb (bitAt bits p) 1
+
+-- "how many of its 864 bits are set"
+abbrev pub bitCount : List ℕ → ℕ
+bitCount bits = count (isSetAt bits) 864

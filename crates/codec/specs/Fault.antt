@@ -1,0 +1,38 @@
+-- Ground 4 for one tile, computed: the lowest position at fault.
+use Prim.Native.Nat.{ℕ, _+_, _-_, _/_, _%_}
+use mathlib.Core.Bool.{Bool, true, false, cond, _&&_}
+use mathlib.Core.List.{List}
+use lib.Dec.{eqb, ltb}
+use Rattle.lists.specs.Search.{first}
+use Rattle.routing.specs.LogicTile.{logicTile, carryInSet, carryChain}
+use Rattle.routing.specs.Table.{maxPositions, fieldAt}
+use Rattle.routing.specs.Slots.{slotsOf, owner, fieldSlots, groupSlots, slotCount}
+use Rattle.codec.specs.Bits.{isSetAt}
+use Rattle.codec.specs.Groups.{readGroup}
+use Rattle.codec.specs.declared.groups.GroupRead.{GroupRead}
+use Rattle.codec.specs.declared.groups.GroupRead.the-variants.{Setting, Unlisted}
+
+abbrev pub isUnlisted : GroupRead → Bool
+isUnlisted (Setting s) = false
+isUnlisted Unlisted = true
+
+module _ (table bits : List ℕ) where
+  unfoldable pub carryPair : Bool
+  carryPair = isSetAt bits (fieldAt table carryInSet) && isSetAt bits (fieldAt table carryChain)
+
+  -- position p is at fault, where slot s claims it: the CarryInSet field, if the chain switch is set too; the first position of a group, if its
+  -- pattern is neither zero nor listed; no other claimed position; and one that nothing claims, if it is set
+  unfoldable pub slotFault : ℕ → ℕ → Bool
+  slotFault p s =
+      cond (eqb s (fieldSlots logicTile + carryInSet)) carryPair
+      (cond (ltb s (groupSlots logicTile)) false
+      (cond (ltb s (slotCount logicTile))
+      (cond (eqb ((s - groupSlots logicTile) % maxPositions) 0) (isUnlisted (readGroup logicTile table bits ((s - groupSlots logicTile) / maxPositions))) false)
+      (isSetAt bits p)))
+
+  unfoldable pub faultAt : ℕ → Bool
+  faultAt p = slotFault p (owner (slotsOf logicTile table) p)
+
+  -- the lowest position at fault; 864 where there is none
+  abbrev pub tileFault : ℕ
+  tileFault = first faultAt 0 864

@@ -1,0 +1,42 @@
+// The bits of a tile, by position. Only this file knows in which form they are lent (specs/Bits.antt).
+ghost use mathlib.Core.Path.{_≡_};
+ghost use Prim.Native.Nat.{_/_, _<_};
+ghost use lib.ListN.{length};
+ghost use Rattle.codec.specs.Bits.{unit, tileBytes, bitAt, setBit, bitCount};
+
+pub const TILE_BYTES: usize = 108;
+
+const UNIT: usize = 8;
+
+// The bit at position p.
+pub fn read_bit(bits: &[u8], p: usize) -> u8
+    requires { ⌜ p / unit < length (now bits) ⌝ }
+    ensures { λ r. ⌜ r ≡ bitAt (now (bits .entry)) p ⌝ }
+{
+    digits::digit_of(bits[p / UNIT], (p % UNIT) as u32)
+}
+
+// A bit written to position p.
+pub fn write_bit(bits: &mut [u8], p: usize, value: u8)
+    requires { ⌜ (p / unit < length (now bits)) × (value < 2) ⌝ }
+    ensures { λ r. ⌜ now (bits .exit) ≡ setBit (now (bits .entry)) p value ⌝ }
+{
+    let i = p / UNIT;
+    let byte = bits[i];
+    bits[i] = digits::with_digit(byte, (p % UNIT) as u32, value);
+}
+
+// How many of a tile's 864 bits are set.
+// Rules out: counting bytes that are not zero; leaving the last byte.
+pub fn count_bits(bits: &[u8]) -> u32
+    requires { ⌜ length (now bits) ≡ tileBytes ⌝ }
+    ensures { λ r. ⌜ r ≡ bitCount (now (bits .entry)) ⌝ }
+{
+    let mut n: u32 = 0;
+    let mut i = 0;
+    while i < TILE_BYTES {
+        n += u8::count_ones(bits[i]);
+        i += 1;
+    }
+    n
+}

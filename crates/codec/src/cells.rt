@@ -1,0 +1,144 @@
+// The eight cells of a tile, by value: in its bits, in its settings, and two tiles' cells compared (document 01, 'Cells').
+ghost use mathlib.Core.Path.{_≡_};
+ghost use Prim.Native.Nat.{_<_};
+ghost use lib.ListN.{length};
+ghost use Rattle.routing.specs.TileKind.{bitsPerCell};
+ghost use Rattle.routing.specs.LogicTile.{logicTile, cellPosition};
+ghost use Rattle.codec.specs.Bits.{tileBytes, setBits};
+ghost use Rattle.codec.specs.Settings.{settingsLength};
+ghost use Rattle.codec.specs.Cells.{valueIn, cellsIn, cellSettings, writeCells, putCells, sameCell, firstDifference};
+use crate::bits::read_bit;
+use crate::bits::write_bit;
+use cell::logic::Cell;
+
+// Where the cells stand in a tile's settings: table and flags of each.
+pub const CELLS_FROM: usize = 579;
+
+const BITS_PER_CELL: usize = 20;
+
+// A cell's 20 bits as one number: its table, and its flags with weight 65,536.
+pub fn read_value(bits: &[u8], i: usize) -> u32
+    requires { ⌜ (length (now bits) ≡ tileBytes) × (i < 8) ⌝ }
+    ensures { λ r. ⌜ r ≡ valueIn (now (bits .entry)) i ⌝ }
+{
+    let mut value: u32 = 0;
+    let mut j = 0;
+    while j < BITS_PER_CELL {
+        let p = routing::cells::cell_position(i, j);
+        value += (read_bit(bits, p) as u32) << j;
+        j += 1;
+    }
+    value
+}
+
+// The cells that a tile's bits hold.
+pub fn decode_cells(bits: &[u8]) -> [Cell; 8]
+    requires { ⌜ length (now bits) ≡ tileBytes ⌝ }
+    ensures { λ r. ⌜ r ≡ cellsIn (now (bits .entry)) ⌝ }
+{
+    let mut cells = [Cell {
+        table: 0,
+        carry: false,
+        flipflop: false,
+        set: false,
+        asynchronous: false,
+    }; 8];
+    let mut i = 0;
+    while i < 8 {
+        let value = read_value(bits, i);
+        cells[i] = Cell::new((value % 65536) as u16, (value / 65536) as u16);
+        i += 1;
+    }
+    cells
+}
+
+// The cells that a tile's settings hold.
+pub fn cells_of(settings: &[u16]) -> [Cell; 8]
+    requires { ⌜ length (now settings) ≡ settingsLength logicTile ⌝ }
+    ensures { λ r. ⌜ r ≡ cellSettings (now (settings .entry)) ⌝ }
+{
+    let mut cells = [Cell {
+        table: 0,
+        carry: false,
+        flipflop: false,
+        set: false,
+        asynchronous: false,
+    }; 8];
+    let mut i = 0;
+    while i < 8 {
+        let table = settings[CELLS_FROM + 2 * i];
+        let flags = settings[CELLS_FROM + 2 * i + 1];
+        cells[i] = Cell::new(table, flags);
+        i += 1;
+    }
+    cells
+}
+
+// A cell's 20 bits written.
+pub fn write_value(bits: &mut [u8], i: usize, value: u32)
+    requires { ⌜ (length (now bits) ≡ tileBytes) × (i < 8) ⌝ }
+    ensures { λ r. ⌜ now (bits .exit) ≡ setBits (now (bits .entry)) (cellPosition i) value bitsPerCell ⌝ }
+{
+    let mut j = 0;
+    while j < BITS_PER_CELL {
+        let p = routing::cells::cell_position(i, j);
+        write_bit(bits, p, ((value >> j) & 1) as u8);
+        j += 1;
+    }
+}
+
+// Eight cells written to a tile's bits.
+pub fn write_cells(bits: &mut [u8], cells: [Cell; 8])
+    requires { ⌜ length (now bits) ≡ tileBytes ⌝ }
+    ensures { λ r. ⌜ now (bits .exit) ≡ writeCells (now (bits .entry)) cells 8 ⌝ }
+{
+    let mut i = 0;
+    while i < 8 {
+        let c = cells[i];
+        let value = c.table as u32 + 65536 * (c.flags() as u32);
+        write_value(bits, i, value);
+        i += 1;
+    }
+}
+
+// Eight cells put into a tile's settings.
+pub fn put_cells(settings: &mut [u16], cells: [Cell; 8])
+    requires { ⌜ length (now settings) ≡ settingsLength logicTile ⌝ }
+    ensures { λ r. ⌜ now (settings .exit) ≡ putCells (now (settings .entry)) cells 8 ⌝ }
+{
+    let mut i = 0;
+    while i < 8 {
+        let c = cells[i];
+        settings[CELLS_FROM + 2 * i] = c.table;
+        settings[CELLS_FROM + 2 * i + 1] = c.flags();
+        i += 1;
+    }
+}
+
+// Whether two cells have the same settings.
+pub fn is_same_cell(a: Cell, b: Cell) -> bool
+    ensures { λ r. ⌜ r ≡ sameCell a b ⌝ }
+{
+    if a.table != b.table {
+        return false;
+    }
+    let here = a.flags();
+    let there = b.flags();
+    here == there
+}
+
+// The first of eight cells in which two tiles differ; 8 where none does.
+pub fn first_difference(a: [Cell; 8], b: [Cell; 8]) -> usize
+    ensures { λ r. ⌜ r ≡ firstDifference a b ⌝ }
+{
+    let mut i = 0;
+    while i < 8 {
+        let c = a[i];
+        let d = b[i];
+        if !is_same_cell(c, d) {
+            return i;
+        }
+        i += 1;
+    }
+    i
+}

@@ -1,0 +1,69 @@
+// Whether a position of a tile is at fault, by what claims it (document 01, 'The routing table'; ground 4).
+ghost use mathlib.Core.Path.{_≡_};
+ghost use Prim.Native.Nat.{_<_};
+ghost use lib.ListN.{length};
+ghost use Rattle.routing.specs.LogicTile.{logicTile};
+ghost use Rattle.routing.specs.Table.{groupCount};
+ghost use Rattle.routing.specs.Rules.{TableRules};
+ghost use Rattle.routing.specs.Slots.{Owned, slotsOf, slotCount};
+ghost use Rattle.codec.specs.Bits.{tileBytes};
+ghost use Rattle.codec.specs.Groups.{readGroup};
+ghost use Rattle.codec.specs.Fault.{isUnlisted, carryPair, faultAt};
+use crate::bits::read_bit;
+use crate::groups::GroupRead;
+use crate::groups::read_group;
+
+// In the ownership map: the CarryInSet field, the first position of group 0. A map's number is one more than the slot's.
+const CARRY_IN_SET: usize = 162;
+
+const GROUPS: usize = 228;
+
+const MAX_POSITIONS: usize = 8;
+
+// Whether a group's pattern is neither zero nor listed.
+pub fn is_unlisted(table: &[u16], g: usize, bits: &[u8]) -> bool
+    requires { ⌜ (TableRules logicTile (now table)) × (g < groupCount logicTile (now table)) × (length (now bits) ≡ tileBytes) ⌝ }
+    ensures { λ r. ⌜ r ≡ isUnlisted (readGroup logicTile (now (table .entry)) (now (bits .entry)) g) ⌝ }
+{
+    let r = read_group(table, g, bits);
+    match r {
+        GroupRead::Setting(_) => false,
+        GroupRead::Unlisted => true,
+    }
+}
+
+// CarryInSet together with the chain switch.
+pub fn is_carry_pair(table: &[u16], bits: &[u8]) -> bool
+    requires { ⌜ (TableRules logicTile (now table)) × (length (now bits) ≡ tileBytes) ⌝ }
+    ensures { λ r. ⌜ r ≡ carryPair (now (table .entry)) (now (bits .entry)) ⌝ }
+{
+    let set = routing::table::field(table, 1);
+    let chain = routing::table::field(table, 2);
+    if read_bit(bits, set) == 1 {
+        return read_bit(bits, chain) == 1;
+    }
+    false
+}
+
+// Whether position p is at fault; `own` says which slot claims it.
+// Rules out: a set bit that nothing claims let through; a fault reported at a group's second position.
+pub fn is_fault_at(table: &[u16], own: &[u16], bits: &[u8], p: usize) -> bool
+    requires { ⌜ (TableRules logicTile (now table)) × (Owned 864 (slotsOf logicTile (now table)) (slotCount logicTile) (now own)) × (length (now bits) ≡ tileBytes) × (p < 864) ⌝ }
+    ensures { λ r. ⌜ r ≡ faultAt (now (table .entry)) (now (bits .entry)) p ⌝ }
+{
+    let code = own[p] as usize;
+    if code == 0 {
+        return read_bit(bits, p) == 1;
+    }
+    if code == CARRY_IN_SET {
+        return is_carry_pair(table, bits);
+    }
+    if code < GROUPS {
+        return false;
+    }
+    let s = code - GROUPS;
+    if s % MAX_POSITIONS == 0 {
+        return is_unlisted(table, s / MAX_POSITIONS, bits);
+    }
+    false
+}

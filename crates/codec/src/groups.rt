@@ -1,0 +1,85 @@
+// The bits of one group of the routing table, and its setting (document 01, 'The routing table').
+ghost use mathlib.Core.Path.{_≡_};
+ghost use Prim.Native.Nat.{_<_, _≤_};
+ghost use lib.ListN.{length};
+ghost use Rattle.routing.specs.LogicTile.{logicTile};
+ghost use Rattle.routing.specs.Table.{groupCount, widthOf, positionAt, entryCount};
+ghost use Rattle.routing.specs.Rules.{TableRules};
+ghost use Rattle.codec.specs.Bits.{tileBytes, setBits};
+ghost use Rattle.codec.specs.Groups.{groupPattern, readGroup, patternOf};
+use crate::bits::read_bit;
+use crate::bits::write_bit;
+
+// What reading a group gives: 0 for off, an entry from 1, or a pattern that the table does not list.
+pub enum GroupRead {
+    Setting(u16),
+    Unlisted,
+}
+
+// The pattern that a group's bits have, the first position with weight 1.
+pub fn read_pattern(table: &[u16], g: usize, bits: &[u8]) -> u16
+    requires { ⌜ (TableRules logicTile (now table)) × (g < groupCount logicTile (now table)) × (length (now bits) ≡ tileBytes) ⌝ }
+    ensures { λ r. ⌜ r ≡ groupPattern logicTile (now (table .entry)) (now (bits .entry)) g ⌝ }
+{
+    let n = routing::table::width(table, g);
+    let mut pattern: u16 = 0;
+    let mut k = 0;
+    while k < n {
+        let p = routing::table::position(table, g, k);
+        pattern += (read_bit(bits, p) as u16) << k;
+        k += 1;
+    }
+    pattern
+}
+
+// The setting that a group's bits give.
+// Rules out: a pattern that only lacks its enable bit taken as off; an entry past the group's count.
+pub fn read_group(table: &[u16], g: usize, bits: &[u8]) -> GroupRead
+    requires { ⌜ (TableRules logicTile (now table)) × (g < groupCount logicTile (now table)) × (length (now bits) ≡ tileBytes) ⌝ }
+    ensures { λ r. ⌜ r ≡ readGroup logicTile (now (table .entry)) (now (bits .entry)) g ⌝ }
+{
+    let pattern = read_pattern(table, g, bits);
+    if pattern == 0 {
+        return GroupRead::Setting(0);
+    }
+    let e = routing::table::find_entry(table, g, pattern);
+    let n = routing::table::entry_count(table, g);
+    if e < n {
+        return GroupRead::Setting(e as u16 + 1);
+    }
+    GroupRead::Unlisted
+}
+
+// The pattern of a group's setting.
+pub fn pattern_of(table: &[u16], g: usize, setting: u16) -> u16
+    requires { ⌜ (TableRules logicTile (now table)) × (g < groupCount logicTile (now table)) × (setting ≤ entryCount logicTile (now table) g) ⌝ }
+    ensures { λ r. ⌜ r ≡ patternOf logicTile (now (table .entry)) g setting ⌝ }
+{
+    if setting == 0 {
+        return 0;
+    }
+    routing::table::pattern(table, g, setting as usize - 1)
+}
+
+// A pattern written to a group's positions, the first with weight 1.
+pub fn write_pattern(table: &[u16], g: usize, bits: &mut [u8], pattern: u16)
+    requires { ⌜ (TableRules logicTile (now table)) × (g < groupCount logicTile (now table)) × (length (now bits) ≡ tileBytes) ⌝ }
+    ensures { λ r. ⌜ now (bits .exit) ≡ setBits (now (bits .entry)) (positionAt logicTile (now (table .entry)) g) pattern (widthOf logicTile (now (table .entry)) g) ⌝ }
+{
+    let n = routing::table::width(table, g);
+    let mut k = 0;
+    while k < n {
+        let p = routing::table::position(table, g, k);
+        write_bit(bits, p, ((pattern >> k) & 1) as u8);
+        k += 1;
+    }
+}
+
+// A group's setting written.
+pub fn write_group(table: &[u16], g: usize, bits: &mut [u8], setting: u16)
+    requires { ⌜ (TableRules logicTile (now table)) × (g < groupCount logicTile (now table)) × (length (now bits) ≡ tileBytes) × (setting ≤ entryCount logicTile (now table) g) ⌝ }
+    ensures { λ r. ⌜ now (bits .exit) ≡ setBits (now (bits .entry)) (positionAt logicTile (now (table .entry)) g) (patternOf logicTile (now (table .entry)) g setting) (widthOf logicTile (now (table .entry)) g) ⌝ }
+{
+    let pattern = pattern_of(table, g, setting);
+    write_pattern(table, g, bits, pattern);
+}

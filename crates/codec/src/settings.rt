@@ -1,0 +1,97 @@
+// The settings of a tile as one slice of numbers (the layout stands in specs/Settings.antt): what is read to each, and the
+// largest value of each.
+ghost use mathlib.Core.Path.{_≡_};
+ghost use Prim.Native.Nat.{_<_};
+ghost use lib.ListN.{length};
+ghost use Rattle.routing.specs.LogicTile.{logicTile};
+ghost use Rattle.routing.specs.Table.{groupCount};
+ghost use Rattle.routing.specs.Rules.{TableRules};
+ghost use Rattle.codec.specs.Bits.{tileBytes};
+ghost use Rattle.codec.specs.Settings.{cellsFrom, settingsLength};
+ghost use Rattle.codec.specs.Groups.{readGroup};
+ghost use Rattle.codec.specs.Decode.{settingNumber, settingAt};
+ghost use Rattle.codec.specs.Limits.{limitAt, bothCarries};
+use crate::bits::read_bit;
+use crate::cells::CELLS_FROM;
+use crate::groups::GroupRead;
+use crate::groups::read_group;
+
+pub const SETTINGS_LENGTH: usize = 595;
+
+pub const PASSIVES_FROM: usize = 3;
+
+pub const GROUPS_FROM: usize = 67;
+
+// A group's setting.
+pub fn group_setting(table: &[u16], g: usize, bits: &[u8]) -> u16
+    requires { ⌜ (TableRules logicTile (now table)) × (g < groupCount logicTile (now table)) × (length (now bits) ≡ tileBytes) ⌝ }
+    ensures { λ r. ⌜ r ≡ settingNumber (readGroup logicTile (now (table .entry)) (now (bits .entry)) g) ⌝ }
+{
+    let r = read_group(table, g, bits);
+    match r {
+        GroupRead::Setting(s) => s,
+        GroupRead::Unlisted => 0,
+    }
+}
+
+// Setting n of what the bits read to, below the cells.
+pub fn setting_at(table: &[u16], bits: &[u8], n: usize) -> u16
+    requires { ⌜ (TableRules logicTile (now table)) × (length (now bits) ≡ tileBytes) × (n < cellsFrom logicTile) ⌝ }
+    ensures { λ r. ⌜ r ≡ settingAt (now (table .entry)) (now (bits .entry)) n ⌝ }
+{
+    if n < PASSIVES_FROM {
+        let p = routing::table::field(table, n);
+        return read_bit(bits, p) as u16;
+    }
+    if n < GROUPS_FROM {
+        let j = n - PASSIVES_FROM;
+        if j < routing::table::passive_count(table) {
+            let p = routing::table::passive(table, j);
+            return read_bit(bits, p) as u16;
+        }
+        return 0;
+    }
+    let g = n - GROUPS_FROM;
+    if g < routing::table::group_count(table) {
+        return group_setting(table, g, bits);
+    }
+    0
+}
+
+// The largest value of setting n.
+pub fn limit_at(table: &[u16], n: usize) -> u16
+    requires { ⌜ (TableRules logicTile (now table)) × (n < settingsLength logicTile) ⌝ }
+    ensures { λ r. ⌜ r ≡ limitAt (now (table .entry)) n ⌝ }
+{
+    if n < PASSIVES_FROM {
+        return 1;
+    }
+    if n < GROUPS_FROM {
+        if n - PASSIVES_FROM < routing::table::passive_count(table) {
+            return 1;
+        }
+        return 0;
+    }
+    if n < CELLS_FROM {
+        let g = n - GROUPS_FROM;
+        if g < routing::table::group_count(table) {
+            return routing::table::entry_count(table, g) as u16;
+        }
+        return 0;
+    }
+    if (n - CELLS_FROM) % 2 == 0 {
+        return 65535;
+    }
+    15
+}
+
+// Whether settings have CarryInSet together with the chain switch.
+pub fn has_both_carries(settings: &[u16]) -> bool
+    requires { ⌜ length (now settings) ≡ settingsLength logicTile ⌝ }
+    ensures { λ r. ⌜ r ≡ bothCarries (now (settings .entry)) ⌝ }
+{
+    if settings[1] == 1 {
+        return settings[2] == 1;
+    }
+    false
+}

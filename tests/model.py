@@ -1,0 +1,393 @@
+"""A model of the reader, written from document 01 and apart from the reader's own text: plain Python, slow, and proved nowhere.
+
+The tests compare the library with it. It works on the lent form of everything: a routing table of 38,469 numbers, 595 settings and 108
+bytes a tile, rows of seven numbers. A no is a pair (ground, place); a yes is what was asked for.
+"""
+import heapq
+import os
+import sys
+
+sys.path.insert(0, os.path.dirname(os.path.abspath(__file__)))
+from wire_numbers import BASE, PORTS, wires as union_find  # noqa: E402
+
+TABLE, SETTINGS, BYTES = 38469, 595, 108
+LUT_INIT = [4, 14, 15, 5, 6, 16, 17, 7, 3, 13, 12, 2, 1, 11, 10, 0]
+FLAG_BITS = [8, 9, 18, 19]  # carry, flip-flop, set, asynchronous
+
+
+# ---- where bits stand
+
+def lc(i, k):
+    return 54 * (2 * i) + 36 + k if k < 10 else 54 * (2 * i + 1) + 26 + k
+
+
+CELL_BITS = [[lc(i, k) for k in LUT_INIT + FLAG_BITS] for i in range(8)]
+ALL_CELL_BITS = {p for cell in CELL_BITS for p in cell}
+
+
+def bit(tile, p):
+    return tile[p // 8] >> p % 8 & 1
+
+
+# ---- the routing table
+
+class Group:
+    def __init__(self, numbers):
+        self.destination, count = numbers[0], numbers[1]
+        self.positions = list(numbers[2:2 + min(count, 8)])
+        self.position_count, self.entry_count = count, numbers[10]
+        self.entries = [(numbers[11 + 2 * e], numbers[12 + 2 * e]) for e in range(min(numbers[10], 32))]
+
+
+def group_at(table, g):
+    return Group(table[69 + 75 * g:69 + 75 * g + 75])
+
+
+def is_destination(p):
+    return p <= 403 or 476 <= p <= 478
+
+
+def is_source(p):
+    return p <= 371 or p <= 505 and not is_destination(p)
+
+
+def faulty_part(table):
+    """Ground 3's place, or None."""
+    claimed = set(ALL_CELL_BITS)
+
+    def claim(positions):
+        for p in positions:
+            if p >= 864 or p in claimed:
+                return False
+            claimed.add(p)
+        return True
+
+    if not claim(table[0:3]):
+        return 0
+    if table[3] > 64 or not claim(table[4:4 + table[3]]):
+        return 1
+    for g in range(min(table[68], 512)):
+        group = group_at(table, g)
+        patterns = [pattern for pattern, _ in group.entries]
+        fine = (is_destination(group.destination) and 1 <= group.position_count <= 8 and 1 <= group.entry_count <= 32
+                and all(0 < pattern < 1 << group.position_count for pattern in patterns) and len(set(patterns)) == len(patterns)
+                and all(is_source(source) for _, source in group.entries))
+        if not fine or not claim(group.positions):
+            return 2 + g
+    return 514 if table[68] > 512 else None
+
+
+# ---- settings
+
+def groups_of(table):
+    return [group_at(table, g) for g in range(table[68])]
+
+
+def decode(table, tile):
+    """A tile's settings, or None where it cannot be decoded."""
+    settings = [0] * SETTINGS
+    claimed = set(ALL_CELL_BITS) | set(table[0:3]) | set(table[4:4 + table[3]])
+    for f in range(3):
+        settings[f] = bit(tile, table[f])
+    if settings[1] and settings[2]:
+        return None
+    for j in range(table[3]):
+        settings[3 + j] = bit(tile, table[4 + j])
+    for g, group in enumerate(groups_of(table)):
+        claimed |= set(group.positions)
+        pattern = sum(bit(tile, p) << k for k, p in enumerate(group.positions))
+        if pattern:
+            entry = [e for e, (listed, _) in enumerate(group.entries) if listed == pattern]
+            if not entry:
+                return None
+            settings[67 + g] = entry[0] + 1
+    if any(bit(tile, p) for p in range(864) if p not in claimed):
+        return None
+    for i in range(8):
+        settings[579 + 2 * i] = sum(bit(tile, p) << j for j, p in enumerate(CELL_BITS[i][:16]))
+        settings[580 + 2 * i] = sum(bit(tile, p) << j for j, p in enumerate(CELL_BITS[i][16:]))
+    return settings
+
+
+def has_bits(table, settings):
+    """Whether some bits read to a tile's settings."""
+    if settings[1] and settings[2] or any(settings[f] > 1 for f in range(3)):
+        return False
+    if any(settings[3 + j] > (1 if j < table[3] else 0) for j in range(64)):
+        return False
+    groups = groups_of(table)
+    if any(settings[67 + g] > (len(groups[g].entries) if g < len(groups) else 0) for g in range(512)):
+        return False
+    return all(settings[580 + 2 * i] < 16 for i in range(8))
+
+
+def encode(table, settings):
+    tile = bytearray(BYTES)
+
+    def put(p, v):
+        tile[p // 8] |= v << p % 8
+
+    for f in range(3):
+        put(table[f], settings[f])
+    for j in range(table[3]):
+        put(table[4 + j], settings[3 + j])
+    for g, group in enumerate(groups_of(table)):
+        if settings[67 + g]:
+            pattern = group.entries[settings[67 + g] - 1][0]
+            for k, p in enumerate(group.positions):
+                put(p, pattern >> k & 1)
+    for i in range(8):
+        value = settings[579 + 2 * i] | settings[580 + 2 * i] << 16
+        for j, p in enumerate(CELL_BITS[i]):
+            put(p, value >> j & 1)
+    return bytes(tile)
+
+
+def read(w, h, table, bits):
+    if not (1 <= w <= 8 and 1 <= h <= 8):
+        return 1, 0
+    place = faulty_part(table)
+    if place is not None:
+        return 3, place
+    settings = []
+    for t in range(w * h):
+        tile = decode(table, bits[BYTES * t:BYTES * t + BYTES])
+        if tile is None:
+            return 4, t
+        settings += tile
+    return settings
+
+
+def write(w, h, table, settings):
+    if not (1 <= w <= 8 and 1 <= h <= 8):
+        return 1, 0
+    place = faulty_part(table)
+    if place is not None:
+        return 3, place
+    for t in range(w * h):
+        if not has_bits(table, settings[SETTINGS * t:SETTINGS * t + SETTINGS]):
+            return 9, t
+    return b''.join(encode(table, settings[SETTINGS * t:SETTINGS * t + SETTINGS]) for t in range(w * h))
+
+
+# ---- equations
+
+class Block:
+    """The equations of a block with settings: what each wire is, by document 01's sentences."""
+
+    def __init__(self, w, h, table, settings):
+        self.tiles, self.settings = w * h, settings
+        self.wire = union_find(w, h)
+        self.wires = [p for p, n in enumerate(self.wire) if n == p]
+        groups = groups_of(table)
+        self.switches = []  # (driven wire, source wire, tile, group)
+        for t in range(self.tiles):
+            for g, group in enumerate(groups):
+                entry = settings[SETTINGS * t + 67 + g]
+                if entry:
+                    self.switches.append((self.at(t, group.destination), self.at(t, group.entries[entry - 1][1]), t, g))
+        self.source, self.contended = {}, set()
+        for driven, source, _, _ in self.switches:
+            if driven in self.source:
+                self.contended.add(driven)
+            else:
+                self.source[driven] = source
+        self.cells = {}  # wire -> what stands there
+        for t in range(self.tiles):
+            for q in list(range(BASE['local'], BASE['out'])) + [BASE['clk'], BASE['s_r']]:
+                self.cells[self.at(t, q)] = ('zero',)
+            self.cells[self.at(t, BASE['cen'])] = ('one',)
+            for i in range(8):
+                self.cells[self.at(t, BASE['out'] + i)] = ('out', t, i)
+                self.cells[self.at(t, BASE['lout'] + i)] = ('lout', t, i)
+                self.cells[self.at(t, BASE['cout'] + i)] = ('cout', t, i)
+            self.cells[self.at(t, BASE['carry_in_mux'])] = ('mux', t)
+
+    def at(self, t, q):
+        return self.wire[PORTS * t + q]
+
+    def field(self, t, f):
+        return self.settings[SETTINGS * t + f]
+
+    def lut(self, t, i):
+        return self.settings[SETTINGS * t + 579 + 2 * i]
+
+    def flag(self, t, i, k):
+        return self.settings[SETTINGS * t + 580 + 2 * i] >> k & 1
+
+    def inputs(self, t, i):
+        return [self.at(t, BASE['in'] + 4 * i + j) for j in range(4)]
+
+    def row(self, w):
+        if w in self.source:
+            return [5, w, self.source[w], 0, 0, 0, 0]
+        what = self.cells.get(w, ('open',))
+        if what[0] == 'open':
+            return [1, w, 0, 0, 0, 0, 0]
+        if what[0] in ('zero', 'one'):
+            return [2 if what[0] == 'zero' else 3, w, 0, 0, 0, 0, 0]
+        t = what[1]
+        if what[0] == 'mux':
+            if self.field(t, 1):
+                return [3, w, 0, 0, 0, 0, 0]
+            return [5, w, self.at(t, BASE['carry_in']), 0, 0, 0, 0] if self.field(t, 2) else [2, w, 0, 0, 0, 0, 0]
+        i = what[2]
+        if what[0] == 'cout':
+            if not self.flag(t, i, 0):
+                return [2, w, 0, 0, 0, 0, 0]
+            carry = self.at(t, BASE['carry_in_mux'] if i == 0 else BASE['cout'] + i - 1)
+            return [7, w] + self.inputs(t, i)[1:3] + [carry, 0, 0]
+        if what[0] == 'out' and self.flag(t, i, 1):
+            return [4, w, 8 * t + i, 0, 0, 0, 0]
+        return [6, w] + self.inputs(t, i) + [self.lut(t, i)]
+
+    def reads(self, row):
+        return row[2:2 + {5: 1, 6: 4, 7: 3}.get(row[0], 0)]
+
+    def disabled_carry(self):
+        read = {source for _, source, _, _ in self.switches}
+        read |= {self.at(t, BASE['carry_in']) for t in range(self.tiles) if self.field(t, 2)}
+        read |= {self.at(t, BASE['cout'] + i - 1) for t in range(self.tiles) for i in range(1, 8) if self.flag(t, i, 0)}
+        off = {self.at(t, BASE['cout'] + i) for t in range(self.tiles) for i in range(8) if not self.flag(t, i, 0)}
+        return min(read & off, default=None)
+
+    def order(self):
+        """The rows in order, or the wires that are left over."""
+        rows = {w: self.row(w) for w in self.wires}
+        waiting = {w: len(set(self.reads(rows[w]))) for w in self.wires}
+        users = {}
+        for w in self.wires:
+            for d in set(self.reads(rows[w])):
+                users.setdefault(d, []).append(w)
+        ready = [w for w in self.wires if waiting[w] == 0]
+        heapq.heapify(ready)
+        listed = []
+        while ready:
+            w = heapq.heappop(ready)
+            listed.append(rows[w])
+            for u in users.get(w, ()):
+                waiting[u] -= 1
+                if waiting[u] == 0:
+                    heapq.heappush(ready, u)
+        return listed, [w for w in self.wires if waiting[w]], rows
+
+    def lowest_loop(self, left, rows):
+        for w in left:
+            seen, todo = set(), list(self.reads(rows[w]))
+            while todo:
+                d = todo.pop()
+                if d == w:
+                    return w
+                if d not in seen:
+                    seen.add(d)
+                    todo += self.reads(rows[d])
+        return None
+
+    def follow(self, w):
+        """(kind, wire): 1 open, 2 zero, 3 one, 4 cell, 5 ring."""
+        path = []
+        while w in self.source:
+            if w in path:
+                return 5, min(path[path.index(w):])
+            path.append(w)
+            w = self.source[w]
+        return {'open': 1, 'zero': 2, 'one': 3}.get(self.cells.get(w, ('open',))[0], 4), w
+
+    def clocked_tile(self):
+        for t in range(self.tiles):
+            flops = [i for i in range(8) if self.flag(t, i, 1)]
+            ports = [BASE['clk']] * bool(flops) + [BASE['s_r']] * any(self.flag(t, i, 3) for i in flops)
+            if any(self.follow(self.at(t, q))[0] > 3 for q in ports):
+                return t
+        return None
+
+
+def build(w, h, table, bits):
+    """The rows of the list, in order, or a no."""
+    settings = read(w, h, table, bits)
+    return settings if isinstance(settings, tuple) else build_settings(w, h, table, settings)
+
+
+def build_settings(w, h, table, settings):
+    block = Block(w, h, table, settings)
+    if block.contended:
+        return 5, min(block.contended)
+    carry = block.disabled_carry()
+    if carry is not None:
+        return 6, carry
+    listed, left, rows = block.order()
+    if left:
+        return 7, block.lowest_loop(left, rows)
+    tile = block.clocked_tile()
+    return listed if tile is None else (8, tile)
+
+
+# ---- a step
+
+def run(rows, state, lent):
+    values = {}
+    for kind, w, a, b, c, d, lut in rows:
+        values[w] = (lent[w] if kind == 1 else kind - 2 if kind in (2, 3) else state[a] if kind == 4 else values[a] if kind == 5
+                     else lut >> (values[d] * 8 + values[c] * 4 + values[b] * 2 + values[a]) & 1 if kind == 6
+                     else int(values[a] + values[b] + values[c] >= 2))
+    return values
+
+
+def step(w, h, settings, rows, state, before, after):
+    """Every port's value before, and the next state."""
+    wire = union_find(w, h)
+    b, a = run(rows, state, before), run(rows, state, after)
+    new = list(state)
+    for t in range(w * h):
+        def port(values, q):
+            return values[wire[PORTS * t + q]]
+
+        edge = port(b, BASE['clk']), port(a, BASE['clk'])
+        tick = edge == ((1, 0) if settings[SETTINGS * t] else (0, 1))
+        cen, sr, later = port(b, BASE['cen']), port(b, BASE['s_r']), port(a, BASE['s_r'])
+        for i in range(8):
+            lut, flags = settings[SETTINGS * t + 579 + 2 * i], settings[SETTINGS * t + 580 + 2 * i]
+            ins = sum(port(b, BASE['in'] + 4 * i + j) << j for j in range(4))
+            lookup, set_value = lut >> ins & 1, flags >> 2 & 1
+            c = 8 * t + i
+            if not flags >> 1 & 1:
+                continue
+            if flags >> 3 & 1:
+                if tick or (sr, later) == (0, 1):
+                    new[c] = set_value if later else lookup if tick and cen else state[c]
+            elif tick and cen:
+                new[c] = set_value if sr else lookup
+    return [b[wire[p]] for p in range(PORTS * w * h)], new
+
+
+# ---- frames, as the examples are written
+
+def parse(text):
+    """(w, h, table, bits) of a well-formed input of the report program."""
+    table, groups, bits, w, h = [0] * TABLE, 0, b'', 0, 0
+    for line in text.split():
+        kind, data = line[:2], bytes.fromhex(line[2:])
+        if kind == '01':
+            table[0:3] = [int.from_bytes(data[2 * k:2 * k + 2], 'big') for k in range(3)]
+        elif kind == '02':
+            table[3] = data[0]
+            for k in range(data[0]):
+                table[4 + k] = int.from_bytes(data[1 + 2 * k:3 + 2 * k], 'big')
+        elif kind == '03':
+            at = 69 + 75 * groups
+            table[at], count = int.from_bytes(data[0:2], 'big'), data[2]
+            table[at + 1] = count
+            for k in range(count):
+                table[at + 2 + k] = int.from_bytes(data[3 + 2 * k:5 + 2 * k], 'big')
+            rest = data[3 + 2 * count:]
+            table[at + 10] = rest[0]
+            for e in range(rest[0]):
+                table[at + 11 + 2 * e] = rest[1 + 3 * e]
+                table[at + 12 + 2 * e] = int.from_bytes(rest[2 + 3 * e:4 + 3 * e], 'big')
+            groups += 1
+        elif kind == '04':
+            w, h = data
+        elif kind == '05':
+            bits += data
+    table[68] = groups
+    return w, h, table, bits

@@ -1,0 +1,123 @@
+-- The tiles of a block that was decoded or encoded, and what the tests of a tile say of it. Main laws: `decoded-at`, `decoded-reads`,
+-- `undecodable-lowest`; `encoded-at`, `encoded-reads`, `bitless-lowest`. Assumes nothing.
+use mathlib.Core.Path.{_≡_, sym, subst}
+use mathlib.Core.Bool.{true, false, not}
+use mathlib.Core.List.{List}
+use Prim.Native.Nat.{ℕ, _*_, _<_}
+use native.Mathlib.Omega.{arith}
+use borrow.Author.Tests.{ltb-true, ltb-false, le-ltb, not-true, not-false}
+use lib.ListN.{length}
+use Rattle.lists.proofs.CaseLaws.{clash}
+use Rattle.lists.proofs.SearchLaws.{first-le, first-true, first-before}
+use Rattle.lists.proofs.PartLaws.{part-length, joined-length, part-joined}
+use Rattle.routing.specs.LogicTile.{logicTile}
+use Rattle.routing.specs.Rules.{TableRules}
+use Rattle.routing.specs.Slots.{slotsOf}
+use Rattle.codec.specs.Bits.{tileBytes}
+use Rattle.codec.specs.Settings.{settingsLength}
+use Rattle.codec.specs.Reading.{Decodable, ReadsTo, HasBits}
+use Rattle.codec.specs.Decode.{decode}
+use Rattle.codec.specs.Encode.{encode, slotValue}
+use Rattle.codec.specs.Fault.{faultAt, tileFault}
+use Rattle.codec.specs.Limits.{settingsFit}
+use Rattle.codec.specs.Writing.{Writable}
+use Rattle.codec.proofs.DecodeLaws.{decode-length}
+use Rattle.codec.proofs.EncodeLaws.{encode-length}
+use Rattle.codec.proofs.TileRunLaws.{slot-value-lt}
+use Rattle.codec.proofs.FaultyLaws.{tile-fault-exact, tile-fault-lowest}
+use Rattle.codec.proofs.ReadingLaws.{decode-reads, settings-fit-exact}
+use Rattle.codec.proofs.SettingsBack.{settings-back, encode-decodable}
+use Rattle.config.specs.Blocks.{bitsAt, settingsAt, undecodableAt, undecodableTile, decodedAt, decoded, bitlessAt, bitlessTile, encodedAt, encoded}
+use Rattle.config.specs.Facts.{LowestUndecodable, LowestBitless, TilesRead}
+
+-- the bits, and the settings, of a tile have a tile's length
+pub bits-at-length : (bits : List ℕ) (n t : ℕ) → length bits ≡ tileBytes * n → t < n → length (bitsAt bits t) ≡ tileBytes
+bits-at-length bits n t e h = part-length tileBytes t n bits e (omega arith)
+
+pub settings-at-length : (settings : List ℕ) (n t : ℕ) → length settings ≡ settingsLength logicTile * n → t < n
+    → length (settingsAt settings t) ≡ settingsLength logicTile
+settings-at-length settings n t e h = part-length (settingsLength logicTile) t n settings e (omega arith)
+
+-- ---- bits to settings
+
+module _ (table bits : List ℕ) (n : ℕ) where
+  decoded-tile : (t : ℕ) → t < n → length (decodedAt table bits t) ≡ settingsLength logicTile
+  unfolding decodedAt
+  decoded-tile t h = decode-length table (bitsAt bits t)
+
+  pub decoded-length : length (decoded table bits n) ≡ settingsLength logicTile * n
+  decoded-length = joined-length (settingsLength logicTile) (decodedAt table bits) n decoded-tile
+
+  pub decoded-at : (t : ℕ) → t < n → settingsAt (decoded table bits n) t ≡ decode table (bitsAt bits t)
+  unfolding decodedAt
+  decoded-at t h = part-joined (settingsLength logicTile) (decodedAt table bits) n t h decoded-tile
+
+  module _ (T : TableRules logicTile table) where
+    -- a tile that is not undecodable can be decoded, and the other way
+    pub clean-decodable : (t : ℕ) → undecodableAt table bits t ≡ false → Decodable table (bitsAt bits t)
+    unfolding undecodableAt
+    clean-decodable t e =
+        tile-fault-exact table (bitsAt bits t) T .0
+        (omega (arith, ltb-false (tileFault table (bitsAt bits t)) (logicTile .positions) e, first-le (faultAt table (bitsAt bits t)) 0 864))
+
+    pub decodable-clean : (t : ℕ) → Decodable table (bitsAt bits t) → undecodableAt table bits t ≡ false
+    unfolding undecodableAt
+    decodable-clean t D = le-ltb (tileFault table (bitsAt bits t)) (logicTile .positions) (omega (arith, tile-fault-exact table (bitsAt bits t) T .1 D))
+
+    pub undecodable-lowest : undecodableTile table bits n < n → LowestUndecodable table bits n (undecodableTile table bits n)
+    unfolding undecodableAt
+    undecodable-lowest h = record {
+      within = h;
+      position = tileFault table (bitsAt bits (undecodableTile table bits n));
+      faulty = tile-fault-lowest table (bitsAt bits (undecodableTile table bits n)) T
+          (ltb-true (tileFault table (bitsAt bits (undecodableTile table bits n))) (logicTile .positions) (first-true (undecodableAt table bits) 0 n (omega arith)))
+          .0;
+      lower = λ s l. clean-decodable s (first-before (undecodableAt table bits) 0 n s (omega arith) l);
+    }
+
+    -- what is decoded is what the bits read to
+    pub decoded-reads : ((t : ℕ) → t < n → undecodableAt table bits t ≡ false) → TilesRead table bits (decoded table bits n) n
+    decoded-reads clean = record {
+      decodable = λ t l. clean-decodable t (clean t l);
+      reads = λ t l. subst (ReadsTo table (bitsAt bits t)) (sym (decoded-at t l)) (decode-reads table (bitsAt bits t) T);
+    }
+
+-- ---- settings to bits
+
+module _ (table settings : List ℕ) (n : ℕ) where
+  encoded-tile : (t : ℕ) → t < n → length (encodedAt table settings t) ≡ tileBytes
+  unfolding encodedAt
+  encoded-tile t h = encode-length (slotsOf logicTile table) (slotValue table (settingsAt settings t)) (slot-value-lt table (settingsAt settings t))
+
+  pub encoded-length : length (encoded table settings n) ≡ tileBytes * n
+  encoded-length = joined-length tileBytes (encodedAt table settings) n encoded-tile
+
+  pub encoded-at : (t : ℕ) → t < n → bitsAt (encoded table settings n) t ≡ encode table (settingsAt settings t)
+  unfolding encodedAt
+  encoded-at t h = part-joined tileBytes (encodedAt table settings) n t h encoded-tile
+
+  module _ (T : TableRules logicTile table) (long : length settings ≡ settingsLength logicTile * n) where
+    pub fit-bits : (t : ℕ) → t < n → settingsFit table (settingsAt settings t) ≡ true → HasBits table (settingsAt settings t)
+    fit-bits t h e = settings-fit-exact table (settingsAt settings t) T (settings-at-length settings n t long h) .0 e
+
+    -- settings that fit can be written
+    pub fit-writable : (t : ℕ) → t < n → settingsFit table (settingsAt settings t) ≡ true → Writable table (settingsAt settings t)
+    fit-writable t h e = record { rules = T; long = settings-at-length settings n t long h; fit = e }
+
+    pub bitless-lowest : bitlessTile table settings n < n → LowestBitless table settings n (bitlessTile table settings n)
+    unfolding bitlessAt
+    bitless-lowest h = record {
+      within = h;
+      bitless = λ H. clash (settings-fit-exact table (settingsAt settings (bitlessTile table settings n)) T (settings-at-length settings n _ long h) .1 H)
+          (not-true _ (first-true (bitlessAt table settings) 0 n (omega arith)));
+      lower = λ s l. fit-bits s (omega arith) (not-false _ (first-before (bitlessAt table settings) 0 n s (omega arith) l));
+    }
+
+    -- what is encoded reads to the settings
+    pub encoded-reads : ((t : ℕ) → t < n → settingsFit table (settingsAt settings t) ≡ true) → TilesRead table (encoded table settings n) settings n
+    encoded-reads fit = record {
+      decodable = λ t l. subst (Decodable table) (sym (encoded-at t l)) (encode-decodable table (settingsAt settings t) (fit-writable t l (fit t l)));
+      reads = λ t l. subst (λ (b : List ℕ). ReadsTo table b (settingsAt settings t)) (sym (encoded-at t l))
+          (subst (ReadsTo table (encode table (settingsAt settings t))) (settings-back table (settingsAt settings t) (fit-writable t l (fit t l)))
+          (decode-reads table (encode table (settingsAt settings t)) T));
+    }

@@ -1,0 +1,221 @@
+-- `config::checks::read_checks` meets its contract: each return is one way through `readAnswer`. Assumes nothing.
+use mathlib.Core.Path.{sym, ap, _∙_}
+use Prim.Native.Nat.{ℕ, _+_}
+use native.Mathlib.Omega.{arith}
+use borrow.Author.Needs.{needs}
+use borrow.Author.Tests.{not-true, not-false, eq-eqb}
+use lib.ListN.{length}
+use Rattle.lists.proofs.SearchLaws.{first-le}
+use Rattle.fabric.proofs.BlockLaws.{sized-exact, tiles-le}
+use Rattle.fabric.specs.Block.{block, tiles}
+use Rattle.routing.proofs.TableCheckLaws.{table-exact}
+use Rattle.routing.specs.LogicTile.{logicTile}
+use Rattle.routing.specs.TableCheck.{breaks, faultyPart, partCount}
+use Rattle.config.specs.Facts.{Checked}
+use Rattle.config.proofs.EntryLaws.{lengths-exact, read-size, read-length, read-table, read-undecodable, read-done}
+use Rattle.config.proofs.checks.read_checks.Statement.{statement}
+use Rattle.config.proofs.checks.read_checks.Tie as tie
+
+is-sized-requires : tie.Need-is-sized-requires
+is-sized-requires c κs = search needs
+
+-- W or H not 1 to 8
+returns : tie.Need-returns
+returns c =
+    let at-is-sized = c .before in
+    let at-start = at-is-sized .before .before .before in
+    let args = at-start .args in
+    read-size (args .w) (args .h) (args .table .now) (args .bits .now) (args .settings) (sym (at-is-sized .is-sized .ensures) ∙ not-true _ (c .if1 .taken))
+
+mul-n : tie.Need-mul-n
+mul-n c =
+    let at-is-sized = c .before in
+    let at-start = at-is-sized .before .before .before in
+    let args = at-start .args in
+    let size = sized-exact (block (args .w) (args .h)) .0 (sym (at-is-sized .is-sized .ensures) ∙ not-false _ (c .if1 .left)) in
+    let few = tiles-le (block (args .w) (args .h)) size in
+    omega arith
+
+cast-n : tie.Need-cast-n
+cast-n c =
+    let at-is-sized = c .before in
+    let at-start = at-is-sized .before .before .before in
+    let args = at-start .args in
+    let size = sized-exact (block (args .w) (args .h)) .0 (sym (at-is-sized .is-sized .ensures) ∙ not-false _ (c .if1 .left)) in
+    let few = tiles-le (block (args .w) (args .h)) size in
+    omega arith
+
+lengths-ok-requires : tie.Need-lengths-ok-requires
+lengths-ok-requires c κs =
+    let at-is-sized = c .before in
+    let at-start = at-is-sized .before .before .before in
+    let args = at-start .args in
+    let size = sized-exact (block (args .w) (args .h)) .0 (sym (at-is-sized .is-sized .ensures) ∙ not-false _ (c .if1 .left)) in
+    let few = tiles-le (block (args .w) (args .h)) size in
+    few
+
+-- a length that is not exact
+returns-2 : tie.Need-returns-2
+returns-2 c =
+    let at-lengths-ok = c .before in
+    let at-if1 = at-lengths-ok .before in
+    let at-is-sized = at-if1 .before in
+    let at-start = at-is-sized .before .before .before in
+    let args = at-start .args in
+    let table = args .table .now in
+    let size = sized-exact (block (args .w) (args .h)) .0 (sym (at-is-sized .is-sized .ensures) ∙ not-false _ (at-if1 .if1 .left)) in
+    read-length (args .w) (args .h) table (args .bits .now) (args .settings) size (sym (at-lengths-ok .lengths-ok .ensures) ∙ not-true _ (c .if2 .taken))
+
+slice-aggregate-check-table : tie.Need-slice-aggregate-check-table
+slice-aggregate-check-table c = search needs
+
+check-table-requires : tie.Need-check-table-requires
+check-table-requires c κs =
+    let at-if2 = c .before in
+    let at-lengths-ok = at-if2 .before in
+    let at-if1 = at-lengths-ok .before in
+    let at-is-sized = at-if1 .before in
+    let at-start = at-is-sized .before .before .before in
+    let args = at-start .args in
+    let table = args .table .now in
+    let size = sized-exact (block (args .w) (args .h)) .0 (sym (at-is-sized .is-sized .ensures) ∙ not-false _ (at-if1 .if1 .left)) in
+    let lengths = lengths-exact (tiles (block (args .w) (args .h))) (length table) (length (args .bits .now)) (args .settings) .0 (sym (at-lengths-ok .lengths-ok .ensures) ∙ not-false _ (at-if2 .if2 .left)) in
+    (lengths .table-long, search needs)
+
+group-count-requires : tie.Need-group-count-requires
+group-count-requires c κs =
+    let at-if2 = c .before .before .before in
+    let at-lengths-ok = at-if2 .before in
+    let at-if1 = at-lengths-ok .before in
+    let at-is-sized = at-if1 .before in
+    let at-start = at-is-sized .before .before .before in
+    let args = at-start .args in
+    let table = args .table .now in
+    let size = sized-exact (block (args .w) (args .h)) .0 (sym (at-is-sized .is-sized .ensures) ∙ not-false _ (at-if1 .if1 .left)) in
+    let lengths = lengths-exact (tiles (block (args .w) (args .h))) (length table) (length (args .bits .now)) (args .settings) .0 (sym (at-lengths-ok .lengths-ok .ensures) ∙ not-false _ (at-if2 .if2 .left)) in
+    lengths .table-long
+
+add-parts : tie.Need-add-parts
+add-parts c =
+    let at-shared-slice-known = c .before .before .before .before .before .before .before .before .before in
+    omega (arith, at-shared-slice-known .shared-slice-known .given 68, c .group-count .ensures)
+
+cast-t21 : tie.Need-cast-t21
+cast-t21 c =
+    let at-check-table = c .before .before .before in
+    let at-shared-slice-known = at-check-table .before .before .before .before .before .before .before in
+    let at-start = at-shared-slice-known .before in
+    let table = at-start .args .table .now in
+    omega (arith, at-shared-slice-known .shared-slice-known .given 68, at-check-table .check-table .ensures .0, first-le (breaks logicTile table) 0 (partCount logicTile table))
+
+-- a table that breaks a rule
+returns-3 : tie.Need-returns-3
+returns-3 c =
+    let at-group-count = c .before in
+    let at-check-table = at-group-count .before .before in
+    let at-if2 = at-check-table .before .before in
+    let at-lengths-ok = at-if2 .before in
+    let at-if1 = at-lengths-ok .before in
+    let at-is-sized = at-if1 .before in
+    let at-start = at-is-sized .before .before .before in
+    let args = at-start .args in
+    let table = args .table .now in
+    let size = sized-exact (block (args .w) (args .h)) .0 (sym (at-is-sized .is-sized .ensures) ∙ not-false _ (at-if1 .if1 .left)) in
+    let lengths = lengths-exact (tiles (block (args .w) (args .h))) (length table) (length (args .bits .now)) (args .settings) .0 (sym (at-lengths-ok .lengths-ok .ensures) ∙ not-false _ (at-if2 .if2 .left)) in
+    read-table (args .w) (args .h) table (args .bits .now) (args .settings) size lengths _ (at-check-table .check-table .ensures .0) (λ e. c .if3 .taken (e ∙ sym (ap (λ (x : ℕ). 2 + x) (at-group-count .group-count .ensures))))
+
+slice-aggregate-undecodable-tile : tie.Need-slice-aggregate-undecodable-tile
+slice-aggregate-undecodable-tile c = search needs
+
+undecodable-tile-requires : tie.Need-undecodable-tile-requires
+undecodable-tile-requires c κs =
+    let at-if3 = c .before in
+    let at-group-count = at-if3 .before in
+    let at-check-table = at-group-count .before .before in
+    let at-if2 = at-check-table .before .before in
+    let at-lengths-ok = at-if2 .before in
+    let at-if1 = at-lengths-ok .before in
+    let at-is-sized = at-if1 .before in
+    let at-start = at-is-sized .before .before .before in
+    let args = at-start .args in
+    let table = args .table .now in
+    let size = sized-exact (block (args .w) (args .h)) .0 (sym (at-is-sized .is-sized .ensures) ∙ not-false _ (at-if1 .if1 .left)) in
+    let lengths = lengths-exact (tiles (block (args .w) (args .h))) (length table) (length (args .bits .now)) (args .settings) .0 (sym (at-lengths-ok .lengths-ok .ensures) ∙ not-false _ (at-if2 .if2 .left)) in
+    let passes = eq-eqb (faultyPart logicTile table) (partCount logicTile table) (sym (at-check-table .check-table .ensures .0) ∙ at-if3 .if3 .left ∙ ap (λ (x : ℕ). 2 + x) (at-group-count .group-count .ensures)) in
+    let rules = table-exact logicTile table (lengths .table-long) .0 passes in
+    let few = tiles-le (block (args .w) (args .h)) size in
+    (few, rules, at-check-table .check-table .ensures .1 passes, lengths .bits-long)
+
+cast-t25 : tie.Need-cast-t25
+cast-t25 c =
+    let at-if1 = c .before .before .before .before .before .before .before .before .before .before in
+    let at-is-sized = at-if1 .before in
+    let at-start = at-is-sized .before .before .before in
+    let args = at-start .args in
+    let size = sized-exact (block (args .w) (args .h)) .0 (sym (at-is-sized .is-sized .ensures) ∙ not-false _ (at-if1 .if1 .left)) in
+    let few = tiles-le (block (args .w) (args .h)) size in
+    omega arith
+
+-- a tile that cannot be decoded
+returns-4 : tie.Need-returns-4
+returns-4 c =
+    let at-undecodable-tile = c .before in
+    let at-if3 = at-undecodable-tile .before .before in
+    let at-group-count = at-if3 .before in
+    let at-check-table = at-group-count .before .before in
+    let at-if2 = at-check-table .before .before in
+    let at-lengths-ok = at-if2 .before in
+    let at-if1 = at-lengths-ok .before in
+    let at-is-sized = at-if1 .before in
+    let at-start = at-is-sized .before .before .before in
+    let args = at-start .args in
+    let table = args .table .now in
+    let size = sized-exact (block (args .w) (args .h)) .0 (sym (at-is-sized .is-sized .ensures) ∙ not-false _ (at-if1 .if1 .left)) in
+    let lengths = lengths-exact (tiles (block (args .w) (args .h))) (length table) (length (args .bits .now)) (args .settings) .0 (sym (at-lengths-ok .lengths-ok .ensures) ∙ not-false _ (at-if2 .if2 .left)) in
+    let passes = eq-eqb (faultyPart logicTile table) (partCount logicTile table) (sym (at-check-table .check-table .ensures .0) ∙ at-if3 .if3 .left ∙ ap (λ (x : ℕ). 2 + x) (at-group-count .group-count .ensures)) in
+    let rules = table-exact logicTile table (lengths .table-long) .0 passes in
+    let checked : Checked (args .w) (args .h) table (length (args .bits .now)) (args .settings) = record { size = size; lengths = lengths; rules = rules } in
+    read-undecodable (args .w) (args .h) table (args .bits .now) (args .settings) checked _ (at-undecodable-tile .undecodable-tile .ensures) (c .if4 .taken)
+
+-- none of these
+returns-5 : tie.Need-returns-5
+returns-5 c =
+    let at-undecodable-tile = c .before in
+    let at-if3 = at-undecodable-tile .before .before in
+    let at-group-count = at-if3 .before in
+    let at-check-table = at-group-count .before .before in
+    let at-if2 = at-check-table .before .before in
+    let at-lengths-ok = at-if2 .before in
+    let at-if1 = at-lengths-ok .before in
+    let at-is-sized = at-if1 .before in
+    let at-start = at-is-sized .before .before .before in
+    let args = at-start .args in
+    let table = args .table .now in
+    let size = sized-exact (block (args .w) (args .h)) .0 (sym (at-is-sized .is-sized .ensures) ∙ not-false _ (at-if1 .if1 .left)) in
+    let lengths = lengths-exact (tiles (block (args .w) (args .h))) (length table) (length (args .bits .now)) (args .settings) .0 (sym (at-lengths-ok .lengths-ok .ensures) ∙ not-false _ (at-if2 .if2 .left)) in
+    let passes = eq-eqb (faultyPart logicTile table) (partCount logicTile table) (sym (at-check-table .check-table .ensures .0) ∙ at-if3 .if3 .left ∙ ap (λ (x : ℕ). 2 + x) (at-group-count .group-count .ensures)) in
+    let rules = table-exact logicTile table (lengths .table-long) .0 passes in
+    let checked : Checked (args .w) (args .h) table (length (args .bits .now)) (args .settings) = record { size = size; lengths = lengths; rules = rules } in
+    read-done (args .w) (args .h) table (args .bits .now) (args .settings) checked _ (at-undecodable-tile .undecodable-tile .ensures) (c .if4 .left)
+
+pub read-checks-spec : {M : Type 1} → statement M
+read-checks-spec =
+    tie.close
+    (tie.spec
+    is-sized-requires
+    returns
+    mul-n
+    cast-n
+    lengths-ok-requires
+    returns-2
+    slice-aggregate-check-table
+    check-table-requires
+    group-count-requires
+    add-parts
+    cast-t21
+    returns-3
+    slice-aggregate-undecodable-tile
+    undecodable-tile-requires
+    cast-t25
+    returns-4
+    returns-5)

@@ -1,0 +1,52 @@
+-- A block's bits and settings: those of its tiles, one after another, by the tiles' index.
+use Prim.Native.Nat.{ℕ}
+use mathlib.Core.Bool.{Bool, not}
+use mathlib.Core.List.{List}
+use lib.Dec.{ltb}
+use Rattle.lists.specs.Search.{first}
+use Rattle.lists.specs.Parts.{part, joined}
+use Rattle.routing.specs.LogicTile.{logicTile}
+use Rattle.codec.specs.Bits.{tileBytes}
+use Rattle.codec.specs.Settings.{settingsLength}
+use Rattle.codec.specs.Decode.{decode}
+use Rattle.codec.specs.Encode.{encode}
+use Rattle.codec.specs.Fault.{tileFault}
+use Rattle.codec.specs.Limits.{settingsFit}
+
+-- the bits, and the settings, of tile t
+abbrev pub bitsAt : List ℕ → ℕ → List ℕ
+bitsAt bits t = part tileBytes t bits
+
+abbrev pub settingsAt : List ℕ → ℕ → List ℕ
+settingsAt settings t = part (settingsLength logicTile) t settings
+
+module _ (table : List ℕ) where
+  -- tile t cannot be decoded
+  unfoldable pub undecodableAt : List ℕ → ℕ → Bool
+  undecodableAt bits t = ltb (tileFault table (bitsAt bits t)) (logicTile .positions)
+
+  -- "4: undecodable: lowest tile"; n where all of the n tiles can be decoded
+  abbrev pub undecodableTile : List ℕ → ℕ → ℕ
+  undecodableTile bits n = first (undecodableAt bits) 0 n
+
+  unfoldable pub decodedAt : List ℕ → ℕ → List ℕ
+  decodedAt bits t = decode table (bitsAt bits t)
+
+  -- the settings of n tiles
+  abbrev pub decoded : List ℕ → ℕ → List ℕ
+  decoded bits n = joined (decodedAt bits) n
+
+  -- no bits have the settings of tile t
+  unfoldable pub bitlessAt : List ℕ → ℕ → Bool
+  bitlessAt settings t = not (settingsFit table (settingsAt settings t))
+
+  -- "9: settings that no bits have: lowest tile"; n where some bits have those of each of the n tiles
+  abbrev pub bitlessTile : List ℕ → ℕ → ℕ
+  bitlessTile settings n = first (bitlessAt settings) 0 n
+
+  unfoldable pub encodedAt : List ℕ → ℕ → List ℕ
+  encodedAt settings t = encode table (settingsAt settings t)
+
+  -- the bits of n tiles
+  abbrev pub encoded : List ℕ → ℕ → List ℕ
+  encoded settings n = joined (encodedAt settings) n

@@ -1,0 +1,57 @@
+-- What the grounds of `read` and `write` say, and what a yes says, sentence by sentence (document 01, 'Grounds for a no').
+use Prim.Native.Nat.{ℕ, _*_, _<_}
+use mathlib.Core.Path.{_≡_}
+use mathlib.Core.List.{List}
+use lib.ListN.{length}
+use Rattle.fabric.specs.Block.{Sized, block, tiles}
+use Rattle.routing.specs.LogicTile.{logicTile}
+use Rattle.routing.specs.Table.{tableLength}
+use Rattle.routing.specs.Rules.{TableRules, FirstBroken}
+use Rattle.codec.specs.Bits.{tileBytes}
+use Rattle.codec.specs.Settings.{settingsLength}
+use Rattle.codec.specs.Reading.{Faulty, Decodable, ReadsTo, HasBits}
+use Rattle.config.specs.Blocks.{bitsAt, settingsAt}
+
+-- "Lengths: bits 108 [..], each times W·H; those of table, settings [..] stand in docs/": the exact lengths for n tiles
+pub record ExactLengths (n table bits settings : ℕ) : Type 0 where
+  pub table-long : table ≡ tableLength logicTile
+  pub bits-long : bits ≡ tileBytes * n
+  pub settings-long : settings ≡ settingsLength logicTile * n
+
+-- the grounds that every call with a table checks first; `bits` and `settings` are lengths
+module _ (w h : ℕ) (table : List ℕ) (bits settings : ℕ) where
+  -- "1: W or H not 1 to 8"
+  abbrev pub NoSize : Type 0
+  NoSize = Sized (block w h) → ⊥
+
+  -- "2: a lent length differs from the exact one"
+  abbrev pub NoLength : Type 0
+  NoLength = Sized (block w h) × (ExactLengths (tiles (block w h)) (length table) bits settings → ⊥)
+
+  -- "3: table breaks a rule: first of fields, passive list, groups that does": part p
+  abbrev pub NoTable : ℕ → Type 0
+  NoTable p = Sized (block w h) × ExactLengths (tiles (block w h)) (length table) bits settings × FirstBroken logicTile table p
+
+  -- none of the three
+  pub record Checked : Type 0 where
+    pub size : Sized (block w h)
+    pub lengths : ExactLengths (tiles (block w h)) (length table) bits settings
+    pub rules : TableRules logicTile table
+
+-- "4: undecodable: lowest tile": tile t of n has a position at fault, and no lower tile has one
+pub record LowestUndecodable (table bits : List ℕ) (n t : ℕ) : Type 0 where
+  pub within : t < n
+  pub position : ℕ
+  pub faulty : Faulty table (bitsAt bits t) position
+  pub lower : (s : ℕ) → s < t → Decodable table (bitsAt bits s)
+
+-- "9: settings that no bits have: lowest tile"
+pub record LowestBitless (table settings : List ℕ) (n t : ℕ) : Type 0 where
+  pub within : t < n
+  pub bitless : HasBits table (settingsAt settings t) → ⊥
+  pub lower : (s : ℕ) → s < t → HasBits table (settingsAt settings s)
+
+-- "Settings are read as the IceStorm tile documents and the lent routing table say": each of n tiles can be decoded and reads to its settings
+pub record TilesRead (table bits settings : List ℕ) (n : ℕ) : Type 0 where
+  pub decodable : (t : ℕ) → t < n → Decodable table (bitsAt bits t)
+  pub reads : (t : ℕ) → t < n → ReadsTo table (bitsAt bits t) (settingsAt settings t)

@@ -1,0 +1,82 @@
+// A block tile by tile, each in its own part of the lent slices. These functions assume a table that keeps the rules.
+ghost use mathlib.Core.Path.{_≡_};
+ghost use Prim.Native.Nat.{ℕ, _*_, _<_, _≤_};
+ghost use mathlib.Core.Bool.{true};
+ghost use lib.ListN.{length};
+ghost use Rattle.routing.specs.LogicTile.{logicTile};
+ghost use Rattle.routing.specs.Rules.{TableRules};
+ghost use Rattle.routing.specs.Slots.{slotCount};
+ghost use Rattle.routing.specs.Claiming.{TableOwned};
+ghost use Rattle.codec.specs.Bits.{tileBytes};
+ghost use Rattle.codec.specs.Settings.{settingsLength};
+ghost use Rattle.codec.specs.Limits.{settingsFit};
+ghost use Rattle.config.specs.Blocks.{settingsAt, undecodableTile, decoded, bitlessTile, encoded};
+use codec::bits::TILE_BYTES;
+use codec::settings::SETTINGS_LENGTH;
+use routing::table::POSITIONS;
+
+// The lowest tile that cannot be decoded; n where all can.
+pub fn undecodable_tile(table: &[u16], own: &[u16], bits: &[u8], n: usize) -> usize
+    requires { ⌜ (n ≤ 64) × TableRules logicTile (now table) × TableOwned logicTile (now table) (slotCount logicTile) (now own) × (length (now bits) ≡ tileBytes * n) ⌝ }
+    ensures { λ r. ⌜ r ≡ undecodableTile (now (table .entry)) (now (bits .entry)) n ⌝ }
+{
+    let mut t = 0;
+    while t < n {
+        let from = TILE_BYTES * t;
+        let to = from + TILE_BYTES;
+        if codec::tile::tile_fault(table, own, &bits[from..to]) < POSITIONS {
+            return t;
+        }
+        t += 1;
+    }
+    t
+}
+
+// The settings of n tiles that can be decoded.
+pub fn decode_block(table: &[u16], bits: &[u8], settings: &mut [u16], n: usize)
+    requires { ⌜ (n ≤ 64) × TableRules logicTile (now table) × (length (now bits) ≡ tileBytes * n) × (length (now settings) ≡ settingsLength logicTile * n) ⌝ }
+    ensures { λ r. ⌜ now (settings .exit) ≡ decoded (now (table .entry)) (now (bits .entry)) n ⌝ }
+{
+    let mut t = 0;
+    while t < n {
+        let from = TILE_BYTES * t;
+        let to = from + TILE_BYTES;
+        let start = SETTINGS_LENGTH * t;
+        let end = start + SETTINGS_LENGTH;
+        codec::tile::decode_tile(table, &bits[from..to], &mut settings[start..end]);
+        t += 1;
+    }
+}
+
+// The lowest tile whose settings no bits have; n where some bits have those of each.
+pub fn bitless_tile(table: &[u16], settings: &[u16], n: usize) -> usize
+    requires { ⌜ (n ≤ 64) × TableRules logicTile (now table) × (length (now settings) ≡ settingsLength logicTile * n) ⌝ }
+    ensures { λ r. ⌜ r ≡ bitlessTile (now (table .entry)) (now (settings .entry)) n ⌝ }
+{
+    let mut t = 0;
+    while t < n {
+        let start = SETTINGS_LENGTH * t;
+        let end = start + SETTINGS_LENGTH;
+        if !codec::tile::settings_fit(table, &settings[start..end]) {
+            return t;
+        }
+        t += 1;
+    }
+    t
+}
+
+// The bits of n tiles whose settings some bits have.
+pub fn encode_block(table: &[u16], settings: &[u16], bits: &mut [u8], n: usize)
+    requires { ⌜ (n ≤ 64) × TableRules logicTile (now table) × (length (now settings) ≡ settingsLength logicTile * n) × (length (now bits) ≡ tileBytes * n) × ((t : ℕ) → t < n → settingsFit (now table) (settingsAt (now settings) t) ≡ true) ⌝ }
+    ensures { λ r. ⌜ now (bits .exit) ≡ encoded (now (table .entry)) (now (settings .entry)) n ⌝ }
+{
+    let mut t = 0;
+    while t < n {
+        let start = SETTINGS_LENGTH * t;
+        let end = start + SETTINGS_LENGTH;
+        let from = TILE_BYTES * t;
+        let to = from + TILE_BYTES;
+        codec::tile::encode_tile(table, &settings[start..end], &mut bits[from..to]);
+        t += 1;
+    }
+}

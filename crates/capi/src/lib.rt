@@ -1,5 +1,8 @@
-// The entry points for C and Rust (document 01: "The board viewer is written in C and calls the lookup and the wire number"). Each takes
-// numbers, and slices as pointer and length, and answers one 64-bit number; include/ice40.h declares them.
+// The entry points for C and Rust. Each takes numbers, and slices as pointer and length, in the order w, h, table, inputs, outputs, work
+// room, and answers one 64-bit number; include/ice40.h declares them. Document 01: "The board viewer is written in C and calls the
+// lookup and the wire number".
+//
+// What a call does is the contract of the function that it wraps. The answer's ground, `groundIn`, says what lent memory holds afterwards.
 ghost use mathlib.Core.Path.{_≡_};
 ghost use Rattle.fabric.specs.WireNumber.{wireNumber, answerNumber, answerValue};
 ghost use Rattle.cell.specs.Lookup.{lookedUp, lookedNumber, lookedValue};
@@ -7,12 +10,8 @@ ghost use Rattle.capi.specs.Packed.{packed};
 use cell::logic::Looked;
 use fabric::WireNumber;
 
-// An answer's number and value, in one number.
-fn pack(number: u8, value: u32) -> u64
-    ensures { λ r. ⌜ r ≡ packed number value ⌝ }
-{
-    (number as u64) * 4294967296 + (value as u64)
-}
+pub mod blocks;
+pub mod pack;
 
 // The number of the wire that a port of a tile is on, in a block of w by h tiles. Grounds 1 and 20.
 #[no_mangle]
@@ -20,8 +19,8 @@ pub extern "C" fn ice40_wire_number(w: u32, h: u32, tile: u32, port: u32) -> u64
     ensures { λ r. ⌜ r ≡ packed (answerNumber (wireNumber w h tile port)) (answerValue (wireNumber w h tile port)) ⌝ }
 {
     match fabric::wire_number(w, h, tile, port) {
-        WireNumber::Wire(n) => pack(0, n as u32),
-        WireNumber::Refused(r) => pack(refusal::number(r), refusal::place(r)),
+        WireNumber::Wire(n) => pack::pack(0, n as u32),
+        WireNumber::Refused(r) => pack::pack_no(r),
     }
 }
 
@@ -31,7 +30,7 @@ pub extern "C" fn ice40_lookup(table: u16, inputs: u32) -> u64
     ensures { λ r. ⌜ r ≡ packed (lookedNumber (lookedUp table inputs)) (lookedValue (lookedUp table inputs)) ⌝ }
 {
     match cell::logic::lookup(table, inputs) {
-        Looked::Bit(b) => pack(0, b as u32),
-        Looked::Refused(r) => pack(refusal::number(r), refusal::place(r)),
+        Looked::Bit(b) => pack::pack(0, b as u32),
+        Looked::Refused(r) => pack::pack_no(r),
     }
 }

@@ -12,17 +12,14 @@ use Rattle.fabric.specs.Block.{block, tiles}
 use Rattle.codec.specs.Bits.{Bytes}
 use Rattle.config.specs.Blocks.{decoded, encoded}
 use Rattle.config.specs.Entry.{readAnswer, writeAnswer}
+use Rattle.config.proofs.MemoryLaws.{output-done}
 use Rattle.config.proofs.RoundTrip.{written-reads, read-writes}
-
--- an output after a yes is what the yes writes
-output-done : (a : Answer) (old new after : List ℕ) → a ≡ Done → after ≡ output (answerNumber a) old new → after ≡ new
-output-done a old new after e q = q ∙ ap (λ (x : Answer). output (answerNumber x) old new) e
 
 module _ (w h : ℕ) (table bits before settings : List ℕ) (a b : Answer) (by : Bytes bits) (done : a ≡ Done)
     (answered : a ≡ readAnswer w h table bits (length before))
     (filled : settings ≡ output (answerNumber a) before (decoded table bits (tiles (block w h)))) where
   taken : settings ≡ decoded table bits (tiles (block w h))
-  taken = output-done a before (decoded table bits (tiles (block w h))) settings done filled
+  taken = output-done before (decoded table bits (tiles (block w h))) a settings done filled
 
   pub bits-again-answer : (back : List ℕ) → b ≡ writeAnswer w h table settings (length back) → length back ≡ length bits
       → b ≡ readAnswer w h table bits (length before)
@@ -32,7 +29,7 @@ module _ (w h : ℕ) (table bits before settings : List ℕ) (a b : Answer) (by 
 
   pub bits-again-back : (old back : List ℕ) → b ≡ Done → back ≡ output (answerNumber b) old (encoded table settings (tiles (block w h))) → back ≡ bits
   bits-again-back old back e q =
-      output-done b old (encoded table settings (tiles (block w h))) back e q
+      output-done old (encoded table settings (tiles (block w h))) b back e q
       ∙ ap (λ (s : List ℕ). encoded table s (tiles (block w h))) taken
       ∙ read-writes w h table bits (length before) by (sym answered ∙ done) .1
 
@@ -40,7 +37,7 @@ module _ (w h : ℕ) (table settings before bits : List ℕ) (a b : Answer) (don
     (answered : a ≡ writeAnswer w h table settings (length before))
     (filled : bits ≡ output (answerNumber a) before (encoded table settings (tiles (block w h)))) where
   given : bits ≡ encoded table settings (tiles (block w h))
-  given = output-done a before (encoded table settings (tiles (block w h))) bits done filled
+  given = output-done before (encoded table settings (tiles (block w h))) a bits done filled
 
   pub settings-again-answer : (back : List ℕ) → b ≡ readAnswer w h table bits (length back) → length back ≡ length settings
       → b ≡ writeAnswer w h table settings (length before)
@@ -50,6 +47,6 @@ module _ (w h : ℕ) (table settings before bits : List ℕ) (a b : Answer) (don
 
   pub settings-again-back : (old back : List ℕ) → b ≡ Done → back ≡ output (answerNumber b) old (decoded table bits (tiles (block w h))) → back ≡ settings
   settings-again-back old back e q =
-      output-done b old (decoded table bits (tiles (block w h))) back e q
+      output-done old (decoded table bits (tiles (block w h))) b back e q
       ∙ ap (λ (s : List ℕ). decoded table s (tiles (block w h))) given
       ∙ written-reads w h table settings (length before) (sym answered ∙ done) .1

@@ -1,4 +1,4 @@
--- Lent memory after a no. Main law: `output-refused`. Assumes nothing.
+-- An output after an answer. Main laws: `output-refused`, `output-done`. Assumes nothing.
 use mathlib.Core.Path.{_≡_, refl, sym, ap, _∙_}
 use mathlib.Core.List.{List}
 use Prim.Native.Nat.{ℕ}
@@ -7,7 +7,7 @@ use Rattle.refusal.specs.Memory.{output}
 use Rattle.refusal.specs.declared.Refusal.{Refusal}
 use Rattle.refusal.specs.declared.Refusal.the-variants.{Size, Length, Table, Undecodable, Contention, DisabledCarry, Loop, CellClock, NoSuchSettings, NotABit, Line, Row, OutOfRange}
 use Rattle.refusal.specs.declared.Answer.{Answer}
-use Rattle.refusal.specs.declared.Answer.the-variants.{Refused}
+use Rattle.refusal.specs.declared.Answer.the-variants.{Done, Refused}
 
 module _ (old new : List ℕ) where
   -- whatever the ground, an output keeps its contents
@@ -29,3 +29,7 @@ module _ (old new : List ℕ) where
   -- the same of an answer that is a no
   pub output-kept : (a : Answer) (r : Refusal) → a ≡ Refused r → old ≡ output (answerNumber a) old new
   output-kept a r e = sym (ap (λ (x : Answer). output (answerNumber x) old new) e ∙ output-refused r)
+
+  -- after a yes it is what the yes writes
+  pub output-done : (a : Answer) (after : List ℕ) → a ≡ Done → after ≡ output (answerNumber a) old new → after ≡ new
+  output-done a after e q = q ∙ ap (λ (x : Answer). output (answerNumber x) old new) e

@@ -1,4 +1,4 @@
--- What `read`, `write` and `bit_count` answer and write: the grounds in the paper's orders, one line each ("Reading bits checks 1 to 4, [..]
+-- What `read`, `write` and `bit_count` answer: the grounds in the paper's orders, one line each ("Reading bits checks 1 to 4, [..]
 -- writing bits 1, 2, 3, 9, [..] a bit count 1, 2, 20").
 use Prim.Native.Nat.{ℕ, _*_}
 use mathlib.Core.Bool.{Bool, _&&_}

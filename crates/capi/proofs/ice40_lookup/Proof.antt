@@ -2,7 +2,7 @@
 use Rattle.capi.specs.Packed.{packed}
 use Rattle.cell.specs.Lookup.{lookedNumber, lookedValue}
 use Rattle.cell.specs.declared.logic.Looked.{Looked}
-use mathlib.Core.Path.{sym, ap, ap₂, _∙_}
+use mathlib.Core.Path.{sym, ap, _∙_}
 use borrow.Author.Needs.{needs}
 use Rattle.capi.proofs.ice40_lookup.Statement.{statement}
 use Rattle.capi.proofs.ice40_lookup.Tie as tie
@@ -22,20 +22,14 @@ pack-requires c κs = search needs
 enum-known-r : tie.Need-enum-known-r
 enum-known-r c = search needs
 
-number-requires : tie.Need-number-requires
-number-requires c κs = search needs
-
-place-requires : tie.Need-place-requires
-place-requires c κs = search needs
-
-pack-requires-2 : tie.Need-pack-requires-2
-pack-requires-2 c κs = search needs
+pack-no-requires : tie.Need-pack-no-requires
+pack-no-requires c κs = search needs
 
 returns : tie.Need-returns
-returns c = c .pack .ensures ∙ ap (λ (x : Looked). packed (lookedNumber x) (lookedValue x)) (sym (c .before .before .b .given .1) ∙ c .before .before .before .before .lookup .ensures)
+returns c = c .pack .ensures .0 ∙ ap (λ (x : Looked). packed (lookedNumber x) (lookedValue x)) (sym (c .before .before .b .given .1) ∙ c .before .before .before .before .lookup .ensures)
 
 returns-2 : tie.Need-returns-2
-returns-2 c = c .pack2 .ensures ∙ ap₂ packed (c .before .before .number .ensures) (c .before .place .ensures) ∙ ap (λ (x : Looked). packed (lookedNumber x) (lookedValue x)) (sym (c .before .before .before .before .r .given .1) ∙ c .before .before .before .before .before .before .lookup .ensures)
+returns-2 c = c .pack-no .ensures .0 ∙ ap (λ (x : Looked). packed (lookedNumber x) (lookedValue x)) (sym (c .before .before .r .given .1) ∙ c .before .before .before .before .lookup .ensures)
 
 pub ice40-lookup-spec : {M : Type 1} → statement M
 ice40-lookup-spec =
@@ -46,8 +40,6 @@ ice40-lookup-spec =
     cast-pack
     pack-requires
     enum-known-r
-    number-requires
-    place-requires
-    pack-requires-2
+    pack-no-requires
     returns
     returns-2)

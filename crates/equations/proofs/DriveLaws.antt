@@ -1,0 +1,149 @@
+-- What drives a wire is the same for all its ports. Main law: `drive-wire`. `join-drive` has a clause for each published join; then the drives of
+-- the ports that the equations name.
+use Prim.Native.Nat.{ℕ, suc, _+_, _*_, _/_, _%_, _<_}
+use mathlib.Core.Path.{_≡_, refl, sym, _∙_, ap}
+use native.Mathlib.Omega.{arith}
+use native.Mathlib.Nat.{div-add-mod'}
+use lib.Arith.{digits-div, digits-mod}
+use borrow.Author.Tests.{lt-ltb}
+use Rattle.fabric.specs.declared.Block.{Block}
+use Rattle.fabric.specs.declared.ports.Port.{Port}
+use Rattle.fabric.specs.declared.ports.Port.the-variants.{Sp4HL, Sp4HR, Sp4VT, Sp4VB, Sp4RVB, Sp12HL, Sp12HR, Sp12VT, Sp12VB, Local, Glb2Local, In, Out, NeighOp, Clk, Cen, SR, GlbNetwk, CarryIn, CarryInMux, Cout, Lout, Ltin}
+use Rattle.fabric.specs.Block.{port, ports, portOf, portsPerTile}
+use Rattle.fabric.specs.PortIndex.{outPort, coutPort, loutPort, carryInMux, cen, outputAt}
+use Rattle.fabric.specs.PortNames.{indexOf, Neighbour, Within}
+use Rattle.fabric.specs.Span.{flip}
+use Rattle.fabric.specs.Joins.{Join, Linked, same, one, back, on, sp4-h-side, sp4-h-in, sp4-v-side, sp4-v-in, sp4-right, sp12-h-side, sp12-h-in, sp12-v-side, sp12-v-in, neigh-bnl, neigh-bot, neigh-bnr, neigh-lft, neigh-rgt, neigh-tnl, neigh-top, neigh-tnr, global, carry-chain, lut-cascade}
+use Rattle.fabric.specs.Wire.{wireOf}
+use Rattle.fabric.proofs.FlipLaws.{flip-lt}
+use Rattle.fabric.proofs.PortLaws.{neighbour, index-back}
+use Rattle.fabric.proofs.NeighbourLaws.{output-at-lt}
+use Rattle.fabric.proofs.WireLaws.{wire-linked}
+use Rattle.equations.specs.declared.drives.Drive.the-variants.{Low, High, CellOut, CellLout, CellCout, CarryMux}
+use Rattle.equations.specs.Equations.{ZeroPort, in-port, clk-port, s-r-port, local-port, glb2local-port}
+use Rattle.equations.specs.Drives.{outputDrive, driveAt, driveOf}
+
+module _ (B : Block) where
+  -- ---- the drive of a port by its name
+
+  -- of the tile (x, y)
+  pub drive-name : (x y : ℕ) (P : Port) → x < B .w → indexOf P < portsPerTile → Within P → driveOf B (port B x y (indexOf P)) ≡ driveAt B x y P
+  unfolding driveOf
+  drive-name x y P hx hq h =
+      let d : port B x y (indexOf P) / portsPerTile ≡ y * B .w + x = omega arith in
+      let m : port B x y (indexOf P) % portsPerTile ≡ indexOf P = omega arith in
+      rw (d, m, digits-mod y {m = B .w} {r = x} hx, digits-div y {m = B .w} {r = x} hx) (ap (driveAt B x y) (index-back P h))
+
+  -- of tile T
+  pub drive-tile : (T : ℕ) (P : Port) → indexOf P < portsPerTile → Within P → driveOf B (portOf T (indexOf P)) ≡ driveAt B (T % B .w) (T / B .w) P
+  unfolding driveOf
+  drive-tile T P hq h =
+      let d : portOf T (indexOf P) / portsPerTile ≡ T = omega arith in
+      let m : portOf T (indexOf P) % portsPerTile ≡ indexOf P = omega arith in
+      rw (d, m) (ap (driveAt B (T % B .w) (T / B .w)) (index-back P h))
+
+  -- ---- joins keep it
+
+  pub output-drive : (X Y u v i : ℕ) → X ≡ suc u → Y ≡ suc v → u < B .w → v < B .h → outputDrive B X Y i ≡ CellOut (v * B .w + u) i
+  output-drive X Y u v i a b hu hv = rw (a, b, lt-ltb u (B .w) hu, lt-ltb v (B .h) hv)
+
+  neighbour-drive : {dx dy i : ℕ} (x y u v : ℕ) → Neighbour dx dy i → x + dx ≡ suc u → y + dy ≡ suc v → x < B .w → u < B .w → v < B .h
+      → driveOf B (port B x y (outputAt dx dy i)) ≡ driveOf B (port B u v (outPort i))
+  unfolding driveAt
+  neighbour-drive {dx} {dy} {i} x y u v h a b hx hu hv =
+      drive-name x y (NeighOp dx dy i) hx (omega (arith, output-at-lt dx dy i (h .i-lt))) h ∙ output-drive (x + dx) (y + dy) u v i a b hu hv
+      ∙ sym (drive-name u v (Out i) hu (let hi = h .i-lt in omega arith) (h .i-lt))
+
+  pub join-drive : {p q : ℕ} → Join B p q → driveOf B p ≡ driveOf B q
+  unfolding driveAt
+  join-drive (sp4-h-side x y k hx hy hk) =
+      drive-name x y (Sp4HR k) (omega arith) (omega arith) hk ∙ sym (drive-name (suc x) y (Sp4HL k) hx (omega arith) hk)
+  join-drive (sp4-h-in x y k hx hy hk) =
+      let l = flip-lt 36 refl hk in
+      drive-name x y (Sp4HL k) hx (omega arith) (omega arith) ∙ sym (drive-name x y (Sp4HR (flip k + 12)) hx (omega arith) (omega arith))
+  join-drive (sp4-v-side x y k hx hy hk) = drive-name x (suc y) (Sp4VB k) hx (omega arith) hk ∙ sym (drive-name x y (Sp4VT k) hx (omega arith) hk)
+  join-drive (sp4-v-in x y k hx hy hk) =
+      let l = flip-lt 36 refl hk in
+      drive-name x y (Sp4VT k) hx (omega arith) (omega arith) ∙ sym (drive-name x y (Sp4VB (flip k + 12)) hx (omega arith) (omega arith))
+  join-drive (sp4-right x y k hx hy hk) =
+      drive-name x y (Sp4RVB k) (omega arith) (omega arith) hk ∙ sym (drive-name (suc x) y (Sp4VB k) hx (omega arith) hk)
+  join-drive (sp12-h-side x y k hx hy hk) =
+      drive-name x y (Sp12HR k) (omega arith) (omega arith) hk ∙ sym (drive-name (suc x) y (Sp12HL k) hx (omega arith) hk)
+  join-drive (sp12-h-in x y k hx hy hk) =
+      let l = flip-lt 22 refl hk in
+      drive-name x y (Sp12HL k) hx (omega arith) (omega arith) ∙ sym (drive-name x y (Sp12HR (flip k + 2)) hx (omega arith) (omega arith))
+  join-drive (sp12-v-side x y k hx hy hk) = drive-name x (suc y) (Sp12VB k) hx (omega arith) hk ∙ sym (drive-name x y (Sp12VT k) hx (omega arith) hk)
+  join-drive (sp12-v-in x y k hx hy hk) =
+      let l = flip-lt 22 refl hk in
+      drive-name x y (Sp12VT k) hx (omega arith) (omega arith) ∙ sym (drive-name x y (Sp12VB (flip k + 2)) hx (omega arith) (omega arith))
+  join-drive (neigh-bnl x y i hx hy hi) =
+      neighbour-drive (suc x) (suc y) x y (neighbour 0 0 i (omega arith) (omega arith) (λ a b. omega arith) hi)
+      (omega arith) (omega arith) hx (omega arith) (omega arith)
+  join-drive (neigh-bot x y i hx hy hi) =
+      neighbour-drive x (suc y) x y (neighbour 1 0 i (omega arith) (omega arith) (λ a b. omega arith) hi)
+      (omega arith) (omega arith) hx hx (omega arith)
+  join-drive (neigh-bnr x y i hx hy hi) =
+      neighbour-drive x (suc y) (suc x) y (neighbour 2 0 i (omega arith) (omega arith) (λ a b. omega arith) hi)
+      (omega arith) (omega arith) (omega arith) hx (omega arith)
+  join-drive (neigh-lft x y i hx hy hi) =
+      neighbour-drive (suc x) y x y (neighbour 0 1 i (omega arith) (omega arith) (λ a b. omega arith) hi)
+      (omega arith) (omega arith) hx (omega arith) hy
+  join-drive (neigh-rgt x y i hx hy hi) =
+      neighbour-drive x y (suc x) y (neighbour 2 1 i (omega arith) (omega arith) (λ a b. omega arith) hi)
+      (omega arith) (omega arith) (omega arith) hx hy
+  join-drive (neigh-tnl x y i hx hy hi) =
+      neighbour-drive (suc x) y x (suc y) (neighbour 0 2 i (omega arith) (omega arith) (λ a b. omega arith) hi)
+      (omega arith) (omega arith) hx (omega arith) hy
+  join-drive (neigh-top x y i hx hy hi) =
+      neighbour-drive x y x (suc y) (neighbour 1 2 i (omega arith) (omega arith) (λ a b. omega arith) hi)
+      (omega arith) (omega arith) hx hx hy
+  join-drive (neigh-tnr x y i hx hy hi) =
+      neighbour-drive x y (suc x) (suc y) (neighbour 2 2 i (omega arith) (omega arith) (λ a b. omega arith) hi)
+      (omega arith) (omega arith) (omega arith) hx hy
+  join-drive (global x y x′ y′ n hx hy hx′ hy′ hn) =
+      drive-name x y (GlbNetwk n) hx (omega arith) hn ∙ sym (drive-name x′ y′ (GlbNetwk n) hx′ (omega arith) hn)
+  join-drive (carry-chain x y hx hy) = drive-name x (suc y) CarryIn hx (omega arith) tt ∙ sym (drive-name x y (Cout 7) hx (omega arith) (omega arith))
+  join-drive (lut-cascade x y hx hy) = drive-name x (suc y) Ltin hx (omega arith) tt ∙ sym (drive-name x y (Lout 7) hx (omega arith) (omega arith))
+
+  linked-drive : {p q : ℕ} → Linked B p q → driveOf B p ≡ driveOf B q
+  linked-drive same = refl
+  linked-drive (one j) = join-drive j
+  linked-drive (back l) = sym (linked-drive l)
+  linked-drive (on l m) = linked-drive l ∙ linked-drive m
+
+  pub drive-wire : (p : ℕ) → p < ports B → driveOf B (wireOf B p) ≡ driveOf B p
+  drive-wire p h = sym (linked-drive (wire-linked B p h))
+
+  -- ---- the ports that the equations name
+
+  module _ (T : ℕ) where
+    place : T / B .w * B .w + T % B .w ≡ T
+    place = div-add-mod' T (B .w)
+
+    pub out-drive : (i : ℕ) → i < 8 → driveOf B (portOf T (outPort i)) ≡ CellOut T i
+    unfolding driveAt
+    out-drive i h = drive-tile T (Out i) (omega arith) h ∙ ap (λ (t : ℕ). CellOut t i) place
+
+    pub lout-drive : (i : ℕ) → i < 8 → driveOf B (portOf T (loutPort i)) ≡ CellLout T i
+    unfolding driveAt
+    lout-drive i h = drive-tile T (Lout i) (omega arith) h ∙ ap (λ (t : ℕ). CellLout t i) place
+
+    pub cout-drive : (i : ℕ) → i < 8 → driveOf B (portOf T (coutPort i)) ≡ CellCout T i
+    unfolding driveAt
+    cout-drive i h = drive-tile T (Cout i) (omega arith) h ∙ ap (λ (t : ℕ). CellCout t i) place
+
+    pub mux-drive : driveOf B (portOf T carryInMux) ≡ CarryMux T
+    unfolding driveAt
+    mux-drive = drive-tile T CarryInMux (omega arith) tt ∙ ap CarryMux place
+
+    pub cen-drive : driveOf B (portOf T cen) ≡ High
+    unfolding driveAt
+    cen-drive = drive-tile T Cen (omega arith) tt
+
+    pub zero-drive : {q : ℕ} → ZeroPort q → driveOf B (portOf T q) ≡ Low
+    unfolding driveAt
+    zero-drive (in-port i j hi hj) = drive-tile T (In i j) (omega arith) (hi, hj)
+    zero-drive clk-port = drive-tile T Clk (omega arith) tt
+    zero-drive s-r-port = drive-tile T SR (omega arith) tt
+    zero-drive (local-port k h) = drive-tile T (Local k) (omega arith) h
+    zero-drive (glb2local-port k h) = drive-tile T (Glb2Local k) (omega arith) h

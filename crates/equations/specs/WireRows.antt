@@ -1,0 +1,70 @@
+-- The row of each wire, computed (document 01, 'The list and a step': kinds and operands). proofs/EqualLaws.antt shows that values solve the
+-- rows exactly if they meet the equations.
+use Prim.Native.Nat.{ℕ, _+_, _*_}
+use mathlib.Core.Bool.{Bool, cond, _&&_}
+use mathlib.Core.List.{List}
+use lib.Dec.{eqb, ltb}
+use Rattle.lists.specs.Search.{first}
+use Rattle.fabric.specs.declared.Block.{Block}
+use Rattle.fabric.specs.Block.{ports, portOf}
+use Rattle.fabric.specs.PortIndex.{inPort, carryIn}
+use Rattle.fabric.specs.Wire.{wireOf}
+use Rattle.netlist.specs.declared.row.Row.{Row}
+use Rattle.netlist.specs.Kinds.{lentKind, zeroKind, oneKind, flipFlopKind, copyKind, lookupKind, majorityKind}
+use Rattle.netlist.specs.Rows.{zeroRow, rowsOf}
+use Rattle.equations.specs.declared.drives.Drive.{Drive}
+use Rattle.equations.specs.declared.drives.Drive.the-variants.{Nothing, Low, High, CellOut, CellLout, CellCout, CarryMux}
+use Rattle.equations.specs.Tiles.{tableOf, carryOn, flopOn, carrySet, chained}
+use Rattle.equations.specs.Switches.{switches, enabled, target, origin}
+use Rattle.equations.specs.Equations.{carryPort}
+use Rattle.equations.specs.Drives.{driveOf}
+
+-- a row with no table and at most one operand: "unused numbers are 0"
+abbrev pub plainRow : ℕ → ℕ → ℕ → Row
+plainRow kind w a = record { kind = kind; wire = w; a = a; b = 0; c = 0; d = 0; table = 0 }
+
+abbrev pub inWire : Block → ℕ → ℕ → ℕ → ℕ
+inWire B T i j = wireOf B (portOf T (inPort i j))
+
+-- "6 lookup (in_0 first)", "7 majority (in_1, in_2, carry-in)"
+abbrev pub lookupRow : Block → List ℕ → ℕ → ℕ → ℕ → Row
+lookupRow B st w T i =
+    record { kind = lookupKind; wire = w; a = inWire B T i 0; b = inWire B T i 1; c = inWire B T i 2; d = inWire B T i 3; table = tableOf st T i }
+
+abbrev pub majorityRow : Block → ℕ → ℕ → ℕ → Row
+majorityRow B w T i =
+    record { kind = majorityKind; wire = w; a = inWire B T i 1; b = inWire B T i 2; c = wireOf B (portOf T (carryPort i)); d = 0; table = 0 }
+
+-- the row of wire w where no switch ends on it; "4 flip-flop (operand 1 is 8t + i)"
+unfoldable pub driveRow : Block → List ℕ → ℕ → Drive → Row
+driveRow B st w Nothing = plainRow lentKind w 0
+driveRow B st w Low = plainRow zeroKind w 0
+driveRow B st w High = plainRow oneKind w 0
+driveRow B st w (CellOut T i) = cond (flopOn st T i) (plainRow flipFlopKind w (8 * T + i)) (lookupRow B st w T i)
+driveRow B st w (CellLout T i) = lookupRow B st w T i
+driveRow B st w (CellCout T i) = cond (carryOn st T i) (majorityRow B w T i) (plainRow zeroKind w 0)
+driveRow B st w (CarryMux T) =
+    cond (carrySet st T) (plainRow oneKind w 0) (cond (chained st T) (plainRow copyKind w (wireOf B (portOf T carryIn))) (plainRow zeroKind w 0))
+
+module _ (B : Block) (t st : List ℕ) where
+  -- switch s is enabled and ends on w
+  unfoldable pub endsOn : ℕ → ℕ → Bool
+  endsOn w s = enabled t st s && eqb (target B t s) w
+
+  -- the first of the m first switches that does; m where none does
+  abbrev pub driverIn : ℕ → ℕ → ℕ
+  driverIn m w = first (endsOn w) 0 m
+
+  abbrev pub driver : ℕ → ℕ
+  driver w = driverIn (switches B) w
+
+  -- the row of port number w: that of the wire w, or a row of zeros where w is no wire's number
+  unfoldable pub rowOf : ℕ → Row
+  rowOf w =
+      cond (eqb (wireOf B w) w)
+      (cond (ltb (driver w) (switches B)) (plainRow copyKind w (origin B t st (driver w))) (driveRow B st w (driveOf B w)))
+      zeroRow
+
+  -- the rows of a block by wire
+  unfoldable pub wireRows : List ℕ
+  wireRows = rowsOf rowOf (ports B)

@@ -1,0 +1,39 @@
+-- Whether some number below n passes a test: not all fail. Main laws: `some-of`, `of-some`; `some-last`, a number more.
+use Prim.Native.Nat.{ℕ, zero, suc, _+_, _<_}
+use mathlib.Core.Path.{_≡_, refl}
+use mathlib.Core.Bool.{Bool, true, false, not, cond, _&&_, _||_}
+use mathlib.Core.Logic.{⊎-elim}
+use native.Mathlib.Omega.{arith}
+use native.Mathlib.Nat.{zero-add}
+use borrow.Author.Tests.{not-true, not-false}
+use Rattle.lists.specs.Search.{all}
+use Rattle.lists.proofs.CaseLaws.{cases, clash}
+use Rattle.lists.proofs.SearchLaws.{all-at, all-not}
+
+pub some-of : (p : ℕ → Bool) (n : ℕ) → not (all (λ i. not (p i)) 0 n) ≡ true → (i : ℕ) × (i < n) × (p i ≡ true)
+some-of p n e = let f = all-not (λ i. not (p i)) 0 n (not-true _ e) in (f .0, omega arith, not-false _ (f .3))
+
+pub of-some : (p : ℕ → Bool) (n i : ℕ) → i < n → p i ≡ true → not (all (λ i. not (p i)) 0 n) ≡ true
+of-some p n i l e = ⊎-elim (λ a. clash e (not-true _ (all-at (λ i. not (p i)) 0 n i a (omega arith) (omega arith)))) (λ a. rw a) (cases (all (λ i. not (p i)) 0 n))
+
+all-last : (p : ℕ → Bool) (i n : ℕ) → all p i (suc n) ≡ all p i n && p (i + n)
+unfolding all
+all-last p i zero = rw (let e : i + 0 ≡ i = omega arith in e) (go (p i))
+  where
+    go : (b : Bool) → cond b true false ≡ b
+    go true = refl
+    go false = refl
+all-last p i (suc n) = rw (all-last p (suc i) n, let e : i + suc n ≡ suc i + n = omega arith in e) (go (p i) (all p (suc i) n) (p (suc i + n)))
+  where
+    go : (a b c : Bool) → cond a (b && c) false ≡ cond a b false && c
+    go true b c = refl
+    go false b c = refl
+
+-- one of the numbers below n passes, or n does
+pub some-last : (p : ℕ → Bool) (n : ℕ) → not (all (λ i. not (p i)) 0 (suc n)) ≡ not (all (λ i. not (p i)) 0 n) || p n
+some-last p n = rw (all-last (λ i. not (p i)) 0 n, zero-add n) (go (all (λ i. not (p i)) 0 n) (p n))
+  where
+    go : (a b : Bool) → not (a && not b) ≡ not a || b
+    go true true = refl
+    go true false = refl
+    go false b = refl

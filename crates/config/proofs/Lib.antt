@@ -1,7 +1,6 @@
 -- The laws of `config` that its callers cite.
 pub mod MeaningLaws  -- read-means, write-means: every answer says what specs/Meaning.antt has it say
 pub mod RoundTrip  -- written-reads, read-writes: both round trips of a block
-pub mod AgainLaws  -- the round trips over two calls
 pub mod PassedLaws  -- read-passed, read-clean, write-passed, write-fit: what a yes has passed
 pub mod EntryLaws  -- read-.., write-..: the answers, ground by ground; lengths-exact
 pub mod BitCountLaws  -- count-..: the same of a bit count

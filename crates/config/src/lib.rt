@@ -2,7 +2,7 @@
 //
 // `read`, `write` and `bit_count` take any input and none has a `requires`. The functions of `blocks` assume what the checks have
 // shown, for callers that read or write one block many times. specs/Entry.antt has the grounds in their orders, specs/Meaning.antt
-// what each answer says. proofs/RoundTrip.antt has both round trips, and `again` has them as calls.
+// what each answer says. proofs/RoundTrip.antt has both round trips.
 ghost use mathlib.Core.Path.{_≡_};
 ghost use lib.ListN.{length};
 ghost use Rattle.refusal.specs.Grounds.{answerNumber};
@@ -16,7 +16,6 @@ use fabric::Block;
 use refusal::Answer;
 use refusal::Refusal;
 
-pub mod again;
 pub mod blocks;
 mod checks;
 

@@ -28,7 +28,7 @@ const CARRY_CHAIN: usize = 2;
 const CELLS: usize = 8;
 
 // Number n of the settings of a tile.
-fn setting_at(b: Block, st: &[u16], wires: &[u16], tile: usize, n: usize) -> u16
+pub fn setting_at(b: Block, st: &[u16], wires: &[u16], tile: usize, n: usize) -> u16
     requires { ⌜ Mapped b (now st) (now wires) × (tile < tiles b) × (n < settingsLength logicTile) ⌝ }
     ensures { λ r. ⌜ r ≡ settingOf (now (st .entry)) tile n ⌝ }
 {
@@ -36,7 +36,7 @@ fn setting_at(b: Block, st: &[u16], wires: &[u16], tile: usize, n: usize) -> u16
 }
 
 // A cell's settings.
-fn cell_at(b: Block, st: &[u16], wires: &[u16], tile: usize, i: usize) -> Cell
+pub fn cell_at(b: Block, st: &[u16], wires: &[u16], tile: usize, i: usize) -> Cell
     requires { ⌜ Mapped b (now st) (now wires) × (tile < tiles b) × (i < 8) ⌝ }
     ensures { λ r. ⌜ r ≡ cellOf (tableOf (now (st .entry)) tile i) (flagsAt (now (st .entry)) tile i) ⌝ }
 {
@@ -46,7 +46,7 @@ fn cell_at(b: Block, st: &[u16], wires: &[u16], tile: usize, i: usize) -> Cell
 }
 
 // The wire of port q of a tile.
-fn port_wire(b: Block, st: &[u16], wires: &[u16], tile: usize, q: u32) -> u16
+pub fn port_wire(b: Block, st: &[u16], wires: &[u16], tile: usize, q: u32) -> u16
     requires { ⌜ Mapped b (now st) (now wires) × (tile < tiles b) × (q < portsPerTile) ⌝ }
     ensures { λ r. ⌜ r ≡ wireOf b (portOf tile q) ⌝ }
 {

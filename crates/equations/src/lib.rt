@@ -3,7 +3,7 @@
 //
 // Every function asks for a block of a right size and settings of a right length. The contracts cite specs/; that the rows say what the
 // equations say is in proofs/EqualLaws.antt and proofs/SettlingLaws.antt.
-mod cell_rows;
+pub mod cell_rows;
 pub mod drives;
 pub mod rows;
 pub mod wires;

@@ -13,7 +13,7 @@ use crate::row_check::is_zero;
 use crate::row_check::row_good;
 
 // How many wires the block has.
-fn count_wires(wires: &[u16]) -> usize
+pub fn count_wires(wires: &[u16]) -> usize
     ensures { λ r. ⌜ r ≡ wireCount (now (wires .entry)) ⌝ }
 {
     let mut count = 0;

@@ -1,0 +1,201 @@
+#!/usr/bin/env python3
+"""Compares building, following and the step with the model of tests/model.py: real blocks, damaged ones, random states and values.
+
+    python3 tests/circuits.py           needs the Rattle kit (rt), a C compiler and Python 3
+    python3 tests/circuits.py 10000     the same with so many steps a block (1,000 unless said)
+
+It prints a line for each group of cases and ends with the number of differences.
+"""
+import os
+import random
+import sys
+import tempfile
+
+sys.path.insert(0, os.path.dirname(os.path.abspath(__file__)))
+import model  # noqa: E402
+from library import U8, U16, Count, Library, blocks  # noqa: E402
+
+
+def junk(n, top=65536):
+    return [random.randrange(top) for _ in range(n)]
+
+
+def lent_build(n):
+    """The list, then the work room: settings, wires, sources, rows, marks, queue."""
+    return [3542 * n, 595 * n, 506 * n, 506 * n, 3542 * n, 506 * n, 506 * n]
+
+
+def build(lib, w, h, table, bits):
+    """The library's answer and list; the rest of what it was lent must be zeros, or as it was under grounds 1 and 2."""
+    lent = [junk(k) for k in lent_build(w * h)]
+    answer, after = lib.call('ice40_build', w, h, (U16, table), (U8, bits), *[(U16, numbers) for numbers in lent])
+    after = after[2:]
+    kept = answer[0] in (1, 2)
+    room = all(now == old if kept else not any(now) for now, old in zip(after[1:], lent[1:]))
+    return answer, after[0], lent[0], room
+
+
+def check_build(lib, count, w, h, table, bits, what=''):
+    expected = model.build(w, h, table, bits)
+    answer, after, before, room = build(lib, w, h, table, bits)
+    count.same(room, True, what + ' work room')
+    if isinstance(expected, tuple):
+        count.same((answer, after == before), (expected, True), what)
+        return None
+    rows = [number for row in expected for number in row]
+    count.same((answer, after), ((0, len(expected)), rows + [0] * (3542 * w * h - len(rows))), what)
+    return after
+
+
+def building(lib, rounds):
+    count = Count('real blocks built: every row')
+    for name, block in blocks().items():
+        check_build(lib, count, *block, name)
+    wrong = count.done()
+    count = Count("document 01's sample, with the flip-flop off, carries 0 and 2")
+    sample = os.path.join(os.path.dirname(os.path.abspath(__file__)), 'data', 'sample.in')
+    w, h, table, bits = model.parse(open(sample).read())
+    check_build(lib, count, w, h, table, bits, 'sample')
+    off = bytearray(bits)
+    off[45 // 8] &= ~(1 << 45 % 8)
+    count.same(build(lib, 1, 1, table, bytes(off))[0], (7, 0x150), 'flip-flop off')
+    carry = bytearray(108)
+    for i in (0, 2):
+        carry[model.lc(i, 8) // 8] |= 1 << model.lc(i, 8) % 8
+    count.same(build(lib, 1, 1, table, bytes(carry))[0], (6, 490), 'carry in cells 0 and 2')
+    wrong += count.done()
+    count = Count('settings changed at random: grounds 5 to 8, or every row')
+    whole = [(w, h, table, model.read(w, h, table, bits)) for w, h, table, bits in blocks().values() if w * h <= 9]
+    for _ in range(rounds):
+        w, h, table, settings = random.choice(whole)
+        settings = list(settings)
+        for _ in range(random.choice((1, 2, 4, 10))):
+            at = random.randrange(w * h) * model.SETTINGS
+            if random.random() < 0.7:
+                g = random.randrange(table[68])
+                settings[at + 67 + g] = random.choice((0, random.randint(1, table[69 + 75 * g + 10])))
+            else:
+                settings[at + 580 + 2 * random.randrange(8)] ^= random.choice((1, 1, 2, 8))
+        bits = model.write(w, h, table, settings)
+        check_build(lib, count, w, h, table, bits)
+    return wrong + count.done()
+
+
+def following(lib, rounds):
+    count = Count('drivers followed: every kind of end')
+    whole = [(w, h, table, model.read(w, h, table, bits)) for w, h, table, bits in blocks().values() if w * h <= 9]
+    for _ in range(rounds):
+        w, h, table, settings = random.choice(whole)
+        n = w * h
+        if random.random() < 0.5:
+            settings = list(settings)
+            for _ in range(random.choice((1, 3, 10))):
+                g = random.randrange(table[68])
+                settings[model.SETTINGS * random.randrange(n) + 67 + g] = random.randint(0, table[69 + 75 * g + 10])
+        block = model.Block(w, h, table, settings)
+        tile, port = random.choice(((random.randrange(n), random.randrange(506)), (random.randrange(n), random.choice((476, 478))), (n, 506), (0, 506)))
+        if block.contended:
+            expected = 5, min(block.contended)
+        elif tile >= n or port >= 506:
+            expected = 20, tile if tile >= n else port
+        else:
+            kind, wire = block.follow(block.at(tile, port))
+            expected = 0, 65536 * kind + wire
+        answer, after = lib.call('ice40_follow', w, h, (U16, table), (U16, settings), tile, port, *[(U16, junk(506 * n))] * 3)
+        count.same((answer, any(map(any, after[2:]))), (expected, False))
+    return count.done()
+
+
+def step(lib, w, h, table, settings, rows, state, before, after):
+    n = w * h
+    outputs = [junk(506 * n, 256), junk(8 * n, 256)]
+    room = [(U16, junk(506 * n))] * 3 + [(U8, junk(506 * n, 256))] * 2
+    answer, lent = lib.call('ice40_step', w, h, (U16, table), (U16, settings), (U16, rows), (U8, state), (U8, before), (U8, after),
+                            *[(U8, o) for o in outputs], *room)
+    values, new, rest = lent[6], lent[7], lent[8:]
+    return answer, values, new, outputs, not any(map(any, rest))
+
+
+def stepping(lib, rounds):
+    wrong = 0
+    for name, (w, h, table, bits) in blocks().items():
+        rows = model.build(w, h, table, bits)
+        if isinstance(rows, tuple) or w * h > 9:
+            continue
+        count = Count('%s stepped: state for state, port for port' % name)
+        n = w * h
+        settings = model.read(w, h, table, bits)
+        numbers = [number for row in rows for number in row]
+        numbers += [0] * (3542 * n - len(numbers))
+        state, lent = [0] * (8 * n), [0] * (506 * n)
+        for k in range(rounds if name in ('uart_tx_3x3', 'counter8_2x2') else rounds // 10):
+            later = [v ^ (random.random() < 0.02) for v in lent]
+            for c in range(479, 487):  # the global networks, clocks among them, move most
+                later[c] = random.randrange(2)
+            answer, values, new, _, clear = step(lib, w, h, table, settings, numbers, state, lent, later)
+            expected = model.step(w, h, settings, rows, state, lent, later)
+            count.same((answer, values, new, clear), ((0, 0), *expected, True), k)
+            lent = later
+            state = new if k % 50 else [random.randrange(2) for _ in state]
+        wrong += count.done()
+    return wrong
+
+
+def refusals(lib, rounds):
+    """Ground 12 on damaged lists, ground 10 on bytes above 1; outputs kept, work room zeroed."""
+    count = Count('lists and bytes damaged: grounds 12 and 10')
+    w, h, table, bits = blocks()['counter8_1x1']
+    settings, rows = model.read(w, h, table, bits), model.build(w, h, table, bits)
+    own = set(model.Block(w, h, table, settings).wires)
+    numbers = [number for row in rows for number in row] + [0] * (3542 - 7 * len(rows))
+
+    def bad_row(numbers):
+        seen = set()
+        for i in range(506):
+            kind, wire, *rest = row = numbers[7 * i:7 * i + 7]
+            if i >= len(own):
+                if any(row):
+                    return i
+                continue
+            reads = {5: 1, 6: 4, 7: 3}.get(kind, 0)
+            used = reads or int(kind == 4)
+            fine = (1 <= kind <= 7 and wire in own and wire not in seen and all(o in seen for o in rest[:reads]) and (kind != 4 or rest[0] < 8)
+                    and not any(rest[used:4]) and (kind == 6 or rest[4] == 0))
+            if not fine:
+                return i
+            seen.add(wire)
+        return None
+
+    for _ in range(rounds):
+        changed = list(numbers)
+        for _ in range(random.choice((1, 1, 2))):
+            changed[random.choice((random.randrange(7 * len(rows)), random.randrange(3542)))] = random.choice((0, 1, 4, 5, 7, 8, 336, 489, random.randrange(65536)))
+        lent = [[0] * 8, [0] * 506, [0] * 506]
+        if random.random() < 0.5:
+            changed = numbers
+            part = random.choice(lent)
+            part[random.randrange(len(part))] = random.choice((2, 255))
+        place = bad_row(changed)
+        joined = sum(lent, [])
+        over = [i for i, v in enumerate(joined) if v > 1]
+        answer, values, new, outputs, clear = step(lib, w, h, table, settings, changed, *lent)
+        if place is not None or over:
+            expected = (12, place) if place is not None else (10, over[0])
+            count.same((answer, values, new, clear), (expected, *outputs, True))
+        else:
+            count.same((answer, clear), ((0, 0), True))
+    return count.done()
+
+
+def main():
+    random.seed(2)
+    rounds = int(sys.argv[1]) if len(sys.argv) > 1 else 1000
+    with tempfile.TemporaryDirectory() as folder:
+        lib = Library(folder)
+        wrong = building(lib, rounds // 5) + following(lib, rounds // 2) + stepping(lib, rounds) + refusals(lib, rounds // 2)
+    print('%d differences' % wrong)
+    return wrong != 0
+
+
+if __name__ == '__main__':
+    sys.exit(main())

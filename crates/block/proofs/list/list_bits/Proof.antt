@@ -1,0 +1,199 @@
+-- `list::list_bits` meets its contract: the table keeps the rules, the bits decode, and the settings that they read to are routed. Assumes nothing.
+use Rattle.block.proofs.BuildingLaws.{bits-table, bits-undecodable, bits-list}
+use Rattle.block.proofs.RoutedLaws.{routed-of-read}
+use Rattle.block.specs.Building.{builtNumber, listAnswer}
+use Rattle.equations.specs.Settling.{blockList}
+use Rattle.equations.specs.Routed.{Routed}
+use Rattle.routing.proofs.TableCheckLaws.{table-exact}
+use Rattle.routing.specs.TableCheck.{breaks, faultyPart, partCount}
+use Rattle.routing.specs.LogicTile.{logicTile}
+use Rattle.config.specs.Blocks.{undecodableTile}
+use Rattle.fabric.proofs.BlockLaws.{tiles-le}
+use Rattle.fabric.specs.Block.{tiles}
+use Rattle.refusal.specs.Memory.{output}
+use Rattle.lists.proofs.SearchLaws.{first-le}
+use borrow.Author.Tests.{eq-eqb}
+use native.Mathlib.Omega.{arith}
+use mathlib.Core.List.{List}
+use mathlib.Core.Path.{refl, sym, ap, _∙_, subst}
+use Prim.Native.Nat.{ℕ, _+_, _≤_}
+use borrow.Author.Needs.{needs}
+use Rattle.block.proofs.list.list_bits.Statement.{statement}
+use Rattle.block.proofs.list.list_bits.Tie as tie
+
+mul-n : tie.Need-mul-n
+mul-n c =
+    let at-start = c .before .before .before .before .before .before .before .before .before .before in
+    omega (arith, tiles-le (at-start .args .b) (at-start .pre .0 .0))
+
+cast-n : tie.Need-cast-n
+cast-n c = search needs
+
+slice-aggregate-check-table : tie.Need-slice-aggregate-check-table
+slice-aggregate-check-table c = search needs
+
+check-table-requires : tie.Need-check-table-requires
+check-table-requires c κs = search needs
+
+group-count-requires : tie.Need-group-count-requires
+group-count-requires c κs = search needs
+
+add-parts : tie.Need-add-parts
+add-parts c =
+    let at-shared-slice-known = c .before .before .before .before .before .before .before .before .before .before .before .before .before in
+    omega (arith, at-shared-slice-known .shared-slice-known .given 68, c .group-count .ensures)
+
+cast-t21 : tie.Need-cast-t21
+cast-t21 c =
+    let at-check-table = c .before .before .before in
+    let at-shared-slice-known = at-check-table .before .before .before .before .before .before .before .before .before .before .before in
+    let at-start = at-shared-slice-known .before in
+    let table = at-start .args .table .now in
+    omega (arith, at-shared-slice-known .shared-slice-known .given 68, at-check-table .check-table .ensures .0, first-le (breaks logicTile table) 0 (partCount logicTile table))
+
+-- the table breaks a rule
+returns : tie.Need-returns
+returns c =
+    let at-group-count = c .before in
+    let at-check-table = at-group-count .before .before in
+    let at-start = at-check-table .before .before .before .before .before .before .before .before .before .before .before .before in
+    let B = at-start .args .b in
+    let table = at-start .args .table .now in
+    (bits-table B table (at-start .args .bits .now) _ (at-check-table .check-table .ensures .0) (λ e. c .if1 .taken (e ∙ sym (ap (λ (x : ℕ). 2 + x) (at-group-count .group-count .ensures)))), refl)
+
+slice-aggregate-undecodable-tile : tie.Need-slice-aggregate-undecodable-tile
+slice-aggregate-undecodable-tile c = search needs
+
+undecodable-tile-requires : tie.Need-undecodable-tile-requires
+undecodable-tile-requires c κs =
+    let at-if1 = c .before in
+    let at-group-count = at-if1 .before in
+    let at-check-table = at-group-count .before .before in
+    let at-start = at-check-table .before .before .before .before .before .before .before .before .before .before .before .before in
+    let table = at-start .args .table .now in
+    let B = at-start .args .b in
+    let passes = eq-eqb (faultyPart logicTile table) (partCount logicTile table) (sym (at-check-table .check-table .ensures .0) ∙ at-if1 .if1 .left ∙ ap (λ (x : ℕ). 2 + x) (at-group-count .group-count .ensures)) in
+    let rules = table-exact logicTile table (at-start .pre .0 .1) .0 passes in
+    let few = tiles-le B (at-start .pre .0 .0) in
+    (few, rules, at-check-table .check-table .ensures .1 passes, at-start .pre .0 .2)
+
+cast-t25 : tie.Need-cast-t25
+cast-t25 c =
+    let at-start = c .before .before .before .before .before .before .before .before .before .before .before .before .before .before .before .before .before .before in
+    omega (arith, tiles-le (at-start .args .b) (at-start .pre .0 .0))
+
+-- a tile cannot be decoded
+returns-2 : tie.Need-returns-2
+returns-2 c =
+    let at-undecodable-tile = c .before in
+    let at-if1 = at-undecodable-tile .before .before in
+    let at-group-count = at-if1 .before in
+    let at-check-table = at-group-count .before .before in
+    let at-start = at-check-table .before .before .before .before .before .before .before .before .before .before .before .before in
+    let table = at-start .args .table .now in
+    let B = at-start .args .b in
+    let bits = at-start .args .bits .now in
+    let passes = eq-eqb (faultyPart logicTile table) (partCount logicTile table) (sym (at-check-table .check-table .ensures .0) ∙ at-if1 .if1 .left ∙ ap (λ (x : ℕ). 2 + x) (at-group-count .group-count .ensures)) in
+    let rules = table-exact logicTile table (at-start .pre .0 .1) .0 passes in
+    let few = tiles-le B (at-start .pre .0 .0) in
+    (bits-undecodable B table bits passes _ (at-undecodable-tile .undecodable-tile .ensures) (c .if2 .taken), refl)
+
+decode-block-requires : tie.Need-decode-block-requires
+decode-block-requires c κs =
+    let at-if1 = c .before .before .before .before in
+    let at-group-count = at-if1 .before in
+    let at-check-table = at-group-count .before .before in
+    let at-start = at-check-table .before .before .before .before .before .before .before .before .before .before .before .before in
+    let table = at-start .args .table .now in
+    let B = at-start .args .b in
+    let passes = eq-eqb (faultyPart logicTile table) (partCount logicTile table) (sym (at-check-table .check-table .ensures .0) ∙ at-if1 .if1 .left ∙ ap (λ (x : ℕ). 2 + x) (at-group-count .group-count .ensures)) in
+    let rules = table-exact logicTile table (at-start .pre .0 .1) .0 passes in
+    let few = tiles-le B (at-start .pre .0 .0) in
+    (few, rules, at-start .pre .0 .2, at-start .pre .0 .3)
+
+list-settings-requires : tie.Need-list-settings-requires
+list-settings-requires c κs =
+    let at-decode-block = c .before .before .before .before .before .before .before .before .before in
+    let at-if2 = at-decode-block .before .before in
+    let at-undecodable-tile = at-if2 .before in
+    let at-if1 = at-undecodable-tile .before .before in
+    let at-group-count = at-if1 .before in
+    let at-check-table = at-group-count .before .before in
+    let at-start = at-check-table .before .before .before .before .before .before .before .before .before .before .before .before in
+    let table = at-start .args .table .now in
+    let B = at-start .args .b in
+    let bits = at-start .args .bits .now in
+    let passes = eq-eqb (faultyPart logicTile table) (partCount logicTile table) (sym (at-check-table .check-table .ensures .0) ∙ at-if1 .if1 .left ∙ ap (λ (x : ℕ). 2 + x) (at-group-count .group-count .ensures)) in
+    let rules = table-exact logicTile table (at-start .pre .0 .1) .0 passes in
+    let few = tiles-le B (at-start .pre .0 .0) in
+    let pass : tiles B ≤ undecodableTile table bits (tiles B) = omega (arith, at-undecodable-tile .undecodable-tile .ensures, at-if2 .if2 .left) in
+    (subst (λ (s : List ℕ). Routed B table s) (sym (at-decode-block .decode-block .ensures)) (routed-of-read B table bits (at-start .pre .0 .0) rules pass), at-start .pre .1)
+
+same-length : tie.Need-same-length
+same-length c = search needs
+
+same-length-2 : tie.Need-same-length-2
+same-length-2 c = search needs
+
+same-length-3 : tie.Need-same-length-3
+same-length-3 c = search needs
+
+same-length-4 : tie.Need-same-length-4
+same-length-4 c = search needs
+
+same-length-5 : tie.Need-same-length-5
+same-length-5 c = search needs
+
+same-length-6 : tie.Need-same-length-6
+same-length-6 c = search needs
+
+same-length-7 : tie.Need-same-length-7
+same-length-7 c = search needs
+
+-- the answer for the settings that were read
+returns-3 : tie.Need-returns-3
+returns-3 c =
+    let at-list-settings = c .before .before .before .before .before .before .before .before .before .before .before .before in
+    let at-decode-block = at-list-settings .before .before .before .before .before .before .before .before .before .before in
+    let at-if2 = at-decode-block .before .before in
+    let at-undecodable-tile = at-if2 .before in
+    let at-if1 = at-undecodable-tile .before .before in
+    let at-group-count = at-if1 .before in
+    let at-check-table = at-group-count .before .before in
+    let at-start = at-check-table .before .before .before .before .before .before .before .before .before .before .before .before in
+    let table = at-start .args .table .now in
+    let B = at-start .args .b in
+    let bits = at-start .args .bits .now in
+    let list = at-start .args .list .now in
+    let passes = eq-eqb (faultyPart logicTile table) (partCount logicTile table) (sym (at-check-table .check-table .ensures .0) ∙ at-if1 .if1 .left ∙ ap (λ (x : ℕ). 2 + x) (at-group-count .group-count .ensures)) in
+    let rules = table-exact logicTile table (at-start .pre .0 .1) .0 passes in
+    let few = tiles-le B (at-start .pre .0 .0) in
+    let pass : tiles B ≤ undecodableTile table bits (tiles B) = omega (arith, at-undecodable-tile .undecodable-tile .ensures, at-if2 .if2 .left) in
+    (at-list-settings .list-settings .ensures .0 ∙ ap (listAnswer B table) (at-decode-block .decode-block .ensures) ∙ bits-list B table bits passes pass, at-list-settings .list-settings .ensures .1 ∙ ap (λ (s : List ℕ). output (builtNumber (at-list-settings .list-settings .result)) list (blockList B table s)) (at-decode-block .decode-block .ensures))
+
+pub list-bits-spec : {M : Type 1} → statement M
+list-bits-spec =
+    tie.close
+    (tie.spec
+    mul-n
+    cast-n
+    slice-aggregate-check-table
+    check-table-requires
+    group-count-requires
+    add-parts
+    cast-t21
+    returns
+    slice-aggregate-undecodable-tile
+    undecodable-tile-requires
+    cast-t25
+    returns-2
+    decode-block-requires
+    list-settings-requires
+    same-length
+    same-length-2
+    same-length-3
+    same-length-4
+    same-length-5
+    same-length-6
+    same-length-7
+    returns-3)

@@ -1,0 +1,142 @@
+// The checks of building once the lengths are exact, in their order, and the list, which is written after every check.
+ghost use mathlib.Core.Path.{_≡_};
+ghost use Prim.Native.Nat.{_*_, _≤_};
+ghost use lib.ListN.{length};
+ghost use Rattle.refusal.specs.Memory.{output};
+ghost use Rattle.fabric.specs.Block.{Sized, tiles, ports};
+ghost use Rattle.routing.specs.LogicTile.{logicTile};
+ghost use Rattle.routing.specs.Table.{tableLength};
+ghost use Rattle.codec.specs.Bits.{tileBytes};
+ghost use Rattle.codec.specs.Settings.{settingsLength};
+ghost use Rattle.config.specs.Blocks.{decoded};
+ghost use Rattle.equations.specs.Routed.{Routed};
+ghost use Rattle.equations.specs.Sources.{wiresOf, sourcesOf, contendedWire};
+ghost use Rattle.equations.specs.WireRows.{wireRows};
+ghost use Rattle.equations.specs.Settling.{blockList};
+ghost use Rattle.drivers.specs.CarryReads.{carryReadWire};
+ghost use Rattle.block.specs.Lengths.{RoomLong};
+ghost use Rattle.block.specs.Building.{builtNumber, listAnswer, bitsAnswer};
+use crate::Built;
+use fabric::Block;
+use netlist::schedule::Scheduled;
+use refusal::Refusal;
+
+// Grounds 7 and 8 of a block that passed those before, from its rows, and the list.
+fn list_rows(
+    b: Block,
+    table: &[u16],
+    st: &[u16],
+    wires: &[u16],
+    sources: &[u16],
+    rows: &[u16],
+    list: &mut [u16],
+    marks: &mut [u16],
+    queue: &mut [u16],
+) -> Built
+    requires { ⌜ Routed b (now table) (now st) × (ports b ≤ contendedWire b (now table) (now st)) × (ports b ≤ carryReadWire b (now table) (now st)) ⌝ }
+    requires { ⌜ (now wires ≡ wiresOf b) × (now sources ≡ sourcesOf b (now table) (now st)) × (now rows ≡ wireRows b (now table) (now st)) ⌝ }
+    requires { ⌜ RoomLong (tiles b) (length (now list)) (length (now wires)) (length (now sources)) (length (now rows)) (length (now marks)) (length (now queue)) ⌝ }
+    ensures answer { λ r. ⌜ r ≡ listAnswer b (now (table .entry)) (now (st .entry)) ⌝ }
+    ensures list { λ r. ⌜ now (list .exit) ≡ output (builtNumber r) (now (list .entry)) (blockList b (now (table .entry)) (now (st .entry))) ⌝ }
+{
+    let n = wires.len();
+    let tiles = (b.h * b.w) as usize;
+    let s = netlist::schedule::schedule(rows, marks, queue);
+    match s {
+        Scheduled::Loop(wire) => Built::Refused(Refusal::Loop(wire as u32)),
+        Scheduled::Listed(count) => {
+            let clocked = drivers::clocks::clocked_tile(b, st, wires, sources, marks);
+            if clocked < tiles {
+                return Built::Refused(Refusal::CellClock(clocked as u32));
+            }
+            netlist::schedule::write_list(rows, queue, count, n, list);
+            Built::Listed(count as u32)
+        }
+    }
+}
+
+// Grounds 6 to 8 of a block without contention, and the list.
+fn list_sources(
+    b: Block,
+    table: &[u16],
+    st: &[u16],
+    wires: &[u16],
+    sources: &[u16],
+    list: &mut [u16],
+    rows: &mut [u16],
+    marks: &mut [u16],
+    queue: &mut [u16],
+) -> Built
+    requires { ⌜ Routed b (now table) (now st) × (ports b ≤ contendedWire b (now table) (now st)) ⌝ }
+    requires { ⌜ (now wires ≡ wiresOf b) × (now sources ≡ sourcesOf b (now table) (now st)) ⌝ }
+    requires { ⌜ RoomLong (tiles b) (length (now list)) (length (now wires)) (length (now sources)) (length (now rows)) (length (now marks)) (length (now queue)) ⌝ }
+    ensures answer { λ r. ⌜ r ≡ listAnswer b (now (table .entry)) (now (st .entry)) ⌝ }
+    ensures list { λ r. ⌜ now (list .exit) ≡ output (builtNumber r) (now (list .entry)) (blockList b (now (table .entry)) (now (st .entry))) ⌝ }
+{
+    let n = wires.len();
+    equations::rows::write_rows(b, st, wires, sources, rows);
+    let carry = drivers::carry::carry_read_wire(b, table, st, rows);
+    if carry < n {
+        return Built::Refused(Refusal::DisabledCarry(carry as u32));
+    }
+    list_rows(b, table, st, wires, sources, rows, list, marks, queue)
+}
+
+// Grounds 5 to 8 of settings that were read, and the list.
+pub fn list_settings(
+    b: Block,
+    table: &[u16],
+    st: &[u16],
+    list: &mut [u16],
+    wires: &mut [u16],
+    sources: &mut [u16],
+    rows: &mut [u16],
+    marks: &mut [u16],
+    queue: &mut [u16],
+) -> Built
+    requires { ⌜ Routed b (now table) (now st) ⌝ }
+    requires { ⌜ RoomLong (tiles b) (length (now list)) (length (now wires)) (length (now sources)) (length (now rows)) (length (now marks)) (length (now queue)) ⌝ }
+    ensures answer { λ r. ⌜ r ≡ listAnswer b (now (table .entry)) (now (st .entry)) ⌝ }
+    ensures list { λ r. ⌜ now (list .exit) ≡ output (builtNumber r) (now (list .entry)) (blockList b (now (table .entry)) (now (st .entry))) ⌝ }
+{
+    let n = wires.len();
+    equations::wires::fill_wires(b, wires);
+    let contended = drivers::sources::find_sources(b, table, st, wires, sources);
+    if contended < n {
+        return Built::Refused(Refusal::Contention(contended as u32));
+    }
+    list_sources(b, table, st, wires, sources, list, rows, marks, queue)
+}
+
+// Grounds 3 to 8 of bits, and the list.
+pub fn list_bits(
+    b: Block,
+    table: &[u16],
+    bits: &[u8],
+    list: &mut [u16],
+    settings: &mut [u16],
+    wires: &mut [u16],
+    sources: &mut [u16],
+    rows: &mut [u16],
+    marks: &mut [u16],
+    queue: &mut [u16],
+) -> Built
+    requires { ⌜ Sized b × (length (now table) ≡ tableLength logicTile) × (length (now bits) ≡ tileBytes * tiles b) × (length (now settings) ≡ settingsLength logicTile * tiles b) ⌝ }
+    requires { ⌜ RoomLong (tiles b) (length (now list)) (length (now wires)) (length (now sources)) (length (now rows)) (length (now marks)) (length (now queue)) ⌝ }
+    ensures answer { λ r. ⌜ r ≡ bitsAnswer b (now (table .entry)) (now (bits .entry)) ⌝ }
+    ensures list { λ r. ⌜ now (list .exit) ≡ output (builtNumber r) (now (list .entry)) (blockList b (now (table .entry)) (decoded (now (table .entry)) (now (bits .entry)) (tiles b))) ⌝ }
+{
+    let n = (b.h * b.w) as usize;
+    let mut own = [0u16; 864];
+    let part = routing::rules::check_table(table, &mut own);
+    let parts = 2 + routing::table::group_count(table);
+    if part != parts {
+        return Built::Refused(Refusal::Table(part as u32));
+    }
+    let tile = config::blocks::undecodable_tile(table, &own, bits, n);
+    if tile < n {
+        return Built::Refused(Refusal::Undecodable(tile as u32));
+    }
+    config::blocks::decode_block(table, bits, settings, n);
+    list_settings(b, table, settings, list, wires, sources, rows, marks, queue)
+}

@@ -19,14 +19,10 @@ use Rattle.block.specs.declared.Followed.{Followed}
 use Rattle.block.specs.declared.Followed.the-variants.{Driven, Refused}
 use Rattle.block.specs.Building.{none}
 
--- the paper's number of an answer, 0 for a yes, and what comes with a no
+-- the paper's number of an answer, 0 for a yes
 abbrev pub followedNumber : Followed → ℕ
 followedNumber (Driven driver) = 0
 followedNumber (Refused refusal) = numberOf refusal
-
-abbrev pub followedPlace : Followed → ℕ
-followedPlace (Driven driver) = 0
-followedPlace (Refused refusal) = placeOf refusal
 
 -- "ends at an open wire, a constant, a cell, or reports a ring": 1 open, 2 and 3 the constants 0 and 1, 4 a cell, 5 a ring
 abbrev pub driverKind : Driver → ℕ
@@ -42,6 +38,11 @@ driverWire (Open u) = u
 driverWire (Constant u b) = u
 driverWire (Cell u) = u
 driverWire (Ring u) = u
+
+-- what comes with an answer: that wire, or the place of a no
+abbrev pub followedValue : Followed → ℕ
+followedValue (Driven driver) = driverWire driver
+followedValue (Refused refusal) = placeOf refusal
 
 -- grounds 5 and 20, of settings that some bits have
 unfoldable pub portAnswer : Block → List ℕ → List ℕ → ℕ → ℕ → Followed

@@ -20,6 +20,7 @@ use crate::Built;
 use fabric::Block;
 use netlist::schedule::Scheduled;
 use refusal::Refusal;
+use routing::table::POSITIONS;
 
 // Grounds 7 and 8 of a block that passed those before, from its rows, and the list.
 fn list_rows(
@@ -127,7 +128,7 @@ pub fn list_bits(
     ensures list { λ r. ⌜ now (list .exit) ≡ output (builtNumber r) (now (list .entry)) (blockList b (now (table .entry)) (decoded (now (table .entry)) (now (bits .entry)) (tiles b))) ⌝ }
 {
     let n = (b.h * b.w) as usize;
-    let mut own = [0u16; 864];
+    let mut own = [0u16; POSITIONS];
     let part = routing::rules::check_table(table, &mut own);
     let parts = 2 + routing::table::group_count(table);
     if part != parts {

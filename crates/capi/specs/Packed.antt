@@ -1,5 +1,13 @@
 -- An answer as one 64-bit number: the ground's number times 2 ^ 32 plus its place, or the value of a yes, whose number is 0.
 use Prim.Native.Nat.{ℕ, _+_, _*_, _/_, _^_}
+use Rattle.refusal.specs.declared.Answer.{Answer}
+use Rattle.refusal.specs.Grounds.{placeOf, answerNumber, answerValue}
+use Rattle.drivers.specs.declared.follow.Driver.{Driver}
+use Rattle.block.specs.declared.Built.{Built}
+use Rattle.block.specs.declared.Followed.{Followed}
+use Rattle.block.specs.declared.Followed.the-variants.{Driven, Refused}
+use Rattle.block.specs.Building.{builtNumber, builtValue}
+use Rattle.block.specs.Drivers.{followedNumber, driverKind, driverWire}
 
 abbrev pub packed : ℕ → ℕ → ℕ
 packed number value = number * 2 ^ 32 + value
@@ -7,3 +15,21 @@ packed number value = number * 2 ^ 32 + value
 -- the ground of such a number, 0 for a yes: what lent memory hangs on
 abbrev pub groundIn : ℕ → ℕ
 groundIn answer = answer / 2 ^ 32
+
+abbrev pub packedAnswer : Answer → ℕ
+packedAnswer answer = packed (answerNumber answer) (answerValue answer)
+
+-- the value of building is the row count
+abbrev pub packedBuilt : Built → ℕ
+packedBuilt answer = packed (builtNumber answer) (builtValue answer)
+
+-- the value of following is 65,536 times 1 open, 2 zero, 3 one, 4 cell, 5 ring, plus the wire
+abbrev pub driverCode : Driver → ℕ
+driverCode driver = driverKind driver * 2 ^ 16 + driverWire driver
+
+abbrev pub followedValue : Followed → ℕ
+followedValue (Driven driver) = driverCode driver
+followedValue (Refused refusal) = placeOf refusal
+
+abbrev pub packedFollowed : Followed → ℕ
+packedFollowed answer = packed (followedNumber answer) (followedValue answer)

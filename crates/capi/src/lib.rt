@@ -11,6 +11,7 @@ use cell::logic::Looked;
 use fabric::WireNumber;
 
 pub mod blocks;
+pub mod circuits;
 pub mod pack;
 
 // The number of the wire that a port of a tile is on, in a block of w by h tiles. Grounds 1 and 20.

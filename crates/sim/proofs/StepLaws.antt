@@ -1,0 +1,146 @@
+-- What a step answers, one law a ground, and what a yes shows. Main laws: `run-row`, `run-byte`, `run-done`, `run-shows`; `inputs-table`,
+-- `inputs-settings`, `inputs-run`, `inputs-shows`; `step-size`, `step-length`, `step-inputs`; `room-cleared`.
+use Prim.Native.Nat.{ℕ, _*_, _<_, _≤_}
+use mathlib.Core.Path.{_≡_, refl, sym, _∙_, ap}
+use mathlib.Core.Bool.{Bool, true, false}
+use mathlib.Core.Logic.{⊎-elim}
+use mathlib.Core.List.{List, _++_}
+use native.Mathlib.Omega.{arith}
+use borrow.Author.Tests.{le-leb, lt-leb}
+use lib.Dec.{leb}
+use lib.ListN.{length}
+use Rattle.lists.specs.Tables.{zeros}
+use Rattle.lists.proofs.CaseLaws.{cases, lt-or-le}
+use Rattle.refusal.specs.Grounds.{unless, answerNumber}
+use Rattle.refusal.specs.Memory.{workRoom}
+use Rattle.refusal.specs.declared.Refusal.{Refusal}
+use Rattle.refusal.specs.declared.Refusal.the-variants.{Size, Length, Table, NoSuchSettings, NotABit, Row}
+use Rattle.refusal.specs.declared.Answer.{Answer}
+use Rattle.refusal.specs.declared.Answer.the-variants.{Done, Refused}
+use Rattle.fabric.specs.declared.Block.{Block}
+use Rattle.fabric.specs.Block.{block, tiles, ports, sized}
+use Rattle.netlist.specs.Rows.{rowLength}
+use Rattle.netlist.specs.Running.{Bits}
+use Rattle.netlist.proofs.CheckingLaws.{first-bad-exact}
+use Rattle.routing.specs.LogicTile.{logicTile}
+use Rattle.routing.specs.TableCheck.{faultyPart, tableOk}
+use Rattle.config.specs.Blocks.{bitlessTile}
+use Rattle.sim.specs.Settling.{wireMarks, badRow, Runnable}
+use Rattle.sim.specs.Stepping.{badByte, runAnswer, inputsAnswer, stepAnswer}
+use Rattle.sim.proofs.SettledLaws.{marks-length}
+use Rattle.sim.proofs.ByteLaws.{bits-of-joined}
+
+pub never-done : (q : Refusal) → Refused q ≡ Done → ⊥
+never-done q e = let z : _≡_ {A = ℕ} 0 1 = cc in omega arith
+
+-- ---- grounds 12 and 10
+
+module _ (B : Block) (list state before after : List ℕ) where
+  abbrev joined : List ℕ
+  joined = state ++ before ++ after
+
+  pub bad-row-le : badRow B list ≤ ports B
+  bad-row-le = let l = first-bad-exact list (8 * tiles B) (wireMarks B) .within in let n = marks-length B in omega arith
+
+  pub run-row : badRow B list < ports B → Refused (Row (badRow B list)) ≡ runAnswer B list state before after
+  unfolding runAnswer
+  run-row l = rw (lt-leb _ _ l)
+
+  module _ (stands : ports B ≤ badRow B list) where
+    pub run-byte : badByte joined < length joined
+        → Refused (NotABit (badByte joined)) ≡ runAnswer B list state before after
+    unfolding runAnswer
+    run-byte l = rw (le-leb _ _ stands, lt-leb _ _ l)
+
+    pub run-done : length joined ≤ badByte joined → Done ≡ runAnswer B list state before after
+    unfolding runAnswer
+    run-done l = rw (le-leb _ _ stands, le-leb _ _ l)
+
+  module _ (done : runAnswer B list state before after ≡ Done) where
+    run-passed : badRow B list ≡ ports B
+    run-passed =
+        let a = bad-row-le in
+        ⊎-elim (λ (l : badRow B list < ports B). absurd (never-done _ (run-row l ∙ done))) (λ (l : ports B ≤ badRow B list). omega arith)
+        (lt-or-le (badRow B list) (ports B))
+
+    run-bits : Bits state × Bits before × Bits after
+    run-bits =
+        let p = run-passed in
+        ⊎-elim (λ (l : badByte joined < length joined). absurd (never-done _ (run-byte (omega arith) l ∙ done)))
+        (λ (l : length joined ≤ badByte joined). bits-of-joined state before after l) (lt-or-le (badByte joined) (length joined))
+
+    -- a yes: the list can be run on before and on after
+    pub run-shows : length list ≡ rowLength * ports B → length state ≡ 8 * tiles B → length before ≡ ports B → length after ≡ ports B
+        → Runnable B list state before × Runnable B list state after
+    run-shows el es eb ea = (
+      record { list-long = el; passed = run-passed; state-long = es; state-bits = run-bits .0; lent-long = eb; lent-bits = run-bits .1 },
+      record { list-long = el; passed = run-passed; state-long = es; state-bits = run-bits .0; lent-long = ea; lent-bits = run-bits .2 },
+    )
+
+-- ---- grounds 3 and 9
+
+module _ (B : Block) (t st list state before after : List ℕ) where
+  pub inputs-table : tableOk logicTile t ≡ false → Refused (Table (faultyPart logicTile t)) ≡ inputsAnswer B t st list state before after
+  unfolding inputsAnswer
+  inputs-table e = rw e
+
+  module _ (kept : tableOk logicTile t ≡ true) where
+    pub inputs-settings : bitlessTile t st (tiles B) < tiles B
+        → Refused (NoSuchSettings (bitlessTile t st (tiles B))) ≡ inputsAnswer B t st list state before after
+    unfolding inputsAnswer
+    inputs-settings l = rw (kept, lt-leb _ _ l)
+
+    pub inputs-run : tiles B ≤ bitlessTile t st (tiles B) → runAnswer B list state before after ≡ inputsAnswer B t st list state before after
+    unfolding inputsAnswer
+    inputs-run l = rw (kept, le-leb _ _ l)
+
+  pub inputs-shows : inputsAnswer B t st list state before after ≡ Done
+      → (tableOk logicTile t ≡ true) × (tiles B ≤ bitlessTile t st (tiles B)) × (runAnswer B list state before after ≡ Done)
+  inputs-shows e = ⊎-elim ok (λ (f : tableOk logicTile t ≡ false). absurd (never-done _ (inputs-table f ∙ e))) (cases (tableOk logicTile t))
+    where
+      ok : tableOk logicTile t ≡ true → (tableOk logicTile t ≡ true) × (tiles B ≤ bitlessTile t st (tiles B)) × (runAnswer B list state before after ≡ Done)
+      ok k =
+          ⊎-elim (λ (l : bitlessTile t st (tiles B) < tiles B). absurd (never-done _ (inputs-settings k l ∙ e)))
+          (λ (l : tiles B ≤ bitlessTile t st (tiles B)). (k, l, inputs-run k l ∙ e)) (lt-or-le (bitlessTile t st (tiles B)) (tiles B))
+
+-- ---- grounds 1 and 2
+
+module _ (w h : ℕ) (t st list state before after : List ℕ) where
+  pub step-size : (lengths : Bool) → sized (block w h) ≡ false → Refused Size ≡ stepAnswer w h t st list state before after lengths
+  unfolding stepAnswer
+  step-size lengths e = rw e
+
+  pub step-length : (lengths : Bool) → sized (block w h) ≡ true → lengths ≡ false → Refused Length ≡ stepAnswer w h t st list state before after lengths
+  unfolding stepAnswer
+  step-length lengths e l = rw (e, l)
+
+  pub step-inputs : (lengths : Bool) → sized (block w h) ≡ true → lengths ≡ true
+      → inputsAnswer (block w h) t st list state before after ≡ stepAnswer w h t st list state before after lengths
+  unfolding stepAnswer
+  step-inputs lengths e l = rw (e, l)
+
+-- ---- memory
+
+-- the work room is zeroed under every ground but 1 and 2, and on a yes
+abbrev Zeroed : Answer → Type 0
+Zeroed a = (old : List ℕ) → workRoom (answerNumber a) old ≡ zeros (length old)
+
+zeroed : (a b c d : Bool) (part tile row index : ℕ)
+    → Zeroed (unless a (Refused (Table part)) (unless b (Refused (NoSuchSettings tile)) (unless c (Refused (Row row)) (unless d (Refused (NotABit index)) Done))))
+zeroed false b c d part tile row index old = refl
+zeroed true false c d part tile row index old = refl
+zeroed true true false d part tile row index old = refl
+zeroed true true true false part tile row index old = refl
+zeroed true true true true part tile row index old = refl
+
+inputs-zeroed : (B : Block) (t st list state before after : List ℕ) → Zeroed (inputsAnswer B t st list state before after)
+unfolding inputsAnswer runAnswer
+inputs-zeroed B t st list state before after =
+    zeroed (tableOk logicTile t) (leb (tiles B) (bitlessTile t st (tiles B))) (leb (ports B) (badRow B list))
+    (leb (length (joined B list state before after)) (badByte (joined B list state before after))) _ _ _ _
+
+-- a part of the work room of which the length is the old one, cleared
+pub room-cleared : (B : Block) (t st list state before after old : List ℕ) (a : Answer) (n : ℕ) → a ≡ inputsAnswer B t st list state before after
+    → n ≡ length old → zeros n ≡ workRoom (answerNumber a) old
+room-cleared B t st list state before after old a n e l =
+    ap zeros l ∙ sym (ap (λ (x : Answer). workRoom (answerNumber x) old) e ∙ inputs-zeroed B t st list state before after old)

@@ -1,0 +1,72 @@
+-- `checked::write_step` meets its contract: both runs have the old state, and clock and values take them as they are. Assumes nothing.
+use Prim.Native.Nat.{ℕ}
+use mathlib.Core.List.{List}
+use mathlib.Core.Path.{sym, _∙_, ap, ap₂, subst}
+use Rattle.sim.proofs.SettledLaws.{settled-bits}
+use Rattle.sim.specs.Clocking.{nextStates}
+use Rattle.sim.specs.Settling.{portValues, PortBits}
+use borrow.Author.Needs.{needs}
+use Rattle.sim.proofs.checked.write_step.Statement.{statement}
+use Rattle.sim.proofs.checked.write_step.Tie as tie
+
+settle-requires : tie.Need-settle-requires
+settle-requires c κs = search needs
+
+settle-requires-2 : tie.Need-settle-requires-2
+settle-requires-2 c κs = search needs
+
+write-values-requires : tie.Need-write-values-requires
+write-values-requires c κs = search needs
+
+clock-requires : tie.Need-clock-requires
+clock-requires c κs =
+    let at-settle2 = c .before .before .before .before .before .before .before .before .before .before in
+    let at-settle = at-settle2 .before .before .before .before in
+    let at-start = at-settle .before .before .before .before .before .before .before .before .before .before .before .before .before in
+    let a = at-start .args in (
+      at-start .pre .0,
+      at-settle .settle .kept .1 .1 .1 .1 .1 .0 ∙ at-start .pre .6,
+      subst (λ (v : List ℕ). PortBits (a .b) v) (sym (at-settle .settle .ensures)) (settled-bits (a .b) (a .list .now) (a .state .now) (a .before .now) (at-start .pre .2)),
+      at-settle2 .settle2 .kept .1 .1 .1 .1 .1 .0 ∙ at-start .pre .7,
+      at-start .pre .2 .state-long,
+      at-start .pre .5,
+    )
+
+same-length : tie.Need-same-length
+same-length c = search needs
+
+same-length-2 : tie.Need-same-length-2
+same-length-2 c = search needs
+
+same-length-3 : tie.Need-same-length-3
+same-length-3 c = search needs
+
+same-length-4 : tie.Need-same-length-4
+same-length-4 c = search needs
+
+returns : tie.Need-returns
+returns c =
+    let at-clock = c .before .before in
+    let at-write-values = at-clock .before .before .before .before .before .before in
+    let at-settle2 = at-write-values .before .before .before .before .before in
+    let at-settle = at-settle2 .before .before .before .before in
+    let at-start = at-settle .before .before .before .before .before .before .before .before .before .before .before .before .before in
+    let a = at-start .args in (
+      at-write-values .write-values .ensures ∙ ap (portValues (a .b)) (at-settle .settle .ensures),
+      at-clock .clock .ensures
+          ∙ ap₂ (λ (f s : List ℕ). nextStates (a .b) (a .settings .now) f s (a .state .now)) (at-settle .settle .ensures) (at-settle2 .settle2 .ensures),
+    )
+
+pub write-step-spec : {M : Type 1} → statement M
+write-step-spec =
+    tie.close
+    (tie.spec
+    settle-requires
+    settle-requires-2
+    write-values-requires
+    clock-requires
+    same-length
+    same-length-2
+    same-length-3
+    same-length-4
+    returns)

@@ -1,0 +1,178 @@
+-- `step` meets its contract: grounds 1 and 2 leave everything, every later answer clears the work room. Assumes nothing.
+use mathlib.Core.Bool.{true}
+use mathlib.Core.Path.{_≡_, refl, sym, _∙_}
+use native.Mathlib.Omega.{arith}
+use Rattle.fabric.proofs.BlockLaws.{sized-exact, tiles-le}
+use Rattle.fabric.specs.Block.{block, sized}
+use Rattle.sim.proofs.StepLaws.{step-size, step-length, step-inputs, room-cleared}
+use borrow.Author.Tests.{not-true, not-false}
+use borrow.Author.Needs.{needs}
+use Rattle.sim.proofs.step.Statement.{statement}
+use Rattle.sim.proofs.step.Tie as tie
+
+is-sized-requires : tie.Need-is-sized-requires
+is-sized-requires c κs = search needs
+
+returns : tie.Need-returns
+returns c =
+    let at-is-sized = c .before in (
+      step-size _ _ _ _ _ _ _ _ _ (sym (at-is-sized .is-sized .ensures) ∙ not-true _ (c .if1 .taken)),
+      (refl, (refl, (refl, (refl, (refl, (refl, refl)))))),
+    )
+
+mul-n : tie.Need-mul-n
+mul-n c =
+    let at-is-sized = c .before in
+    let at-start = at-is-sized .before .before .before .before .before .before .before .before .before .before .before .before .before .before in
+    let a = at-start .args in
+    let is : sized (block (a .w) (a .h)) ≡ true = sym (at-is-sized .is-sized .ensures) ∙ not-false _ (c .if1 .left) in
+    let size = sized-exact (block (a .w) (a .h)) .0 is in
+    let few = tiles-le (block (a .w) (a .h)) size in
+    omega arith
+
+cast-n : tie.Need-cast-n
+cast-n c =
+    let at-is-sized = c .before in
+    let at-start = at-is-sized .before .before .before .before .before .before .before .before .before .before .before .before .before .before in
+    let a = at-start .args in
+    let is : sized (block (a .w) (a .h)) ≡ true = sym (at-is-sized .is-sized .ensures) ∙ not-false _ (c .if1 .left) in
+    let size = sized-exact (block (a .w) (a .h)) .0 is in
+    let few = tiles-le (block (a .w) (a .h)) size in
+    omega arith
+
+step-lengths-requires : tie.Need-step-lengths-requires
+step-lengths-requires c κs =
+    let at-is-sized = c .before in
+    let at-start = at-is-sized .before .before .before .before .before .before .before .before .before .before .before .before .before .before in
+    let a = at-start .args in
+    let is : sized (block (a .w) (a .h)) ≡ true = sym (at-is-sized .is-sized .ensures) ∙ not-false _ (c .if1 .left) in
+    let size = sized-exact (block (a .w) (a .h)) .0 is in
+    tiles-le (block (a .w) (a .h)) size
+
+returns-2 : tie.Need-returns-2
+returns-2 c =
+    let at-step-lengths = c .before in
+    let at-if1 = at-step-lengths .before in
+    let at-is-sized = at-if1 .before in
+    let at-start = at-is-sized .before .before .before .before .before .before .before .before .before .before .before .before .before .before in
+    let a = at-start .args in
+    let is : sized (block (a .w) (a .h)) ≡ true = sym (at-is-sized .is-sized .ensures) ∙ not-false _ (at-if1 .if1 .left) in (
+      step-length _ _ _ _ _ _ _ _ _ is (sym (at-step-lengths .step-lengths .ensures .0) ∙ not-true _ (c .if2 .taken)),
+      (refl, (refl, (refl, (refl, (refl, (refl, refl)))))),
+    )
+
+step-checked-requires : tie.Need-step-checked-requires
+step-checked-requires c κs =
+    let at-if2 = c .before .before .before .before .before .before .before in
+    let at-step-lengths = at-if2 .before in
+    let at-if1 = at-step-lengths .before in
+    let at-is-sized = at-if1 .before in
+    let at-start = at-is-sized .before .before .before .before .before .before .before .before .before .before .before .before .before .before in
+    let a = at-start .args in
+    let is : sized (block (a .w) (a .h)) ≡ true = sym (at-is-sized .is-sized .ensures) ∙ not-false _ (at-if1 .if1 .left) in
+    let size = sized-exact (block (a .w) (a .h)) .0 is in
+    let long = at-step-lengths .step-lengths .ensures .1 (not-false _ (at-if2 .if2 .left)) in
+    (size, long .0, long .1)
+
+clear-requires : tie.Need-clear-requires
+clear-requires c κs = search needs
+
+clear-requires-2 : tie.Need-clear-requires-2
+clear-requires-2 c κs = search needs
+
+clear-requires-3 : tie.Need-clear-requires-3
+clear-requires-3 c κs = search needs
+
+clear-bytes-requires : tie.Need-clear-bytes-requires
+clear-bytes-requires c κs = search needs
+
+clear-bytes-requires-2 : tie.Need-clear-bytes-requires-2
+clear-bytes-requires-2 c κs = search needs
+
+same-length : tie.Need-same-length
+same-length c = search needs
+
+same-length-2 : tie.Need-same-length-2
+same-length-2 c = search needs
+
+same-length-3 : tie.Need-same-length-3
+same-length-3 c = search needs
+
+same-length-4 : tie.Need-same-length-4
+same-length-4 c = search needs
+
+same-length-5 : tie.Need-same-length-5
+same-length-5 c = search needs
+
+same-length-6 : tie.Need-same-length-6
+same-length-6 c = search needs
+
+same-length-7 : tie.Need-same-length-7
+same-length-7 c = search needs
+
+returns-3 : tie.Need-returns-3
+returns-3 c =
+    let at-clear-bytes2 = c .before .before in
+    let at-clear-bytes = at-clear-bytes2 .before .before .before .before in
+    let at-clear3 = at-clear-bytes .before .before .before .before in
+    let at-clear2 = at-clear3 .before .before .before .before in
+    let at-clear = at-clear2 .before .before .before .before in
+    let at-step-checked = at-clear .before .before .before .before .before .before .before .before .before .before .before .before .before .before .before .before in
+    let at-if2 = at-step-checked .before .before .before .before .before .before .before .before in
+    let at-step-lengths = at-if2 .before in
+    let at-if1 = at-step-lengths .before in
+    let at-is-sized = at-if1 .before in
+    let at-start = at-is-sized .before .before .before .before .before .before .before .before .before .before .before .before .before .before in
+    let a = at-start .args in
+    let is : sized (block (a .w) (a .h)) ≡ true = sym (at-is-sized .is-sized .ensures) ∙ not-false _ (at-if1 .if1 .left) in
+    let done = at-step-checked .step-checked .ensures in
+    let long = sym (at-step-lengths .step-lengths .ensures .0) ∙ not-false _ (at-if2 .if2 .left) in
+    let kept = at-step-checked .step-checked .kept in (
+      done .0 ∙ step-inputs _ _ _ _ _ _ _ _ _ is long,
+      (
+        done .1 .0,
+        (
+          done .1 .1,
+          (
+            at-clear .clear .ensures ∙ room-cleared _ _ _ _ _ _ _ (a .wires .now) _ _ (done .0) (kept .1 .1 .1 .1 .1 .1 .1 .1 .1 .0),
+            (
+              at-clear2 .clear2 .ensures ∙ room-cleared _ _ _ _ _ _ _ (a .own .now) _ _ (done .0) (kept .1 .1 .1 .1 .1 .1 .1 .1 .1 .1 .0),
+              (
+                at-clear3 .clear3 .ensures
+                    ∙ room-cleared _ _ _ _ _ _ _ (a .marks .now) _ _ (done .0) (kept .1 .1 .1 .1 .1 .1 .1 .1 .1 .1 .1 .0),
+                (
+                  at-clear-bytes .clear-bytes .ensures
+                      ∙ room-cleared _ _ _ _ _ _ _ (a .first .now) _ _ (done .0) (kept .1 .1 .1 .1 .1 .1 .1 .1 .1 .1 .1 .1 .0),
+                  (at-clear-bytes2 .clear-bytes2 .ensures ∙ room-cleared _ _ _ _ _ _ _ (a .second .now) _ _ (done .0) (kept .1 .1 .1 .1 .1 .1 .1 .1 .1 .1 .1 .1 .1 .0)),
+                ),
+              ),
+            ),
+          ),
+        ),
+      ),
+    )
+
+pub step-spec : {M : Type 1} → statement M
+step-spec =
+    tie.close
+    (tie.spec
+    is-sized-requires
+    returns
+    mul-n
+    cast-n
+    step-lengths-requires
+    returns-2
+    step-checked-requires
+    clear-requires
+    clear-requires-2
+    clear-requires-3
+    clear-bytes-requires
+    clear-bytes-requires-2
+    same-length
+    same-length-2
+    same-length-3
+    same-length-4
+    same-length-5
+    same-length-6
+    same-length-7
+    returns-3)

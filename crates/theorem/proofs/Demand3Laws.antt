@@ -1,0 +1,96 @@
+-- Demand 3 for every block whose table and settings passed their checks (`Routed`). Main laws: `loop-exactly`, `demand3`, `step-means`.
+-- Assumes nothing.
+use Prim.Native.Nat.{ℕ}
+use mathlib.Core.Path.{_≡_, refl, subst}
+use mathlib.Core.List.{List}
+use native.Mathlib.Omega.{arith}
+use Rattle.lists.specs.Tables.{zeros}
+use Rattle.lists.proofs.TableLaws.{zeros-length}
+use Rattle.refusal.specs.declared.Refusal.the-variants.{Size, Length, Table, Undecodable, Contention, DisabledCarry, Loop, CellClock, NoSuchSettings, NotABit, Line, Row, OutOfRange}
+use Rattle.fabric.specs.declared.Block.{Block}
+use Rattle.fabric.specs.Block.{ports}
+use Rattle.fabric.specs.Count.{wires}
+use Rattle.netlist.specs.Order.{AllListed}
+use Rattle.equations.specs.Equations.{Depends}
+use Rattle.equations.specs.Routed.{Routed}
+use Rattle.equations.specs.Settling.{blockList, Inputs, Settles}
+use Rattle.equations.proofs.WireRowLaws.{graph}
+use Rattle.equations.proofs.LoopLaws.{loop-exact}
+use Rattle.equations.proofs.SettlingLaws.{settles}
+use Rattle.block.specs.declared.Built.{Built}
+use Rattle.block.specs.declared.Built.the-variants.{Listed, Refused}
+use Rattle.block.specs.Building.{listAnswer}
+use Rattle.block.specs.Meaning.{Accepted, ListSays}
+use Rattle.block.proofs.MeaningLaws.{list-says}
+use Rattle.sim.specs.Settling.{settledBy, portValues, badRow}
+use Rattle.sim.specs.Clocking.{nextStates}
+use Rattle.theorem.specs.Demand3.{LoopExactly, OnlyChoice, Demand3, StepMeans}
+use Rattle.theorem.proofs.OwnListLaws.{own-list-passes}
+use Rattle.theorem.proofs.ListingLaws.{listing}
+
+module _ (B : Block) (t st : List ℕ) (ok : Routed B t st) where
+  says : ListSays B t st (listAnswer B t st)
+  says = list-says B t st ok
+
+  -- "Each block that passes checks 1 to 6 [..] is refused as a loop [..] exactly if some wire depends on itself."
+  pub loop-exactly : LoopExactly B t st
+  loop-exactly free unread = (λ r. (r .0, subst (ListSays B t st) (r .1) says .2 .here), λ d. go (d .0) (d .1) (listAnswer B t st) says refl)
+    where
+      go : (w : ℕ) → Depends B t st w w → (a : Built) → ListSays B t st a → listAnswer B t st ≡ a
+          → (v : ℕ) × (listAnswer B t st ≡ Refused (Loop v))
+      go w d (Listed rows) s e = absurd (s .1 .no-loop w d)
+      go w d (Refused (Loop v)) s e = (v, e)
+      go w d (Refused (Contention v)) s e = absurd (free v (s .here))
+      go w d (Refused (DisabledCarry v)) s e = absurd (unread v (s .1 .here))
+      go w d (Refused (CellClock T)) s e = absurd (s .2 w d)
+      go w d (Refused Size) s e = absurd s
+      go w d (Refused Length) s e = absurd s
+      go w d (Refused (Table part)) s e = absurd s
+      go w d (Refused (Undecodable tile)) s e = absurd s
+      go w d (Refused (NoSuchSettings tile)) s e = absurd s
+      go w d (Refused (NotABit index)) s e = absurd s
+      go w d (Refused (Line line)) s e = absurd s
+      go w d (Refused (Row row)) s e = absurd s
+      go w d (Refused (OutOfRange number)) s e = absurd s
+
+  -- ---- an accepted block
+
+  module _ (rows : ℕ) (listed : listAnswer B t st ≡ Listed rows) where
+    told : (rows ≡ wires B) × Accepted B t st
+    told = subst (ListSays B t st) listed says
+
+    all : AllListed (graph B t st) (ports B)
+    all = loop-exact B t st ok (told .1 .no-contention) .1 (told .1 .no-loop)
+
+    found : Settles B t st
+    found = settles B t st ok (told .1 .no-contention) (told .1 .no-loop)
+
+    -- ground 12 does not refuse a step with the block's own list
+    pub own-passes : badRow B (blockList B t st) ≡ ports B
+    own-passes = own-list-passes B t st all
+
+    only-choice : (state lent : List ℕ) → Inputs B state lent → OnlyChoice B t st state lent (settledBy B (blockList B t st) state lent)
+    unfolding settledBy
+    only-choice state lent h =
+        let z = zeros-length (ports B) in
+        record {
+          meets = found .meets state lent (zeros (ports B)) (omega arith);
+          bits = found .bits state lent (zeros (ports B)) h (omega arith);
+          only = λ x p l ne. found .others-break state lent (zeros (ports B)) x (omega arith) p l ne;
+        }
+
+    pub demand3 : Demand3 B t st rows
+    demand3 = record { accepted = listed; listing = listing B t st ok (told .1 .no-contention) all rows (told .0); settles = only-choice }
+
+    -- the values and the next state that `step` promises
+    pub step-means : (state before after : List ℕ) → Inputs B state before → Inputs B state after
+        → StepMeans B t st state before after (portValues B (settledBy B (blockList B t st) state before))
+        (nextStates B st (settledBy B (blockList B t st) state before) (settledBy B (blockList B t st) state after) state)
+    step-means state before after hb ha = record {
+      b = settledBy B (blockList B t st) state before;
+      a = settledBy B (blockList B t st) state after;
+      one-before = only-choice state before hb;
+      one-after = only-choice state after ha;
+      written = refl;
+      moved = refl;
+    }

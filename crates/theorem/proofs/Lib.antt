@@ -5,3 +5,4 @@ pub mod StepDone  -- step-done: a step with an accepted block's own list is not 
 pub mod ListingLaws  -- listing: one row for each wire, in document 01's order
 pub mod OrderLowest  -- order-lowest: the order in the paper's words
 pub mod OwnListLaws  -- own-list-passes: ground 12 lets a block's own list pass
+pub mod CallLaws  -- built-loop-exactly, built-demand3, step-meant: the same over the answers that `build` and `step` promise

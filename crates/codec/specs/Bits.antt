@@ -1,4 +1,4 @@
--- The bits of a tile in their lent form. Only this file, `src/bits.rt` and their laws know the form.
+-- The bits of a tile in their lent form. Only this file, `src/bits.rt` and their laws know the form, and `bitsOf` (Encode.antt), which makes it.
 use Prim.Native.Nat.{ℕ, zero, suc, _/_, _%_, _<_, _^_}
 use mathlib.Core.Bool.{Bool}
 use mathlib.Core.List.{List}

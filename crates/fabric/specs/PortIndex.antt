@@ -31,7 +31,7 @@ sp12VT k = 288 + k
 abbrev pub sp12VB : ℕ → ℕ
 sp12VB k = 312 + k
 
--- "336: local_gA_B at 336 + 8A + B (32)"; "368: glb2local (4)"
+-- "336: local_gA_B at 336 + 8A + B (32)", so local_gA_B is `localPort (8A + B)`; "368: glb2local (4)"
 abbrev pub localPort : ℕ → ℕ
 localPort k = 336 + k
 

@@ -5,4 +5,3 @@ pub mod PassedLaws  -- read-passed, read-clean, write-passed, write-fit: what a 
 pub mod EntryLaws  -- read-.., write-..: the answers, ground by ground; lengths-exact
 pub mod BitCountLaws  -- count-..: the same of a bit count
 pub mod BlocksLaws  -- decoded-at, encoded-at: the tiles of a block; undecodable-lowest, bitless-lowest: the place of grounds 4 and 9
-pub mod MemoryLaws  -- output-refused, output-done: an output after a no and after a yes

@@ -23,11 +23,11 @@ use Rattle.equations.specs.Drives.{driveOf}
 use Rattle.equations.specs.WireRows.{rowOf}
 use Rattle.equations.specs.Routed.{Routed}
 use Rattle.equations.proofs.drives.Drive.{the-type}
-use Rattle.equations.proofs.GrowingSearch.{or-false, more-lower, more-higher}
+use Rattle.lists.proofs.GrowingSearch.{or-false, more-lower, more-higher}
 use Rattle.equations.proofs.WireRowLaws.{row-is}
 use Rattle.equations.proofs.ChainLaws.{reads-equation, read-lt}
 use Rattle.drivers.specs.CarryReads.{isDisabledCarry, rowReadsIn, rowReads, readIn, carryReadIn, carryReadWire, lowerCarry, lowerCarries}
-use Rattle.drivers.proofs.SomeLaws.{some-last}
+use Rattle.lists.proofs.SomeLaws.{some-last}
 
 join-and : (a d b c : Bool) → (a || (d && b)) || (d && c) ≡ a || (d && (b || c))
 join-and true d b c = refl

@@ -28,9 +28,9 @@ use Rattle.equations.proofs.RoleLaws.{Role, role-all}
 use Rattle.equations.proofs.WireRowLaws.{graph, row-is, kind-past}
 use Rattle.equations.proofs.ChainLaws.{reads-equation, read-lt, read-own, equation-reads}
 use Rattle.drivers.specs.CarryReads.{isDisabledCarry, rowReadsIn, rowReads, readIn, carryReadIn, carryReadWire}
-use Rattle.drivers.proofs.LowestLaws.{lowest-exact, lowest-none-exact}
+use Rattle.lists.proofs.LowestLaws.{lowest-exact, lowest-none-exact}
 use Rattle.drivers.proofs.StandingLaws.{drive-at}
-use Rattle.drivers.proofs.SomeLaws.{some-of, of-some}
+use Rattle.lists.proofs.SomeLaws.{some-is, some-true}
 
 -- what a disabled carry is
 disabled-is : (st : List ℕ) (d : Drive) → isDisabledCarry st d ≡ true → (T : ℕ) × (i : ℕ) × (d ≡ CellCout T i) × (carryOn st T i ≡ false)
@@ -48,8 +48,8 @@ module _ (B : Block) (t st : List ℕ) (ok : Routed B t st) where
   read-in-reads : (w : ℕ) → readIn B t st (ports B) w ≡ true → (u : ℕ) × ReadsWire B t st u w
   unfolding readIn rowReadsIn
   read-in-reads w e =
-      let f = some-of (λ u. rowReads (rowOf B t st u) w) (ports B) e in
-      let g = some-of (λ j. eqb (operandOf (rowOf B t st (f .0)) j) w) _ (f .2) in
+      let f = some-is (λ u. rowReads (rowOf B t st u) w) (ports B) e in
+      let g = some-is (λ j. eqb (operandOf (rowOf B t st (f .0)) j) w) _ (f .2) in
       let is = row-is B t st (f .0) (f .1) in
       (f .0, reads-equation B t st (f .0) w (g .0, rw is (g .1), ap (λ (r : Row). operandOf r (g .0)) is ∙ eqb-true _ _ (g .2)))
 
@@ -64,8 +64,8 @@ module _ (B : Block) (t st : List ℕ) (ok : Routed B t st) where
       let h = equation-reads B t st ok free r in
       let l = reader-lt u w h in
       let is = row-is B t st u l in
-      of-some (λ u. rowReads (rowOf B t st u) w) (ports B) u l
-      (of-some (λ j. eqb (operandOf (rowOf B t st u) j) w) _ (h .0) (rw is at (h .1)) (eq-eqb _ _ (ap (λ (r : Row). operandOf r (h .0)) (sym is) ∙ h .2)))
+      some-true (λ u. rowReads (rowOf B t st u) w) (ports B) u l
+      (some-true (λ j. eqb (operandOf (rowOf B t st u) j) w) _ (h .0) (rw is at (h .1)) (eq-eqb _ _ (ap (λ (r : Row). operandOf r (h .0)) (sym is) ∙ h .2)))
 
   -- ---- who reads a carry output: in ports are never one, nor is carry_in_mux
 

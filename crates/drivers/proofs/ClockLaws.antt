@@ -6,7 +6,7 @@ use mathlib.Core.Logic.{_⊎_, inl, inr, ⊎-elim, _↔_}
 use mathlib.Core.List.{List}
 use native.Mathlib.Omega.{arith}
 use borrow.Author.Tests.{not-true}
-use Rattle.lists.proofs.CaseLaws.{clash, and-left, and-right, and-true}
+use Rattle.lists.proofs.CaseLaws.{clash, and-left, and-right, and-true, or-is, or-right}
 use Rattle.fabric.specs.declared.Block.{Block}
 use Rattle.fabric.specs.Block.{tiles, portsPerTile}
 use Rattle.fabric.specs.PortIndex.{clk, sR}
@@ -21,19 +21,11 @@ use Rattle.drivers.specs.declared.follow.Driver.{Driver}
 use Rattle.drivers.specs.declared.follow.Driver.the-variants.{Open, Constant, Cell, Ring}
 use Rattle.drivers.specs.Following.{DrivenBy, driverOf}
 use Rattle.drivers.specs.Clocks.{asyncFlopOn, ComesFromCell, FromCell, clock, reset, LowestFromCell, isOutside, anyCell, drivenOutside, clockedAt, clockedTile}
-use Rattle.drivers.proofs.LowestLaws.{lowest-exact, lowest-none-exact}
+use Rattle.lists.proofs.LowestLaws.{lowest-exact, lowest-none-exact}
 use Rattle.drivers.proofs.FollowingLaws.{driven-exact, driven-unique, no-ring}
-use Rattle.drivers.proofs.SomeLaws.{some-of, of-some}
+use Rattle.lists.proofs.SomeLaws.{some-is, some-true}
 
 -- ---- tests
-
-or-cases : (a b : Bool) → a || b ≡ true → (a ≡ true) ⊎ (b ≡ true)
-or-cases true b e = inl refl
-or-cases false b e = inr e
-
-or-right : (a b : Bool) → b ≡ true → a || b ≡ true
-or-right true b e = refl
-or-right false b e = e
 
 module _ (B : Block) (t st : List ℕ) (ok : Routed B t st) (free : NoContention B t st) (straight : NoLoop B t st) where
   abbrev sources : List ℕ
@@ -65,14 +57,14 @@ module _ (B : Block) (t st : List ℕ) (ok : Routed B t st) (free : NoContention
       there : clockedAt B st sources T ≡ true → FromCell B t st T
       there e =
           ⊎-elim
-          (λ h. let f = some-of (flopOn st T) 8 (and-left _ _ h) in clock (f .0) (f .1) (f .2) (inside-cell T clk l (omega arith) (and-right (anyCell (flopOn st T)) _ h)))
-          (λ h. let f = some-of (asyncFlopOn st T) 8 (and-left _ _ h) in reset (f .0) (f .1) (f .2) (inside-cell T sR l (omega arith) (and-right (anyCell (asyncFlopOn st T)) _ h)))
-          (or-cases (anyCell (flopOn st T) && not (drivenOutside B st sources T clk)) _ e)
+          (λ h. let f = some-is (flopOn st T) 8 (and-left _ _ h) in clock (f .0) (f .1) (f .2) (inside-cell T clk l (omega arith) (and-right (anyCell (flopOn st T)) _ h)))
+          (λ h. let f = some-is (asyncFlopOn st T) 8 (and-left _ _ h) in reset (f .0) (f .1) (f .2) (inside-cell T sR l (omega arith) (and-right (anyCell (asyncFlopOn st T)) _ h)))
+          (or-is (anyCell (flopOn st T) && not (drivenOutside B st sources T clk)) _ e)
 
       back : FromCell B t st T → clockedAt B st sources T ≡ true
-      back (clock i li on h) = rw (of-some (flopOn st T) 8 i li on, cell-inside T clk l (omega arith) h)
+      back (clock i li on h) = rw (some-true (flopOn st T) 8 i li on, cell-inside T clk l (omega arith) h)
       back (reset i li on h) =
-          or-right (anyCell (flopOn st T) && not (drivenOutside B st sources T clk)) _ (and-true (of-some (asyncFlopOn st T) 8 i li on) (cell-inside T sR l (omega arith) h))
+          or-right (anyCell (flopOn st T) && not (drivenOutside B st sources T clk)) _ (and-true (some-true (asyncFlopOn st T) 8 i li on) (cell-inside T sR l (omega arith) h))
 
   -- ground 8: the computed tile is the lowest with a clock or reset from a cell ..
   pub clocked-exact : (T : ℕ) → LowestFromCell B t st T ↔ ((T < tiles B) × (clockedTile B st sources ≡ T))

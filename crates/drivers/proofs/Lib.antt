@@ -4,8 +4,6 @@ pub mod CarryReadLaws  -- carry-read-exact, carry-read-none-exact: ground 6. The
 pub mod ClockLaws  -- clocked-exact, clocked-none-exact: ground 8. The lowest tile with a clock or reset from a cell, or none
 pub mod LeadLaws  -- goes-leads, leads-goes: the map of sources and the switches. sources-length, sources-bounded: what the code asks of the map
 pub mod StandingLaws  -- stands-at, stands-drive: what stands where no switch ends. drive-at: a wire's drive by one of its ports
-pub mod SomeLaws  -- some-of, of-some: whether some number below n passes
-pub mod LowestLaws  -- lowest-exact: the lowest number that a test finds
 pub mod WalkLaws  -- gets-linear: a walk from source to source is a line. ring-or-end: it meets a ring or an end
 pub mod Walking  -- traced-walked: what a walk with marks answers
 pub mod Tracing  -- the loop of `walk`

@@ -12,6 +12,5 @@ pub mod SwitchLaws  -- driver-ends, driver-none, driver-is: the switch that driv
 pub mod DriveLaws  -- drive-wire: a wire's drive is that of each of its ports. join-drive: each join keeps it
 pub mod RoleLaws  -- role-all: what a port's drive says of the port
 pub mod PortKindLaws  -- open and constant ports; ports that no switch may end on
-pub mod GrowingSearch  -- a search with one number more
 pub mod DriveAtLaws  -- the arms of `drive_at`
 pub mod RowFromLaws  -- wires-at: a port's wire from the list of wires. The cases of `row_of`

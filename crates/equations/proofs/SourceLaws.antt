@@ -10,7 +10,7 @@ use native.Mathlib.Nat.{eq-or-lt-of-le, le-of-suc-le-suc, le-antisymm}
 use lib.ListN.{getD}
 use borrow.Author.Tests.{ne-eqb, lt-ltb, le-ltb, ltb-true}
 use Rattle.lists.specs.Search.{first}
-use Rattle.lists.proofs.CaseLaws.{clash, lt-or-le, and-left, and-right}
+use Rattle.lists.proofs.CaseLaws.{clash, lt-or-le, and-left, and-right, or-is, or-right}
 use Rattle.lists.proofs.SearchLaws.{first-true, first-before, first-le}
 use Rattle.lists.proofs.TableLaws.{tabulate-zero}
 use Rattle.lists.proofs.PartLaws.{joined-ext}
@@ -22,14 +22,6 @@ use Rattle.equations.specs.Routed.{Routed}
 use Rattle.equations.specs.WireRows.{endsOn, driverIn, rowOf, wireRows}
 use Rattle.equations.specs.Sources.{rowFrom, rowsFrom, sourceIn, sourcesOf, contendedIn, contendedWire}
 use Rattle.equations.proofs.SwitchLaws.{ends-of, ends-on-true, target-lt}
-
-or-cases : (a b : Bool) → a || b ≡ true → (a ≡ true) ⊎ (b ≡ true)
-or-cases true b e = inl refl
-or-cases false b e = inr e
-
-or-right : (a b : Bool) → b ≡ true → a || b ≡ true
-or-right true b e = refl
-or-right false b e = e
 
 module _ (B : Block) (t st : List ℕ) where
   -- ---- two of the first m switches
@@ -44,7 +36,7 @@ module _ (B : Block) (t st : List ℕ) where
       (λ f.
       let l = ltb-true _ _ (and-right (endsOn B t st w m) _ f) in
       (driverIn B t st m w, m, l, omega arith, first-true (endsOn B t st w) 0 m (omega arith), and-left (endsOn B t st w m) _ f))
-      (or-cases (contendedIn B t st m w) _ e)
+      (or-is (contendedIn B t st m w) _ e)
 
   two-contended : (m w s r : ℕ) → s < r → r < m → endsOn B t st w s ≡ true → endsOn B t st w r ≡ true → contendedIn B t st m w ≡ true
   unfolding contendedIn

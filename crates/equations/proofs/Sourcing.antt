@@ -20,7 +20,7 @@ use Rattle.fabric.specs.Block.{ports}
 use Rattle.equations.specs.Switches.{switches, enabled, target, origin}
 use Rattle.equations.specs.WireRows.{endsOn, driverIn}
 use Rattle.equations.specs.Sources.{sourceIn, sourcesOf, contendedIn, contendedWire, Sourced}
-use Rattle.equations.proofs.GrowingSearch.{grow-old, grow-hit, grow-miss, or-false, more-lower, more-higher}
+use Rattle.lists.proofs.GrowingSearch.{grow-old, grow-hit, grow-miss, or-false, more-lower, more-higher}
 
 module _ (B : Block) (t st : List ℕ) where
   -- ---- where switch s ends

@@ -1,6 +1,6 @@
 -- A choice with the fact that goes with it: on a test, on two numbers, on a conjunction of tests.
 use mathlib.Core.Path.{_≡_, refl, sym, subst, _∙_}
-use mathlib.Core.Bool.{Bool, true, false, cond, _&&_, true≢false}
+use mathlib.Core.Bool.{Bool, true, false, cond, _&&_, _||_, true≢false}
 use mathlib.Core.Logic.{_⊎_, inl, inr, ⊎-elim, _≢_}
 use Prim.Native.Nat.{ℕ, zero, suc, _<_, _≤_}
 use native.Mathlib.Nat.{eq-or-lt-of-le, le-of-suc-le-suc}
@@ -40,6 +40,19 @@ and-false-left a b p = rw p
 pub and-false-right : (a b : Bool) → b ≡ false → a && b ≡ false
 and-false-right true b p = p
 and-false-right false b p = refl
+
+-- ---- a || b
+
+pub or-left : (a b : Bool) → a ≡ true → a || b ≡ true
+or-left a b e = rw e
+
+pub or-right : (a b : Bool) → b ≡ true → a || b ≡ true
+or-right true b e = refl
+or-right false b e = e
+
+pub or-is : (a b : Bool) → a || b ≡ true → (a ≡ true) ⊎ (b ≡ true)
+or-is true b e = inl refl
+or-is false b e = inr e
 
 -- ---- cond a b false, the same by another name
 

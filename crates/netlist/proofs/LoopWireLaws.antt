@@ -8,40 +8,19 @@ use native.Mathlib.Omega.{arith}
 use native.Mathlib.Nat.{eq-or-lt-of-le}
 use borrow.Author.Tests.{eq-eqb, eqb-true, not-true, not-false}
 use lib.Dec.{eqb}
-use Rattle.lists.specs.Search.{first, all, count}
-use Rattle.lists.proofs.CaseLaws.{cases, clash, and-left, and-right, and-true, all-or-one}
+use Rattle.lists.specs.Search.{first, some, count}
+use Rattle.lists.proofs.CaseLaws.{cases, clash, and-left, and-right, and-true, or-left, or-right, or-is, all-or-one}
 use Rattle.lists.proofs.SearchLaws.{all-at, all-of, all-not, first-at, first-none, first-true, first-before, first-le}
+use Rattle.lists.proofs.SomeLaws.{some-is, some-true}
 use Rattle.lists.proofs.CountLaws.{count-le, count-lt}
 use Rattle.netlist.specs.Graph.{Graph, Reads, DependsOn, reads, via, Closed, LowestLoop}
-use Rattle.netlist.specs.Loops.{some, readsTest, reached, loopAt, loopWire}
-
--- ---- some number passes
-
-pub some-of : (p : ℕ → Bool) (n i : ℕ) → i < n → p i ≡ true → some p n ≡ true
-some-of p n i h e = ⊎-elim (λ (t : none ≡ true). clash e (not-true (p i) (all-at (λ k. not (p k)) 0 n i t (omega arith) (omega arith)))) (λ (f : none ≡ false). rw f) (cases none)
-  where
-    none : Bool
-    none = all (λ k. not (p k)) 0 n
-
-pub some-is : (p : ℕ → Bool) (n : ℕ) → some p n ≡ true → (i : ℕ) × (i < n) × (p i ≡ true)
-some-is p n e = let r = all-not (λ k. not (p k)) 0 n (not-true _ e) in (r .0, omega arith, not-false _ (r .3))
-
-or-left : (a b : Bool) → a ≡ true → a || b ≡ true
-or-left a b e = rw e
-
-or-right : (a b : Bool) → b ≡ true → a || b ≡ true
-or-right true b e = refl
-or-right false b e = e
-
-or-is : (a b : Bool) → a || b ≡ true → (a ≡ true) ⊎ (b ≡ true)
-or-is true b e = inl refl
-or-is false b e = inr e
+use Rattle.netlist.specs.Loops.{readsTest, reached, loopAt, loopWire}
 
 module _ (g : Graph) (n : ℕ) where
   pub reads-test-exact : (w d : ℕ) → (readsTest g w d ≡ true) ↔ Reads g w d
   reads-test-exact w d = (
     λ e. let r = some-is (λ j. eqb (g .operand w j) d) (g .arity w) e in (r .0, r .1, eqb-true _ _ (r .2)),
-    λ r. some-of (λ j. eqb (g .operand w j) d) (g .arity w) (r .0) (r .1) (eq-eqb _ _ (r .2)),
+    λ r. some-true (λ j. eqb (g .operand w j) d) (g .arity w) (r .0) (r .1) (eq-eqb _ _ (r .2)),
   )
 
   -- what is reached is depended on
@@ -65,7 +44,7 @@ module _ (g : Graph) (n : ℕ) where
   reached-next : (k w m d : ℕ) → m < n → reached g n k w m ≡ true → Reads g m d → reached g n (suc k) w d ≡ true
   unfolding reached
   reached-next k w m d h e r =
-      or-right (reached g n k w d) (some (λ x. reached g n k w x && readsTest g x d) n) (some-of (λ x. reached g n k w x && readsTest g x d) n m h (and-true e (reads-test-exact m d .1 r)))
+      or-right (reached g n k w d) (some (λ x. reached g n k w x && readsTest g x d) n) (some-true (λ x. reached g n k w x && readsTest g x d) n m h (and-true e (reads-test-exact m d .1 r)))
 
   reached-start : (k w d : ℕ) → Reads g w d → reached g n k w d ≡ true
   unfolding reached

@@ -1,14 +1,10 @@
 -- Ground 7's place, computed. It is slow to compute and never run: the code finds the wire by following readings, and
 -- proofs/LoopWireLaws.antt shows that it is this one.
-use mathlib.Core.Bool.{Bool, not, _&&_, _||_}
+use mathlib.Core.Bool.{Bool, _&&_, _||_}
 use Prim.Native.Nat.{ℕ, zero, suc}
 use lib.Dec.{eqb}
-use Rattle.lists.specs.Search.{first, all}
+use Rattle.lists.specs.Search.{first, some}
 use Rattle.netlist.specs.Graph.{Graph}
-
--- one of the n numbers from 0 on passes
-abbrev pub some : (ℕ → Bool) → ℕ → Bool
-some p n = not (all (λ i. not (p i)) 0 n)
 
 -- the equation of w reads d
 abbrev pub readsTest : Graph → ℕ → ℕ → Bool

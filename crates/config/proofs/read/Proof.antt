@@ -8,7 +8,7 @@ use Rattle.fabric.proofs.BlockLaws.{tiles-le}
 use Rattle.fabric.specs.Block.{block, tiles}
 use Rattle.config.specs.Blocks.{decoded}
 use Rattle.config.proofs.MeaningLaws.{read-says}
-use Rattle.config.proofs.MemoryLaws.{output-kept}
+use Rattle.refusal.proofs.MemoryLaws.{output-kept}
 use Rattle.config.proofs.PassedLaws.{read-passed}
 use Rattle.config.proofs.read.Statement.{statement}
 use Rattle.config.proofs.read.Tie as tie

@@ -8,7 +8,7 @@ use Rattle.fabric.proofs.BlockLaws.{tiles-le}
 use Rattle.fabric.specs.Block.{block, tiles}
 use Rattle.config.specs.Blocks.{encoded}
 use Rattle.config.proofs.MeaningLaws.{write-says}
-use Rattle.config.proofs.MemoryLaws.{output-kept}
+use Rattle.refusal.proofs.MemoryLaws.{output-kept}
 use Rattle.config.proofs.PassedLaws.{write-passed, write-fit}
 use Rattle.config.proofs.write.Statement.{statement}
 use Rattle.config.proofs.write.Tie as tie

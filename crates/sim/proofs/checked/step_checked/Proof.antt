@@ -1,7 +1,7 @@
 -- `checked::step_checked` meets its contract: a no keeps the outputs, a yes shows that the list can be run. Assumes nothing.
 use mathlib.Core.Path.{_≡_, sym, _∙_}
 use Rattle.refusal.specs.declared.Answer.the-variants.{Done}
-use Rattle.config.proofs.MemoryLaws.{output-kept}
+use Rattle.refusal.proofs.MemoryLaws.{output-kept}
 use Rattle.sim.proofs.StepLaws.{inputs-shows, run-shows}
 use Rattle.sim.specs.Clocking.{nextStates}
 use Rattle.sim.specs.Settling.{settledBy, portValues}

@@ -1,0 +1,2 @@
+-- The laws of `refusal` that entry points cite.
+pub mod MemoryLaws  -- output-refused, output-kept, output-done: an output after a no and after a yes

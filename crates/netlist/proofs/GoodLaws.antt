@@ -7,7 +7,7 @@ use native.Mathlib.Omega.{arith}
 use borrow.Author.Tests.{leb-true, le-leb, eqb-true, eqb-false, eq-eqb, ne-eqb, not-true}
 use lib.Dec.{eqb, leb}
 use Rattle.lists.specs.Search.{all}
-use Rattle.lists.proofs.CaseLaws.{cases, eq-or-ne, and-left, and-right, and-true}
+use Rattle.lists.proofs.CaseLaws.{cases, eq-or-ne, and-left, and-right, and-true, or-is}
 use Rattle.lists.proofs.SearchLaws.{all-at, all-of}
 use Rattle.netlist.specs.Kinds.{lookupKind, majorityKind}
 use Rattle.netlist.specs.Rows.{zeroRow}
@@ -23,10 +23,6 @@ pub record GoodParts (row : Row) (cells : ℕ) (block came : ℕ → Bool) : Typ
   pub new : came (row .wire) ≡ false
   pub operands : (j : ℕ) → j < 4 → operandGood row cells came j ≡ true
   pub table : (row .kind ≡ lookupKind) ⊎ (row .table ≡ 0)
-
-or-true : (a b : Bool) → a || b ≡ true → (a ≡ true) ⊎ (b ≡ true)
-or-true true b e = inl refl
-or-true false b e = inr e
 
 module _ (row : Row) (cells : ℕ) (block came : ℕ → Bool) where
   abbrev none : Bool
@@ -51,7 +47,7 @@ module _ (row : Row) (cells : ℕ) (block came : ℕ → Bool) where
         in-block = and-left (block (row .wire)) _ t2;
         new = not-true _ (and-left (not (came (row .wire))) (operandsTest && tableTest) t3);
         operands = λ j l. all-at (operandGood row cells came) 0 4 j (and-left operandsTest tableTest t4) (omega arith) (omega arith);
-        table = ⊎-elim (λ a. inl (eqb-true _ _ a)) (λ a. inr (eqb-true _ _ a)) (or-true (eqb (row .kind) lookupKind) (eqb (row .table) 0) (and-right operandsTest tableTest t4));
+        table = ⊎-elim (λ a. inl (eqb-true _ _ a)) (λ a. inr (eqb-true _ _ a)) (or-is (eqb (row .kind) lookupKind) (eqb (row .table) 0) (and-right operandsTest tableTest t4));
       }
 
   pub good-of-parts : GoodParts row cells block came → rowGood row cells block came ≡ true

@@ -9,6 +9,8 @@ It prints a line for each group of cases and ends with the number of differences
 """
 import argparse
 import os
+import random
+import re
 import subprocess
 import sys
 import tempfile
@@ -22,6 +24,7 @@ TOOLS = os.path.join(ROOT, 'tools')
 sys.path.insert(0, TOOLS)
 import ice40  # noqa: E402
 import names  # noqa: E402
+import trail  # noqa: E402
 
 DEBIAN = '/usr/share/fpga-icestorm/chipdb'
 TABLES = [('1k', []), ('384', []), ('5k', []), ('8k', []), ('1k-ltin', ['--ltin'])]
@@ -29,6 +32,9 @@ TABLES = [('1k', []), ('384', []), ('5k', []), ('8k', []), ('1k-ltin', ['--ltin'
 CUTS = {'counter8_2x2': ('counter8', 5, 6, 2, 2), 'counter8_1x1': ('counter8', 5, 7, 1, 1), 'uart_tx_3x3': ('uart_tx', 5, 10, 3, 3),
         'counter32_2x4': ('counter32', 1, 11, 2, 4), 'lfsr16_3x3': ('lfsr16', 4, 6, 3, 3), 'shift_arst_2x2': ('shift_arst', 8, 5, 2, 2),
         'latch_1x1': ('latch', 6, 6, 1, 1), 'ripplediv_loc_2x2': ('ripplediv_local', 5, 8, 2, 2)}
+
+
+FLAGS = ['carry', 'flip-flop', 'set', 'asynchronous']
 
 
 def run(tool, *arguments, stdin=''):
@@ -119,9 +125,9 @@ def check_names():
 def claims(table):
     """What claims each position, in words, by the model's reading of a table: position to words."""
     words = {}
+    uses = dict(zip(model.LUT_INIT + model.FLAG_BITS, ['LUT_INIT %d' % j for j in range(16)] + FLAGS))
     for i in range(8):
-        for k in range(20):
-            use = 'LUT_INIT %d' % model.LUT_INIT.index(k) if k in model.LUT_INIT else ('carry', 'flip-flop', 'set', 'asynchronous')[model.FLAG_BITS.index(k)]
+        for k, use in uses.items():
             words[model.lc(i, k)] = 'LC_%d[%d], %s' % (i, k, use)
     for f, name in enumerate(('NegClk', 'CarryInSet', 'the switch from carry_in to carry_in_mux')):
         words[table[f]] = 'the field %s' % name
@@ -177,19 +183,33 @@ def explained(w, h, corner, switches, cells):
     for driven, source in switches:
         yield 'wire %d [%s] <- wire %d [%s]' % (driven, named[driven], source, named[source])
     for t, i, lut, flags in cells:
-        words = [word for k, word in enumerate(('carry', 'flip-flop', 'set', 'asynchronous')) if flags >> k & 1]
+        words = [word for k, word in enumerate(FLAGS) if flags >> k & 1]
         yield '(%d,%d) lutff_%d: table %04X, %s' % (corner[0] + t % w, corner[1] + t // w, i, lut, ', '.join(words) or 'no flags')
     yield 'yes: %d enabled switches, %d cells in use' % (len(switches), len(cells))
+
+
+# what explain shows of the two refused blocks, beyond the place
+TRAILS = {'latch_1x1': """each of these reads the next:
+  wire 354 [(5,6) local_g2_2]
+  wire 406 [(5,6) lutff_2/out]
+  wire 382 [(5,6) lutff_2/in_2]
+  wire 354 [(5,6) local_g2_2]
+""", 'ripplediv_loc_2x2': """from switch to switch, back to the cell:
+  wire 476 [(5,6) lutff_global/clk] <- wire 345 [(5,6) local_g1_1] <- wire 57 [(5,6) sp4_h_r_9, (6,6) sp4_h_l_9, (6,6) sp4_h_r_20] <- \
+wire 446 [(5,6) neigh_op_rgt_2, (6,6) lutff_2/out, (5,7) neigh_op_bnr_2, (6,7) neigh_op_bot_2]
+"""}
 
 
 def check_explain():
     count = Count('reports of the bundled blocks in words')
     for name, (w, h, table, bits) in blocks().items():
         text, switches, cells = report(w, h, table, bits)
-        status, words, errors = run('explain', '--input', data(name + '.in'), '--corner', 5, 6, stdin=text)
-        count.same(run('explain', w, h, '--corner', 5, 6, stdin=text), (status, words, errors), name)
-        if text.startswith('0800') or switches:
-            count.same((status, words.splitlines(), errors), (0, list(explained(w, h, (5, 6), switches, cells)), ''), name)
+        by_size = run('explain', w, h, '--corner', 5, 6, stdin=text)
+        if text.endswith('08000000\n'):
+            expected = '\n'.join(explained(w, h, (5, 6), switches, cells)) + '\n'
+            count.same(by_size, (0, expected, ''), name)
+        status, words, errors = by_size
+        count.same(run('explain', '--input', data(name + '.in'), '--corner', 5, 6, stdin=text), (status, words + TRAILS.get(name, ''), errors), name)
     return count.done()
 
 
@@ -200,6 +220,23 @@ NOES = [('08010000', 'W or H is not 1 to 3'), ('08030000', 'the fields, line 1')
         ('080B0203', 'line 515')]
 
 
+# an input that is refused by a line, that line, and what explain shows of it
+LINES = [('', 1, 'missing'), ('01\n', 2, 'missing'), ('01\n02', 2, "'02', without a line end"), ('01\r\n02\n', 1, "'01\\r'\n"), ('01\n\n', 2, "''\n"),
+         ('\xff\n', 1, 'xff')]
+
+
+def check_lines():
+    count = Count('the line that an input is refused by')
+    with tempfile.TemporaryDirectory() as folder:
+        path = os.path.join(folder, 'refused.in')
+        for text, line, words in LINES:
+            with open(path, 'w', encoding='latin-1', newline='') as file:
+                file.write(text)
+            status, shown, errors = run('explain', '--input', path, stdin='080B%04X\n' % line)
+            count.same((status, 'it is line %d\n' % line in shown, words in shown, errors), (0, True, True, ''), repr(text))
+    return count.done()
+
+
 def check_noes():
     count = Count('a no of each ground in words')
     for line, words in NOES:
@@ -207,6 +244,98 @@ def check_noes():
         number, place = int(line[2:4], 16), int(line[4:], 16)
         count.same((status, text.startswith('no, ground %d, place %d (' % (number, place)), words in text, errors), (0, True, True, ''), line)
     return count.done()
+
+
+def faulty(w, h, table, bits):
+    """A block with some switches, flags and bits changed at random, so that it is refused more often than not."""
+    settings = model.read(w, h, table, bits)
+    for _ in range(random.choice((1, 3, 30))):
+        at = model.SETTINGS * random.randrange(w * h)
+        g = random.randrange(table[68])
+        settings[at + 67 + g] = random.randint(0, table[69 + 75 * g + 10])
+        settings[at + 580 + 2 * random.randrange(8)] |= random.choice((0, 2, 10))
+    if random.random() < 0.2:
+        settings[580 + 2 * random.randrange(8)] |= 1
+    tiles = [bytearray(model.encode(table, settings[model.SETTINGS * t:model.SETTINGS * t + model.SETTINGS])) for t in range(w * h)]
+    if random.random() < 0.2:
+        p = random.randrange(864)
+        tiles[random.randrange(w * h)][p // 8] ^= 1 << p % 8
+    return b''.join(tiles)
+
+
+def fault_count(table, tile):
+    """How many things in a tile are undecodable, by the model's reading of the table."""
+    claimed = set(claims(table))
+    patterns = [(group, sum(model.bit(tile, p) << k for k, p in enumerate(group.positions))) for group in model.groups_of(table)]
+    unlisted = sum(pattern != 0 and pattern not in dict(group.entries) for group, pattern in patterns)
+    return unlisted + sum(model.bit(tile, p) for p in range(864) if p not in claimed) + (model.bit(tile, table[1]) & model.bit(tile, table[2]))
+
+
+def carry_reader_count(block, wire):
+    chains = [t for t in range(block.tiles) if block.field(t, 2) and block.at(t, 487) == wire]
+    carries = [(t, i) for t in range(block.tiles) for i in range(1, 8) if block.flag(t, i, 0) and block.at(t, 489 + i - 1) == wire]
+    return len([source for _, source, _, _ in block.switches if source == wire] + chains + carries)
+
+
+def is_trail(block, place, ground, lines):
+    """Whether the words for a no of ground 5 to 8 say what the model's block has."""
+    ways = [[int(wire) for wire in re.findall(r'wire (\d+) \[', line)] for line in lines]
+    if ground == 5:
+        return len(lines) == sum(driven == place for driven, _, _, _ in block.switches) > 1
+    if ground == 6:
+        return len(lines) == carry_reader_count(block, place) > 0
+    if ground == 7:
+        loop = [wire for way in ways for wire in way]
+        return loop[0] == loop[-1] == place and len(loop) > 1 and all(b in block.reads(block.row(a)) for a, b in zip(loop, loop[1:]))
+    ends = {block.at(place, q) for q in (476, 478)}
+    return bool(ways) and all(way[0] in ends and block.follow(way[0]) == (4, way[-1]) for way in ways) and all(
+        block.source[a] == b for way in ways for a, b in zip(way, way[1:]))
+
+
+def tile_numbers(bits):
+    """A block's tiles as the tools hold them: position p at weight 2^p."""
+    return [int.from_bytes(bits[at:at + 108], 'little') for at in range(0, len(bits), 108)]
+
+
+def check_reads(rounds):
+    count = Count("what each wire's equation reads")
+    table, sound = ice40.read_table(data('1k.tab')), [blocks()[name] for name in CUTS]
+    for _ in range(rounds):
+        w, h, lent, bits = random.choice(sound)
+        bits = faulty(w, h, lent, bits)
+        settings = model.read(w, h, lent, bits)
+        if isinstance(settings, tuple) or model.Block(w, h, lent, settings).contended:
+            continue
+        block, found = model.Block(w, h, lent, settings), trail.Trail(ice40.Block(w, h), table, tile_numbers(bits))
+        for wire in block.wires:
+            count.same(found.reads(wire), block.reads(block.row(wire)), (wire, block.row(wire)))
+    return count.done()
+
+
+def trail_lines(w, h, table, tiles, ground, place):
+    if ground == 4:
+        return list(trail.undecodable(table, tiles[place]))
+    found = trail.Trail(ice40.Block(w, h), table, tiles)
+    return {5: found.fight, 6: found.carry_readers, 7: found.loop, 8: found.clocks}[ground](place)
+
+
+def check_trails(rounds):
+    counts = {ground: Count('what leads to a no, ground %d' % ground) for ground in (4, 5, 6, 7, 8)}
+    table, sound = ice40.read_table(data('1k.tab')), [blocks()[name] for name in CUTS]
+    for _ in range(rounds):
+        w, h, lent, bits = random.choice(sound)
+        bits = faulty(w, h, lent, bits)
+        answer = model.build(w, h, lent, bits)
+        if not isinstance(answer, tuple):
+            continue
+        ground, place = answer
+        lines = trail_lines(w, h, table, tile_numbers(bits), ground, place)
+        if ground == 4:
+            counts[ground].same(len(lines), fault_count(lent, bits[108 * place:108 * place + 108]))
+        else:
+            block = model.Block(w, h, lent, model.read(w, h, lent, bits))
+            counts[ground].same(is_trail(block, place, ground, lines), True, (answer, lines))
+    return sum(count.done() for count in counts.values())
 
 
 # ---- errors
@@ -266,8 +395,10 @@ def main():
     parser.add_argument('--chipdb', metavar='FOLDER', default=DEBIAN)
     parser.add_argument('--designs', metavar='FOLDER', action='append', default=[])
     arguments = parser.parse_args()
+    random.seed(1)
     wrong = check_tables(arguments.chipdb) + check_blocks([DATA] + arguments.designs)
-    wrong += check_wires() + check_names() + check_positions() + check_explain() + check_noes() + check_mistakes()
+    wrong += check_wires() + check_names() + check_positions()
+    wrong += check_explain() + check_noes() + check_lines() + check_reads(30) + check_trails(300) + check_mistakes()
     print('%d differences' % wrong)
     return wrong != 0
 

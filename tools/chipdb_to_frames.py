@@ -7,7 +7,7 @@ The database is in Debian's package fpga-icestorm-chipdb, or in IceStorm's own i
 """
 import argparse
 
-from ice40 import (CELLS, COLUMNS, FIELDS, NEIGHBOURS, PORT, ROWS, Group, Mistake, Table, cell_position, coordinates, position_at,
+from ice40 import (CELL_BITS, CELLS, COLUMNS, FIELDS, NEIGHBOURS, PORT, ROWS, Group, Mistake, Table, cell_position, coordinates, position_at,
                    print_frames, run, sections, table_frames)
 
 CHAIN = [PORT['carry_in'], PORT['carry_in_mux']]  # the one switch that is a field and no group
@@ -84,7 +84,7 @@ def is_chain(group):
 def check_cells(bits):
     """Refuses a database whose logic cell bits are elsewhere: the reader has their positions built in."""
     for i in range(CELLS):
-        if bits.get('LC_%d' % i) != [cell_position(i, k) for k in range(20)]:
+        if bits.get('LC_%d' % i) != [cell_position(i, k) for k in range(CELL_BITS)]:
             raise Mistake('the bits of LC_%d are not where a logic tile has them' % i)
 
 

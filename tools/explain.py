@@ -1,16 +1,17 @@
 #!/usr/bin/env python3
 """Turns a report (frames 06, 07 and 08) into words, with IceStorm's names for its wires.
 
-    explain.py W H [REPORT]                     the block's size
-    explain.py --input block.frames [REPORT]    or the report's own input, which has the size
+    explain.py W H [REPORT]                     from the block's size
+    explain.py --input block.frames [REPORT]    from the report's own input, which also shows what leads to a no
 
 REPORT is a file, or standard input where it is left out. With --corner X Y, the chip's coordinates of tile 0, names are those of the
 chip.
 """
 import argparse
-import sys
+from functools import cached_property
 
-from ice40 import FLAGS, Block, Cursor, Mistake, lines_of, number, run
+from ice40 import FLAGS, Block, Cursor, Input, Mistake, lines_of, number, run, text_of
+from trail import Trail, undecodable
 
 # each ground for a no in words, and what its place is (document 01, 'Grounds for a no')
 GROUNDS = {
@@ -57,8 +58,31 @@ class Report:
         cursor.end()
 
 
-def wire_words(block, wire):
-    return 'wire %d [%s]' % (wire, block.wire_names(wire))
+class Scene:
+    """What is known beside a report: the size, or the report's input. Both are looked at only where the report needs them, as an input
+    that was refused may have no size, or none that there are blocks of."""
+
+    def __init__(self, size, path, corner):
+        self.size, self.path, self.corner = size, path, corner
+
+    @cached_property
+    def input(self):
+        return Input(self.path)
+
+    @cached_property
+    def block(self):
+        return self.input.block(self.corner) if self.path else Block(*self.size, self.corner)
+
+    @cached_property
+    def trail(self):
+        return Trail(self.block, self.input.table, self.input.tiles)
+
+    def line(self, place):
+        """A line of the input as it stands, cut short, with what cannot be seen written out."""
+        lines = text_of(self.path).split('\n')  # the last one has no line end
+        if place > len(lines) or place == len(lines) and not lines[-1]:
+            return 'missing: the input ends before it'
+        return ascii(lines[place - 1][:60]) + (', without a line end' if place == len(lines) else '')
 
 
 def cell_words(block, cell):
@@ -74,75 +98,71 @@ def part_words(part):
     return 'more than 512 groups' if part == 514 else 'group %d, line %d of the input' % (part - 2, part + 1)
 
 
-def place_words(what, place, size, corner):
-    """The place of a no. The block is made here alone: some grounds have a place where there is no size to go by."""
+def place_words(what, place, scene):
     if what == 'part':
         return part_words(place)
     if what == 'tile':
-        return 'the lowest such tile is tile %d, %s' % (place, block_of(size, corner).tile_name(place))
+        return 'the lowest such tile is tile %d, %s' % (place, scene.block.tile_name(place))
     if what == 'wire':
-        return 'the lowest such wire is ' + wire_words(block_of(size, corner), place)
+        return 'the lowest such wire is ' + scene.block.wire_name(place)
     return 'it is %s %d' % (what, place)
 
 
-def block_of(size, corner):
-    if size is None:
-        raise Mistake('the input has no frame 04, so the size is not known')
-    return Block(*size, corner)
+def trail_words(ground, place, scene):
+    """What leads to a no: a head and lines, where the input shows any."""
+    if ground == 4:
+        return 'in that tile:', list(undecodable(scene.input.table, scene.input.tiles[place]))
+    if ground == 5:
+        return 'it is driven by:', scene.trail.fight(place)
+    if ground == 6:
+        return 'it is read by:', scene.trail.carry_readers(place)
+    if ground == 7:
+        return 'each of these reads the next:', scene.trail.loop(place)
+    if ground == 8:
+        return 'from switch to switch, back to the cell:', scene.trail.clocks(place)
+    return ('the line is:', [scene.line(place)]) if ground == 11 else ('', [])
 
 
-def show_no(ground, place, size, corner):
+def show_no(ground, place, scene):
     if ground not in GROUNDS:
         raise Mistake('%d is no ground for a no' % ground)
     words, what = GROUNDS[ground]
     print('no, ground %d, place %d (%04X hex): %s' % (ground, place, place, words))
     if what:
-        print(place_words(what, place, size, corner))
+        print(place_words(what, place, scene))
+    head, lines = trail_words(ground, place, scene) if scene.path else ('', [])
+    if lines:
+        print('\n  '.join([head] + lines))
 
 
 def show_yes(report, block):
     for driven, source in report.switches:
-        print('%s <- %s' % (wire_words(block, driven), wire_words(block, source)))
+        print('%s <- %s' % (block.wire_name(driven), block.wire_name(source)))
     for cell in report.cells:
         print(cell_words(block, cell))
     print('yes: %d enabled switches, %d cells in use' % (len(report.switches), len(report.cells)))
-
-
-def explain(report, size, corner):
-    ground, place = report.verdict
-    if ground:
-        show_no(ground, place, size, corner)
-    else:
-        show_yes(report, block_of(size, corner))
-
-
-def input_size(path):
-    """The size in the frame 04 of a report's input. The input may be one that was refused, so nothing else of it is judged."""
-    for line in lines_of(path):
-        if line.startswith('04') and len(line) == 6:
-            cursor = Cursor(line[2:])
-            return cursor.byte(), cursor.byte()
-    return None
 
 
 def main():
     parser = argparse.ArgumentParser(description=__doc__, formatter_class=argparse.RawDescriptionHelpFormatter,
                                      usage='%(prog)s [options] [W H] [REPORT]')
     parser.add_argument('words', nargs='*', metavar='W H REPORT')
-    parser.add_argument('--input', metavar='FILE', help="the report's input; then W and H are left out")
+    parser.add_argument('--input', metavar='FILE', help="the report's input; W and H are left out then")
     parser.add_argument('--corner', nargs=2, type=int, default=(0, 0), metavar=('X', 'Y'), help="the chip's coordinates of tile 0")
     arguments = parser.parse_args()
-    words = arguments.words
-    if arguments.input:
-        size = input_size(arguments.input)
-    elif len(words) >= 2:
+    words, size = arguments.words, None
+    if not arguments.input:
+        if len(words) < 2:
+            parser.error('give the size, W H, or --input FILE')
         size, words = (number(words[0]), number(words[1])), words[2:]
-    else:
-        parser.error('give the size, W H, or --input FILE')
     if len(words) > 1:
         parser.error('one report at a time')
-    lines = lines_of(words[0]) if words else sys.stdin.read().splitlines()
-    explain(Report(lines), size, arguments.corner)
+    report = Report(lines_of(words[0] if words else 0))
+    scene = Scene(size, arguments.input, arguments.corner)
+    if report.verdict[0]:
+        show_no(*report.verdict, scene)
+    else:
+        show_yes(report, scene.block)
 
 
 if __name__ == '__main__':

@@ -11,7 +11,7 @@ from collections import namedtuple
 
 ROWS, COLUMNS = 16, 54
 POSITIONS = ROWS * COLUMNS
-CELLS = 8
+CELLS, CELL_BITS = 8, 20  # in a tile, in a cell
 LIBRARY_LIMIT, PROGRAM_LIMIT = 8, 3  # the largest W and H
 
 
@@ -166,13 +166,11 @@ class Block:
         tile, q = divmod(port, len(NAMES))
         return '%s %s' % (self.tile_name(tile), NAMES[q])
 
-    def wire_names(self, wire):
-        """All names of a wire in one line. A global net has its name in every tile, so that name stands once."""
-        ports = self.ports(wire)
-        name = NAMES[wire % len(NAMES)]
-        if name.startswith('glb_netwk'):
-            return '%s of every tile' % name
-        return ', '.join(self.port_name(port) for port in ports)
+    def wire_name(self, wire):
+        """A wire's number and all its names. A global net has its name in every tile, so that name stands once."""
+        names = ', '.join(self.port_name(port) for port in self.ports(wire))
+        own = NAMES[wire % len(NAMES)]
+        return 'wire %d [%s]' % (wire, own + ' of every tile' if own.startswith('glb_netwk') else names)
 
 
 # ---- bit positions and cells (document 01, 'Cells')
@@ -256,41 +254,73 @@ class Cursor:
             raise Mistake('a frame that is too long')
 
 
+def text_of(path):
+    """A file of frames (0 is standard input) as it stands: only a line feed ends a line, and a byte that is no ASCII shows as such."""
+    with open(path, encoding='ascii', errors='backslashreplace', newline='\n') as file:
+        return file.read()
+
+
 def lines_of(path):
-    """The lines of a text file; a byte that is no ASCII shows as such and fails where it is read."""
-    with open(path, encoding='ascii', errors='backslashreplace') as file:
-        return file.read().splitlines()
+    """The lines of a file of frames."""
+    lines = text_of(path).split('\n')
+    return lines if lines[-1] else lines[:-1]
 
 
 def read_group(cursor):
-    destination = cursor.word()
+    destination = read_port(cursor)
     positions = cursor.words(cursor.byte())
-    return Group(destination, positions, [(cursor.byte(), cursor.word()) for _ in range(cursor.byte())])
+    return Group(destination, positions, [(cursor.byte(), read_port(cursor)) for _ in range(cursor.byte())])
+
+
+def read_port(cursor):
+    port = cursor.word()
+    if port >= len(NAMES):
+        raise Mistake('port %d: a logic tile has 0 to %d' % (port, len(NAMES) - 1))
+    return port
+
+
+class Input:
+    """The frames of a report's input: a routing table, and then W, H and the tiles, which a table alone has not.
+
+    A tile is one number with position p at weight 2^p.
+    """
+
+    def __init__(self, path):
+        self.path, self.table, self.size, self.tiles = path, Table([], [], []), [], []
+        for at, line in enumerate(lines_of(path), 1):
+            try:
+                self.add(Cursor(line))
+            except Mistake as mistake:
+                raise Mistake('%s, line %d: %s' % (path, at, mistake)) from None
+        if len(self.table.fields) != len(FIELDS):
+            raise Mistake('%s: no routing table: it begins with one frame 01' % path)
+
+    def block(self, corner):
+        """The block whose tiles these are."""
+        if len(self.size) != 2 or len(self.tiles) != self.size[0] * self.size[1]:
+            raise Mistake('%s: not one frame 04 and a frame 05 for each tile' % self.path)
+        return Block(*self.size, corner)
+
+    def add(self, cursor):
+        kind = cursor.byte()
+        if kind == 1:
+            self.table.fields.extend(cursor.words(len(FIELDS)))
+        elif kind == 2:
+            self.table.passive.extend(cursor.words(cursor.byte()))
+        elif kind == 3:
+            self.table.groups.append(read_group(cursor))
+        elif kind == 4:
+            self.size.extend((cursor.byte(), cursor.byte()))
+        elif kind == 5:
+            self.tiles.append(sum(cursor.byte() << 8 * b for b in range(POSITIONS // 8)))
+        else:
+            raise Mistake('no frame of an input')
+        cursor.end()
 
 
 def read_table(path):
-    """The routing table of a file of frames; frames 04 and 05 after it are passed over, so a whole input serves too."""
-    table = Table([], [], [])
-    for at, line in enumerate(lines_of(path), 1):
-        try:
-            cursor = Cursor(line)
-            kind = cursor.byte()
-            if kind == 1:
-                table.fields.extend(cursor.words(3))
-            elif kind == 2:
-                table.passive.extend(cursor.words(cursor.byte()))
-            elif kind == 3:
-                table.groups.append(read_group(cursor))
-            elif kind in (4, 5):
-                break
-            else:
-                raise Mistake('no frame of a routing table')
-            cursor.end()
-        except Mistake as mistake:
-            raise Mistake('%s, line %d: %s' % (path, at, mistake)) from None
-    if len(table.fields) != 3:
-        raise Mistake('%s: no routing table: it begins with one frame 01' % path)
-    return table
+    """The routing table of a file of frames; a whole input serves too."""
+    return Input(path).table
 
 
 # ---- IceStorm's text files: chip databases and .asc files

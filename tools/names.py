@@ -37,13 +37,9 @@ def table_claims(position, table):
     claims = ['the field %s' % name for name, p in zip(FIELDS, table.fields) if p == position]
     claims += ['passive position %d' % j for j, p in enumerate(table.passive) if p == position]
     for g, group in enumerate(table.groups):
-        claims += ['group %d, destination %s, weight %d' % (g, name_of(group.destination), 1 << k)
+        claims += ['group %d, destination %s, weight %d' % (g, NAMES[group.destination], 1 << k)
                    for k, p in enumerate(group.positions) if p == position]
     return claims
-
-
-def name_of(port):
-    return NAMES[port] if port < len(NAMES) else 'port %d, which is none' % port
 
 
 def show_position(text, path):

@@ -1,0 +1,145 @@
+//! Bits and settings of tiles: reading, writing, and grounds 4 and 9.
+use super::table::{self, Claims, CELL_BITS};
+use super::*;
+
+/// A tile's bits as words; two words more than needed, so that an index of four bits is never out of range.
+type Words = [u64; 16];
+
+fn words(tile: &[u8]) -> Words {
+    let mut words = [0; 16];
+    for (word, bytes) in words.iter_mut().zip(tile.chunks(8)) {
+        let mut eight = [0; 8];
+        eight[..bytes.len()].copy_from_slice(bytes);
+        *word = u64::from_le_bytes(eight);
+    }
+    words
+}
+
+fn bit(words: &Words, p: u16) -> u16 {
+    (words[(p >> 6) as usize & 15] >> (p & 63)) as u16 & 1
+}
+
+fn put(words: &mut Words, p: u16, value: u16) {
+    words[(p >> 6) as usize & 15] |= (value as u64) << (p & 63);
+}
+
+/// Reads a tile to settings that are all zero; whether it can be decoded.
+fn decode_tile(table: &[u16], claims: &Claims, tile: &[u8], settings: &mut [u16]) -> bool {
+    let words = words(tile);
+    if words.iter().zip(claims).any(|(word, claim)| word & !claim != 0) {
+        return false;
+    }
+    for (setting, &p) in settings.iter_mut().zip(table::fields(table)) {
+        *setting = bit(&words, p);
+    }
+    if settings[1] & settings[2] != 0 {
+        return false;
+    }
+    for (setting, &p) in settings[PASSIVES_FROM..].iter_mut().zip(table::passives(table)) {
+        *setting = bit(&words, p);
+    }
+    for (setting, group) in settings[GROUPS_FROM..].iter_mut().zip(table::groups(table)) {
+        let mut pattern = 0;
+        for (k, &p) in table::positions(group).iter().enumerate() {
+            pattern |= bit(&words, p) << k;
+        }
+        if pattern != 0 {
+            match table::entries(group).iter().position(|entry| entry[0] == pattern) {
+                Some(e) => *setting = e as u16 + 1,
+                None => return false,
+            }
+        }
+    }
+    for (cell, positions) in settings[CELLS_FROM..].chunks_exact_mut(2).zip(&CELL_BITS) {
+        let mut value = 0u32;
+        for (j, &p) in positions.iter().enumerate() {
+            value |= (bit(&words, p) as u32) << j;
+        }
+        cell[0] = value as u16;
+        cell[1] = (value >> 16) as u16;
+    }
+    true
+}
+
+/// The settings of a block's bits, or ground 4.
+pub fn decode(table: &[u16], claims: &Claims, bits: &[u8]) -> Result<Vec<u16>, No> {
+    let mut settings = vec![0; bits.len() / BYTES * SETTINGS];
+    let tiles = settings.chunks_exact_mut(SETTINGS).zip(bits.chunks_exact(BYTES));
+    for (t, (settings, bits)) in tiles.enumerate() {
+        if !decode_tile(table, claims, bits, settings) {
+            return Err(no(4, t));
+        }
+    }
+    Ok(settings)
+}
+
+pub fn read(w: u32, h: u32, table: &[u16], bits: &[u8], settings: &mut [u16]) -> Answer {
+    let n = tiles(w, h)?;
+    lengths(&[(table.len(), TABLE), (bits.len(), BYTES * n), (settings.len(), SETTINGS * n)])?;
+    let claims = table::check(table)?;
+    settings.copy_from_slice(&decode(table, &claims, bits)?);
+    Ok(0)
+}
+
+/// The largest value of each setting of a tile.
+fn limits(table: &[u16]) -> [u16; SETTINGS] {
+    let mut limits = [0; SETTINGS];
+    limits[..PASSIVES_FROM + table[3] as usize].fill(1);
+    for (limit, group) in limits[GROUPS_FROM..].iter_mut().zip(table::groups(table)) {
+        *limit = table::entries(group).len() as u16;
+    }
+    for cell in limits[CELLS_FROM..].chunks_exact_mut(2) {
+        cell.copy_from_slice(&[u16::MAX, 15]);
+    }
+    limits
+}
+
+/// Ground 9.
+pub fn check_settings(table: &[u16], settings: &[u16]) -> Result<(), No> {
+    let limits = limits(table);
+    for (t, tile) in settings.as_chunks::<SETTINGS>().0.iter().enumerate() {
+        let above = tile.iter().zip(&limits).fold(false, |above, (setting, limit)| above | (setting > limit));
+        if above || tile[1] & tile[2] != 0 {
+            return Err(no(9, t));
+        }
+    }
+    Ok(())
+}
+
+fn encode_tile(table: &[u16], settings: &[u16; SETTINGS], tile: &mut [u8]) {
+    let mut words = [0; 16];
+    for (&setting, &p) in settings.iter().zip(table::fields(table)) {
+        put(&mut words, p, setting);
+    }
+    for (&setting, &p) in settings[PASSIVES_FROM..].iter().zip(table::passives(table)) {
+        put(&mut words, p, setting);
+    }
+    for (&setting, group) in settings[GROUPS_FROM..].iter().zip(table::groups(table)) {
+        if setting != 0 {
+            let pattern = table::entries(group)[setting as usize - 1][0];
+            for (k, &p) in table::positions(group).iter().enumerate() {
+                put(&mut words, p, pattern >> k & 1);
+            }
+        }
+    }
+    for (cell, positions) in settings[CELLS_FROM..].chunks_exact(2).zip(&CELL_BITS) {
+        let value = cell[0] as u32 | (cell[1] as u32) << 16;
+        for (j, &p) in positions.iter().enumerate() {
+            put(&mut words, p, (value >> j & 1) as u16);
+        }
+    }
+    for (bytes, word) in tile.chunks_mut(8).zip(words) {
+        bytes.copy_from_slice(&word.to_le_bytes()[..bytes.len()]);
+    }
+}
+
+pub fn write(w: u32, h: u32, table: &[u16], settings: &[u16], bits: &mut [u8]) -> Answer {
+    let n = tiles(w, h)?;
+    lengths(&[(table.len(), TABLE), (bits.len(), BYTES * n), (settings.len(), SETTINGS * n)])?;
+    table::check(table)?;
+    check_settings(table, settings)?;
+    for (settings, bits) in settings.as_chunks().0.iter().zip(bits.chunks_exact_mut(BYTES)) {
+        encode_tile(table, settings, bits);
+    }
+    Ok(0)
+}

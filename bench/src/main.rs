@@ -1,0 +1,167 @@
+//! The proved library against a baseline without proofs: first the same answers, then the time of each.
+//!
+//!     bench DATA                          compares, measures and prints the tables; DATA is the folder of the blocks
+//!     bench DATA proved BLOCK CALL N      only calls N times (or `baseline`), for a profiler
+mod baseline;
+mod compare;
+mod inputs;
+mod proved;
+mod timing;
+mod worst;
+
+use compare::Case;
+use inputs::Block;
+use std::hint::black_box;
+use std::path::Path;
+use std::time::Duration;
+use timing::Times;
+
+const CALLS: [&str; 4] = ["read", "write", "step", "build"];
+
+/// The blocks that are measured, and whether each is real or made to be hard.
+fn blocks(data: &Path) -> Vec<(Block, bool)> {
+    let big = inputs::load(data, "big8_8x8");
+    let mut blocks: Vec<(Block, bool)> = ["counter8_1x1", "uart_tx_3x3"].map(|name| (inputs::load(data, name), true)).into();
+    blocks.push((accepted_part(&big, 4), true));
+    blocks.push((big.clone(), true));
+    blocks.push((big.empty(), true));
+    let made = [worst::chain_block(), worst::loop_block(), worst::groups_block(), worst::entries_block()];
+    blocks.extend(made.map(|block| (block, false)));
+    blocks
+}
+
+/// A part of a block that is accepted by itself, from the lowest corner that has one.
+fn accepted_part(big: &Block, s: u32) -> Block {
+    let corners = (0..=big.h - s).flat_map(|y| (0..=big.w - s).map(move |x| (x, y)));
+    corners.map(|(x, y)| big.part(x, y, s)).find(|part| Case::new(part.clone()).rows.is_some()).expect("an accepted part")
+}
+
+/// One call by the proved library, and one by the baseline.
+fn call_proved(case: &mut Case, call: &str) {
+    let mut room = std::mem::replace(&mut case.room, proved::Room::new(0));
+    let b = &case.block;
+    let _ = black_box(match call {
+        "read" => proved::read(b.w, b.h, &b.table, &b.bits, &mut case.settings),
+        "write" => proved::write(b.w, b.h, &b.table, &case.settings, &mut case.written),
+        "build" => proved::build(b.w, b.h, &b.table, &b.bits, &mut case.list, &mut room),
+        _ => {
+            let (mut values, mut next) = (std::mem::take(&mut case.values), std::mem::take(&mut case.next));
+            let answer = proved::step(&case.step(), &mut values, &mut next, &mut room);
+            (case.values, case.next) = (values, next);
+            answer
+        }
+    });
+    case.room = room;
+}
+
+fn call_baseline(case: &mut Case, call: &str) {
+    let b = &case.block;
+    let _ = black_box(match call {
+        "read" => baseline::read(b.w, b.h, &b.table, &b.bits, &mut case.settings),
+        "write" => baseline::write(b.w, b.h, &b.table, &case.settings, &mut case.written),
+        "build" => baseline::build(b.w, b.h, &b.table, &b.bits, &mut case.list),
+        _ => {
+            let (mut values, mut next) = (std::mem::take(&mut case.values), std::mem::take(&mut case.next));
+            let answer = baseline::step(&case.step(), &mut values, &mut next);
+            (case.values, case.next) = (values, next);
+            answer
+        }
+    });
+}
+
+fn measure(block: &Block, call: &str, budget: Duration) -> Times {
+    let (mut a, mut b) = (Case::new(block.clone()), Case::new(block.clone()));
+    timing::measure(budget, &mut || call_proved(&mut a, call), &mut || call_baseline(&mut b, call))
+}
+
+/// The largest ratio that is aimed at.
+fn goal(call: &str, real: bool) -> f64 {
+    match (call, real) {
+        ("build", true) => 2.0,
+        ("build", false) => 4.0,
+        _ => 1.5,
+    }
+}
+
+fn verdict(value: f64, goal: f64) -> &'static str {
+    if value <= goal {
+        "ok"
+    } else {
+        "above"
+    }
+}
+
+fn compare_all(blocks: &[(Block, bool)], data: &Path) -> Result<(), String> {
+    for (block, _) in blocks {
+        compare::all(&Case::new(block.clone()))?;
+    }
+    let small: Vec<Block> = ["counter8_1x1", "latch_1x1", "counter8_2x2", "shift_arst_2x2", "ripplediv_loc_2x2", "uart_tx_3x3"].map(|name| inputs::load(data, name)).into();
+    let met = compare::damaged(&small, 4000)?;
+    let shown: Vec<String> = (0..21).filter(|&g| met[g] > 0).map(|g| format!("{g}: {}", met[g])).collect();
+    println!("Same answers and outputs on {} blocks and 4000 damaged inputs (by ground: {}).\n", blocks.len(), shown.join(", "));
+    Ok(())
+}
+
+fn ratios(blocks: &[(Block, bool)], budget: Duration) {
+    println!("| block | call | proved, us | baseline, us | ratio | goal | |\n|---|---|---:|---:|---:|---:|---|");
+    for (block, real) in blocks {
+        let accepted = Case::new(block.clone()).rows.is_some();
+        for call in CALLS {
+            if call == "step" && !accepted {
+                continue;
+            }
+            let times = measure(block, call, budget);
+            let (ratio, goal) = (times.ratio(), goal(call, *real));
+            println!("| {} | {call} | {:.1} | {:.1} | {ratio:.2} | {goal} | {} |", block.name, times.proved, times.baseline, verdict(ratio, goal));
+        }
+    }
+}
+
+/// The proved library on parts of the real 8 by 8 block, and its growth from 4 by 4.
+fn growth(big: &Block, budget: Duration) {
+    println!("\n| size | wires | read, us | write, us | step, us | build, us | build, ns a wire |\n|---|---:|---:|---:|---:|---:|---:|");
+    let mut four = [0.0; 4];
+    let mut eight = [0.0; 4];
+    for s in [1, 2, 3, 4, 6, 8] {
+        let part = accepted_part(big, s);
+        let wires = Case::new(part.clone()).rows.unwrap();
+        let times = CALLS.map(|call| measure(&part, call, budget).proved);
+        let [read, write, step, build] = times;
+        println!("| {s}x{s} | {wires} | {read:.1} | {write:.1} | {step:.1} | {build:.1} | {:.1} |", build * 1000.0 / wires as f64);
+        match s {
+            4 => four = times,
+            8 => eight = times,
+            _ => (),
+        }
+    }
+    println!("\n| growth, 8x8 / 4x4 | ratio | goal | |\n|---|---:|---:|---|");
+    for ((call, four), eight) in CALLS.iter().zip(four).zip(eight) {
+        println!("| {call} | {:.2} | 6 | {} |", eight / four, verdict(eight / four, 6.0));
+    }
+}
+
+fn profile(blocks: Vec<(Block, bool)>, side: &str, name: &str, call: &str, times: u32) {
+    let (block, _) = blocks.into_iter().find(|(block, _)| block.name == name).expect("a block of that name");
+    let mut case = Case::new(block);
+    for _ in 0..times {
+        match side {
+            "proved" => call_proved(&mut case, call),
+            _ => call_baseline(&mut case, call),
+        }
+    }
+}
+
+fn main() -> Result<(), String> {
+    let words: Vec<String> = std::env::args().collect();
+    let data = Path::new(words.get(1).ok_or("usage: bench DATA")?);
+    let blocks = blocks(data);
+    if let [_, _, side, name, call, times] = &words[..] {
+        profile(blocks, side, name, call, times.parse().map_err(|_| "a number of times")?);
+        return Ok(());
+    }
+    compare_all(&blocks, data)?;
+    let budget = Duration::from_millis(300);
+    ratios(&blocks, budget);
+    growth(&inputs::load(data, "big8_8x8"), budget);
+    Ok(())
+}

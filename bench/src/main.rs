@@ -18,6 +18,10 @@ use timing::Times;
 
 const CALLS: [&str; 4] = ["read", "write", "step", "build"];
 
+/// How often everything is measured, and how long each time.
+const SWEEPS: u32 = 4;
+const BUDGET: Duration = Duration::from_millis(100);
+
 /// The blocks that are measured, and whether each is real or made to be hard.
 fn blocks(data: &Path) -> Vec<(Block, bool)> {
     let big = inputs::load(data, "big8_8x8");
@@ -69,9 +73,34 @@ fn call_baseline(case: &mut Case, call: &str) {
     });
 }
 
-fn measure(block: &Block, call: &str, budget: Duration) -> Times {
-    let (mut a, mut b) = (Case::new(block.clone()), Case::new(block.clone()));
-    timing::measure(budget, &mut || call_proved(&mut a, call), &mut || call_baseline(&mut b, call))
+/// A block, a call and the best times so far.
+struct Measured {
+    block: Block,
+    call: &'static str,
+    times: Times,
+}
+
+impl Measured {
+    fn measure(&mut self) {
+        let (mut a, mut b) = (Case::new(self.block.clone()), Case::new(self.block.clone()));
+        let call = self.call;
+        let times = timing::measure(BUDGET, &mut || call_proved(&mut a, call), &mut || call_baseline(&mut b, call));
+        self.times = self.times.best(times);
+    }
+}
+
+/// Every call on every block, in several sweeps, so that a slow moment of the machine does not spoil a whole row.
+fn measure<'a>(blocks: impl Iterator<Item = &'a Block>) -> Vec<Measured> {
+    let mut all = Vec::new();
+    for block in blocks {
+        let accepted = Case::new(block.clone()).rows.is_some();
+        let calls = CALLS.iter().filter(|&&call| accepted || call != "step");
+        all.extend(calls.map(|call| Measured { block: block.clone(), call, times: Times::WORST }));
+    }
+    for _ in 0..SWEEPS {
+        all.iter_mut().for_each(Measured::measure);
+    }
+    all
 }
 
 /// The largest ratio that is aimed at.
@@ -102,33 +131,29 @@ fn compare_all(blocks: &[(Block, bool)], data: &Path) -> Result<(), String> {
     Ok(())
 }
 
-fn ratios(blocks: &[(Block, bool)], budget: Duration) {
+fn ratios(blocks: &[(Block, bool)]) {
     println!("| block | call | proved, us | baseline, us | ratio | goal | |\n|---|---|---:|---:|---:|---:|---|");
-    for (block, real) in blocks {
-        let accepted = Case::new(block.clone()).rows.is_some();
-        for call in CALLS {
-            if call == "step" && !accepted {
-                continue;
-            }
-            let times = measure(block, call, budget);
-            let (ratio, goal) = (times.ratio(), goal(call, *real));
-            println!("| {} | {call} | {:.1} | {:.1} | {ratio:.2} | {goal} | {} |", block.name, times.proved, times.baseline, verdict(ratio, goal));
-        }
+    for Measured { block, call, times } in measure(blocks.iter().map(|(block, _)| block)) {
+        let real = blocks.iter().any(|(b, real)| b.name == block.name && *real);
+        let (ratio, goal) = (times.ratio(), goal(call, real));
+        println!("| {} | {call} | {:.1} | {:.1} | {ratio:.2} | {goal} | {} |", block.name, times.proved, times.baseline, verdict(ratio, goal));
     }
 }
 
 /// The proved library on parts of the real 8 by 8 block, and its growth from 4 by 4.
-fn growth(big: &Block, budget: Duration) {
+fn growth(big: &Block) {
     println!("\n| size | wires | read, us | write, us | step, us | build, us | build, ns a wire |\n|---|---:|---:|---:|---:|---:|---:|");
+    let parts = [1, 2, 3, 4, 6, 8].map(|s| accepted_part(big, s));
+    let all = measure(parts.iter());
     let mut four = [0.0; 4];
     let mut eight = [0.0; 4];
-    for s in [1, 2, 3, 4, 6, 8] {
-        let part = accepted_part(big, s);
+    for (part, times) in parts.iter().zip(all.chunks(4)) {
         let wires = Case::new(part.clone()).rows.unwrap();
-        let times = CALLS.map(|call| measure(&part, call, budget).proved);
+        let times = [0, 1, 2, 3].map(|call: usize| times[call].times.proved);
         let [read, write, step, build] = times;
-        println!("| {s}x{s} | {wires} | {read:.1} | {write:.1} | {step:.1} | {build:.1} | {:.1} |", build * 1000.0 / wires as f64);
-        match s {
+        let (w, h) = (part.w, part.h);
+        println!("| {w}x{h} | {wires} | {read:.1} | {write:.1} | {step:.1} | {build:.1} | {:.1} |", build * 1000.0 / wires as f64);
+        match w {
             4 => four = times,
             8 => eight = times,
             _ => (),
@@ -160,8 +185,7 @@ fn main() -> Result<(), String> {
         return Ok(());
     }
     compare_all(&blocks, data)?;
-    let budget = Duration::from_millis(300);
-    ratios(&blocks, budget);
-    growth(&inputs::load(data, "big8_8x8"), budget);
+    ratios(&blocks);
+    growth(&inputs::load(data, "big8_8x8"));
     Ok(())
 }

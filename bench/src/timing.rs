@@ -9,6 +9,12 @@ pub struct Times {
 }
 
 impl Times {
+    pub const WORST: Times = Times { proved: f64::MAX, baseline: f64::MAX };
+
+    pub fn best(self, other: Times) -> Times {
+        Times { proved: self.proved.min(other.proved), baseline: self.baseline.min(other.baseline) }
+    }
+
     pub fn ratio(&self) -> f64 {
         self.proved / self.baseline
     }
@@ -35,15 +41,14 @@ fn time(call: &mut dyn FnMut(), repeats: u32) -> f64 {
     start.elapsed().as_secs_f64() * 1e6 / repeats as f64
 }
 
-/// Alternating rounds for so long, at least five.
+/// Alternating rounds for so long, at least two.
 pub fn measure(budget: Duration, proved: &mut dyn FnMut(), baseline: &mut dyn FnMut()) -> Times {
     let (many, more) = (repeats(proved), repeats(baseline));
-    let mut best = Times { proved: f64::MAX, baseline: f64::MAX };
+    let mut best = Times::WORST;
     let start = Instant::now();
     let mut rounds = 0;
-    while rounds < 5 || start.elapsed() < budget {
-        best.proved = best.proved.min(time(proved, many));
-        best.baseline = best.baseline.min(time(baseline, more));
+    while rounds < 2 || start.elapsed() < budget {
+        best = best.best(Times { proved: time(proved, many), baseline: time(baseline, more) });
         rounds += 1;
     }
     best

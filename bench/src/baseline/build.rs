@@ -166,19 +166,22 @@ impl Block {
         }
     }
 
+    /// The row of each wire, tile by tile; spans apart, as they are either lent or copies.
     fn rows(&self, sources: &[u16]) -> Rows {
-        let mut rows = Vec::with_capacity(self.wires.len());
+        let mut rows = Vec::with_capacity(self.wires.len() / 2);
         let mut index = vec![0; self.wires.len()];
         for t in 0..self.tiles() {
-            for q in 0..PORTS {
-                let p = PORTS * t + q;
-                let wire = self.wires[p];
-                if wire as usize == p {
+            let (spans, cells) = (PORTS * t..PORTS * t + LOCAL, PORTS * t + LOCAL..PORTS * (t + 1));
+            for p in spans {
+                if self.wires[p] as usize == p {
                     index[p] = rows.len() as u16;
-                    rows.push(match sources[p] {
-                        0 => self.cell_row(wire, t, q),
-                        source => [5, wire, source - 1, 0, 0, 0, 0],
-                    });
+                    rows.push(if sources[p] == 0 { plain(1, p as u16) } else { copy(p, sources[p]) });
+                }
+            }
+            for p in cells {
+                if self.wires[p] as usize == p {
+                    index[p] = rows.len() as u16;
+                    rows.push(if sources[p] == 0 { self.cell_row(p as u16, t, p - PORTS * t) } else { copy(p, sources[p]) });
                 }
             }
         }
@@ -211,6 +214,11 @@ impl Block {
 
 fn plain(kind: u16, wire: u16) -> Row {
     [kind, wire, 0, 0, 0, 0, 0]
+}
+
+/// The row of a wire on which a switch ends; `source` is one more than the wire that it comes from.
+fn copy(wire: usize, source: u16) -> Row {
+    [5, wire as u16, source - 1, 0, 0, 0, 0]
 }
 
 pub fn build(w: u32, h: u32, table: &[u16], bits: &[u8], list: &mut [u16]) -> Answer {

@@ -1,5 +1,5 @@
 //! A step: grounds 1, 2, 3, 9, 12, 10, the values before, and the next state.
-use super::build::{reads, Row};
+use super::build::Row;
 use super::codec::check_settings;
 use super::table;
 use super::wires::wires;
@@ -22,17 +22,21 @@ const NO_WIRE: u8 = 0;
 const TO_COME: u8 = 1;
 const LISTED: u8 = 2;
 
-fn row_ok(row: &Row, cells: usize, wires: &[u8]) -> bool {
-    let [kind, wire, _, _, _, _, table] = *row;
-    if !(1..=7).contains(&kind) || wires.get(wire as usize) != Some(&TO_COME) {
+/// Whether a row may come next; `marks` says which wires came before.
+fn row_ok(row: &Row, cells: usize, marks: &[u8]) -> bool {
+    let [kind, wire, a, b, c, d, table] = *row;
+    let listed = |wire: u16| marks.get(wire as usize) == Some(&LISTED);
+    if marks.get(wire as usize) != Some(&TO_COME) {
         return false;
     }
-    let listed = reads(row);
-    let used = if kind == 4 { 1 } else { listed.len() };
-    listed.iter().all(|&wire| wires.get(wire as usize) == Some(&LISTED))
-        && (kind != 4 || (row[2] as usize) < cells)
-        && row[2 + used..6].iter().all(|&number| number == 0)
-        && (kind == 6 || table == 0)
+    match kind {
+        1..=3 => a | b | c | d | table == 0,
+        4 => (a as usize) < cells && b | c | d | table == 0,
+        5 => listed(a) && b | c | d | table == 0,
+        6 => listed(a) && listed(b) && listed(c) && listed(d),
+        7 => listed(a) && listed(b) && listed(c) && d | table == 0,
+        _ => false,
+    }
 }
 
 /// The rows of the block's wires, or ground 12.

@@ -1,0 +1,115 @@
+-- `contents::fill_bits` meets its contract. Invariant: the first t parts are the tiles' bytes, and the length is the old one. Measure: the tiles
+-- that are left. Assumes nothing.
+use Rattle.frames.proofs.BoundLaws.{size-at-le}
+use Rattle.frames.specs.Contents.{tileBytes, bitsOf}
+use Rattle.frames.specs.Hex.{pairAt}
+use Rattle.lists.proofs.PartLaws.{part-code-length, put-length, joined-step, joined-end}
+use Rattle.lists.specs.Parts.{joined}
+use Rattle.lists.specs.Tables.{tabulate}
+use lib.ListN.{length, take}
+use borrow.Author.Needs.{needs}
+use native.Mathlib.Omega.{arith}
+use Prim.Native.Nat.{_+_, _-_, _*_, _≤_}
+use mathlib.Core.Path.{_≡_, sym, ap, _∙_}
+use Rattle.frames.proofs.contents.fill_bits.Statement.{statement}
+use Rattle.frames.proofs.contents.fill_bits.Tie as tie
+
+abbrev Inv-loop : tie.InvT-loop
+Inv-loop s n bits₀ start t₀ bits t = (t ≤ n) × (length bits ≡ 108 * n) × (take (108 * t) bits ≡ joined (tileBytes s) t)
+
+abbrev μ-loop : tie.MeasureT-loop
+μ-loop s n bits₀ start t₀ bits t = n - t
+
+count-groups-requires : tie.Need-count-groups-requires Inv-loop μ-loop
+count-groups-requires c κs = search needs
+
+add-start : tie.Need-add-start Inv-loop μ-loop
+add-start c = omega (arith, size-at-le (c .before .before .before .before .args .s .now))
+
+loop-holds : tie.Need-loop-holds Inv-loop μ-loop
+unfolding joined
+loop-holds c = search needs
+
+mul-from : tie.Need-mul-from Inv-loop μ-loop
+mul-from c = search needs
+
+add-to : tie.Need-add-to Inv-loop μ-loop
+add-to c = search needs
+
+mul-fill-tile : tie.Need-mul-fill-tile Inv-loop μ-loop
+mul-fill-tile c = search needs
+
+add-fill-tile : tie.Need-add-fill-tile Inv-loop μ-loop
+add-fill-tile c = omega (arith, size-at-le (c .before .before .before .before .before .before .args .s .now))
+
+sub-fill-tile : tie.Need-sub-fill-tile Inv-loop μ-loop
+sub-fill-tile c = search needs
+
+part-fill-tile-start : tie.Need-part-fill-tile-start Inv-loop μ-loop
+part-fill-tile-start c = search needs
+
+part-fill-tile-end : tie.Need-part-fill-tile-end Inv-loop μ-loop
+part-fill-tile-end c = search needs
+
+fill-tile-requires : tie.Need-fill-tile-requires Inv-loop μ-loop
+fill-tile-requires c κs =
+    let at-loop = c .before .before in
+    let at-start = at-loop .before .before .before .before .before in
+    (omega (arith, size-at-le (at-start .args .s .now)), part-code-length 108 (at-loop .loop .t) (at-start .args .n) (at-loop .loop .bits) (at-loop .loop .inv .1) (omega arith))
+
+add-t : tie.Need-add-t Inv-loop μ-loop
+add-t c = search needs
+
+loop-less : tie.Need-loop-less Inv-loop μ-loop
+loop-less c = search needs
+
+loop-again : tie.Need-loop-again Inv-loop μ-loop
+loop-again c =
+    let at-fill-tile = c .before .before in
+    let at-count-groups = at-fill-tile .before .before .before .before .before in
+    let at-start = at-count-groups .before .before .before in
+    let at-loop = c .before .before .before .before .before in
+    let args = at-start .args in
+    let s = args .s .now in
+    let t = at-loop .loop .t in
+    let bits = at-loop .loop .bits in
+    let part = at-fill-tile .fill-tile .last .1 .1 .0 in
+    let long = at-fill-tile .fill-tile .kept .1 .1 .0 ∙ part-code-length 108 t (args .n) bits (at-loop .loop .inv .1) (omega arith) in
+    let same = at-fill-tile .fill-tile .ensures ∙ ap (λ a. tabulate (λ j. pairAt s (a + 7 + 219 * t + 2 + 2 * j)) 0 108) (at-count-groups .count-groups .ensures .1) in (
+      omega arith,
+      put-length 108 t bits part (omega arith) long ∙ at-loop .loop .inv .1,
+      joined-step 108 (tileBytes s) t bits part (omega arith) long (at-loop .loop .inv .2) same (108 * (t + 1)) (omega arith),
+    )
+
+same-length : tie.Need-same-length Inv-loop μ-loop
+same-length c = c .before .loop .inv .1 ∙ sym (c .before .before .before .before .before .before .pre .1)
+
+returns : tie.Need-returns Inv-loop μ-loop
+unfolding bitsOf
+returns c =
+    let at-loop = c .before in
+    let at-start = at-loop .before .before .before .before .before in
+    joined-end (tileBytes (at-start .args .s .now)) (at-loop .loop .t) _ (108 * at-loop .loop .t) (at-loop .loop .bits) (at-loop .loop .inv .2) (omega arith) (omega arith)
+
+pub fill-bits-spec : {M : Type 1} → statement M
+fill-bits-spec =
+    tie.close
+    (tie.spec
+    Inv-loop
+    μ-loop
+    count-groups-requires
+    add-start
+    loop-holds
+    mul-from
+    add-to
+    mul-fill-tile
+    add-fill-tile
+    sub-fill-tile
+    part-fill-tile-start
+    part-fill-tile-end
+    fill-tile-requires
+    add-t
+    loop-less
+    loop-again
+    same-length
+    returns)

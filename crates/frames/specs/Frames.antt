@@ -1,0 +1,72 @@
+-- The frames that are read, as document 01 gives them, and the line of each ('Frames and one whole run').
+use Prim.Native.Nat.{ℕ, _<_, _≤_}
+use mathlib.Core.Path.{_≡_}
+use mathlib.Core.List.{List, [], _∷_, _++_}
+use lib.ListN.{length}
+use Rattle.frames.specs.Each.{each, Each}
+use Rattle.frames.specs.Hex.{two, four}
+
+-- "entries of pattern and source"
+pub record Entry : Type 0 where
+  pub pattern : ℕ
+  pub source : ℕ
+
+-- "destination, position count, positions, entry count, entries": the counts are those of the lists
+pub record Group : Type 0 where
+  pub destination : ℕ
+  pub positions : List ℕ
+  pub entries : List Entry
+
+pub data Frame : Type 0 where
+  -- "01 fields": the positions of the three
+  fields : (a b c : ℕ) → Frame
+  -- "02 count, passive positions"
+  passives : (positions : List ℕ) → Frame
+  -- "03 destination, position count, positions, entry count, entries"
+  group : (x : Group) → Frame
+  -- "04 W, H"
+  size : (w h : ℕ) → Frame
+  -- "05 a tile": its bytes
+  tile : (bytes : List ℕ) → Frame
+
+-- "Ports, wires, positions, tables and places are 4 digits [..], the rest 2."
+abbrev pub entryDigits : Entry → List ℕ
+entryDigits e = two (e .pattern) ++ four (e .source)
+
+abbrev pub digits : Frame → List ℕ
+digits (fields a b c) = two 1 ++ each four (a ∷ b ∷ c ∷ [])
+digits (passives positions) = two 2 ++ (two (length positions) ++ each four positions)
+digits (group x) =
+    two 3
+    ++ (four (x .destination) ++ (two (length (x .positions)) ++ (each four (x .positions) ++ (two (length (x .entries)) ++ each entryDigits (x .entries)))))
+digits (size w h) = two 4 ++ (two w ++ two h)
+digits (tile bytes) = two 5 ++ each two bytes
+
+-- "one frame a line, every line ended"
+abbrev pub line : Frame → List ℕ
+line f = digits f ++ (10 ∷ [])
+
+-- a number that fits its digits
+abbrev pub Fits2 : ℕ → Type 0
+Fits2 x = x < 256
+
+abbrev pub Fits4 : ℕ → Type 0
+Fits4 x = x < 65536
+
+abbrev pub EntryFits : Entry → Type 0
+EntryFits e = Fits2 (e .pattern) × Fits4 (e .source)
+
+pub record GroupFits (x : Group) : Type 0 where
+  pub destination-fits : Fits4 (x .destination)
+  pub positions-few : length (x .positions) ≤ 8
+  pub positions-fit : Each Fits4 (x .positions)
+  pub entries-few : length (x .entries) ≤ 32
+  pub entries-fit : Each EntryFits (x .entries)
+
+-- The numbers fit their digits, and no count is over its limit. A count of 0 is well formed here, and breaks a rule of the table (ground 3).
+abbrev pub Proper : Frame → Type 0
+Proper (fields a b c) = Each Fits4 (a ∷ b ∷ c ∷ [])
+Proper (passives positions) = (length positions ≤ 64) × Each Fits4 positions
+Proper (group x) = GroupFits x
+Proper (size w h) = Fits2 w × Fits2 h
+Proper (tile bytes) = (length bytes ≡ 108) × Each Fits2 bytes

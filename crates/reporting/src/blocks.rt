@@ -1,0 +1,166 @@
+// The report of a block: it is built, and its lines are those of an accepted block or the one line of a no.
+ghost use mathlib.Core.Path.{_≡_};
+ghost use Prim.Native.Nat.{_+_, _*_, _<_, _≤_};
+ghost use lib.ListN.{length};
+ghost use Rattle.refusal.specs.Grounds.{numberOf, placeOf};
+ghost use Rattle.fabric.specs.Block.{block, tiles, ports, portsPerTile, Sized};
+ghost use Rattle.routing.specs.LogicTile.{logicTile};
+ghost use Rattle.routing.specs.Rules.{TableRules};
+ghost use Rattle.routing.specs.Table.{tableLength};
+ghost use Rattle.codec.specs.Bits.{tileBytes};
+ghost use Rattle.codec.specs.Settings.{settingsLength};
+ghost use Rattle.config.specs.Blocks.{undecodableTile, decoded};
+ghost use Rattle.reporting.specs.Lines.{answerLine, placed};
+ghost use Rattle.block.specs.Lengths.{BuildLong};
+ghost use Rattle.frames.specs.Whole.{Small};
+ghost use Rattle.reporting.specs.Report.{outLength, linesOf, acceptedLines, blockLines};
+use crate::lines::answer_line;
+use crate::lines::put;
+use crate::listing;
+use block::Built;
+use fabric::Block;
+use refusal::Refusal;
+
+// Room for the largest block of a program, 3 by 3: numbers for its ports, its rows and its settings.
+const PORTS: usize = 4554;
+
+const ROWS: usize = 31878;
+
+const SETTINGS: usize = 5355;
+
+// Room of zeros. The promise gives the length alone, which is what lending a part of it asks for.
+fn rows_room() -> [u16; ROWS]
+    ensures { λ r. ⌜ 31878 ≡ length r ⌝ }
+{
+    [0; ROWS]
+}
+
+fn settings_room() -> [u16; SETTINGS]
+    ensures { λ r. ⌜ 5355 ≡ length r ⌝ }
+{
+    [0; SETTINGS]
+}
+
+fn ports_room() -> [u16; PORTS]
+    ensures { λ r. ⌜ 4554 ≡ length r ⌝ }
+{
+    [0; PORTS]
+}
+
+// The one line of a no.
+pub fn put_refusal(r: Refusal, out: &mut [u8]) -> usize
+    requires { ⌜ length (now out) ≡ outLength ⌝ }
+    ensures next { λ n. ⌜ n ≡ 0 + length (answerLine (numberOf r) (placeOf r)) ⌝ }
+    ensures out { λ n. ⌜ now (out .exit) ≡ placed 0 (answerLine (numberOf r) (placeOf r)) (now (out .entry)) ⌝ }
+{
+    let line = answer_line(refusal::number(r), refusal::place(r));
+    put(out, 0, &line)
+}
+
+// The lines of an accepted block of n tiles, from its map of sources and its settings.
+fn put_lines(sources: &[u16], st: &[u16], n: usize, out: &mut [u8]) -> usize
+    requires { ⌜ (n ≤ 9) × (length (now sources) ≡ portsPerTile * n) × (length (now st) ≡ settingsLength logicTile * n) × (length (now out) ≡ outLength) ⌝ }
+    ensures next { λ r. ⌜ r ≡ 0 + length (linesOf (now (sources .entry)) (now (st .entry)) n) ⌝ }
+    ensures out { λ r. ⌜ now (out .exit) ≡ placed 0 (linesOf (now (sources .entry)) (now (st .entry)) n) (now (out .entry)) ⌝ }
+{
+    let cells = listing::put_switches(sources, out, 0);
+    let last = listing::put_cells(st, n, out, cells);
+    let line = answer_line(0, 0);
+    put(out, last, &line)
+}
+
+// The lines of a block that building accepted.
+fn put_accepted(
+    b: Block,
+    table: &[u16],
+    bits: &[u8],
+    settings: &mut [u16],
+    wires: &mut [u16],
+    sources: &mut [u16],
+    out: &mut [u8],
+) -> usize
+    requires { ⌜ Sized b × (tiles b ≤ 9) × TableRules logicTile (now table) × (tiles b ≤ undecodableTile (now table) (now bits) (tiles b)) ⌝ }
+    requires { ⌜ (length (now bits) ≡ tileBytes * tiles b) × (length (now settings) ≡ settingsLength logicTile * tiles b) × (length (now wires) ≡ ports b) × (length (now sources) ≡ ports b) × (length (now out) ≡ outLength) ⌝ }
+    ensures next { λ r. ⌜ r ≡ 0 + length (acceptedLines b (now (table .entry)) (decoded (now (table .entry)) (now (bits .entry)) (tiles b))) ⌝ }
+    ensures out { λ r. ⌜ now (out .exit) ≡ placed 0 (acceptedLines b (now (table .entry)) (decoded (now (table .entry)) (now (bits .entry)) (tiles b))) (now (out .entry)) ⌝ }
+{
+    let n = (b.h * b.w) as usize;
+    config::blocks::decode_block(table, bits, settings, n);
+    equations::wires::fill_wires(b, wires);
+    drivers::sources::find_sources(b, table, settings, wires, sources);
+    put_lines(sources, settings, n, out)
+}
+
+// The report of a block's bits, in room of the exact lengths.
+fn put_built(
+    w: u32,
+    h: u32,
+    table: &[u16],
+    bits: &[u8],
+    list: &mut [u16],
+    settings: &mut [u16],
+    wires: &mut [u16],
+    sources: &mut [u16],
+    rows: &mut [u16],
+    marks: &mut [u16],
+    queue: &mut [u16],
+    out: &mut [u8],
+) -> usize
+    requires { ⌜ Small w h × (length (now out) ≡ outLength) ⌝ }
+    requires { ⌜ BuildLong (tiles (block w h)) (length (now table)) (length (now bits)) (length (now list)) (length (now settings)) (length (now wires)) (length (now sources)) (length (now rows)) (length (now marks)) (length (now queue)) ⌝ }
+    ensures next { λ r. ⌜ r ≡ 0 + length (blockLines w h (now (table .entry)) (now (bits .entry))) ⌝ }
+    ensures out { λ r. ⌜ now (out .exit) ≡ placed 0 (blockLines w h (now (table .entry)) (now (bits .entry))) (now (out .entry)) ⌝ }
+{
+    let built = block::build(
+        w,
+        h,
+        table,
+        bits,
+        list,
+        settings,
+        wires,
+        sources,
+        rows,
+        marks,
+        queue,
+    );
+    match built {
+        Built::Refused(r) => put_refusal(r, out),
+        Built::Listed(rows_listed) => {
+            put_accepted(Block { w, h }, table, bits, settings, wires, sources, out)
+        }
+    }
+}
+
+// The report of a block's bits.
+pub fn put_block(w: u32, h: u32, table: &[u16], bits: &[u8], out: &mut [u8]) -> usize
+    requires { ⌜ Small w h × (length (now bits) ≡ tileBytes * tiles (block w h)) × (length (now table) ≡ tableLength logicTile) × (length (now out) ≡ outLength) ⌝ }
+    ensures next { λ r. ⌜ r ≡ 0 + length (blockLines w h (now (table .entry)) (now (bits .entry))) ⌝ }
+    ensures out { λ r. ⌜ now (out .exit) ≡ placed 0 (blockLines w h (now (table .entry)) (now (bits .entry))) (now (out .entry)) ⌝ }
+{
+    let tiles = (h * w) as usize;
+    let n = 506 * tiles;
+    let numbers = 7 * n;
+    let s = 595 * tiles;
+    let mut list = rows_room();
+    let mut rows = rows_room();
+    let mut settings = settings_room();
+    let mut wires = ports_room();
+    let mut sources = ports_room();
+    let mut marks = ports_room();
+    let mut queue = ports_room();
+    put_built(
+        w,
+        h,
+        table,
+        bits,
+        &mut list[..numbers],
+        &mut settings[..s],
+        &mut wires[..n],
+        &mut sources[..n],
+        &mut rows[..numbers],
+        &mut marks[..n],
+        &mut queue[..n],
+        out,
+    )
+}

@@ -1,0 +1,76 @@
+// A whole run (document 01, 'Frames and one whole run'): an input of frames to the lines of its report, bytes to bytes. The program `report`
+// only reads its standard input, calls `report` and writes what it gave.
+//
+// specs/Report.antt says what is printed. An input longer than `INPUT` bytes has the report of its first `INPUT` bytes (proofs/InputLaws.antt:
+// `report-prefix`), so a caller need read no more.
+ghost use mathlib.Core.Path.{_≡_};
+ghost use Prim.Native.Nat.{_+_, _*_, _≤_};
+ghost use mathlib.Core.List.{_++_};
+ghost use lib.ListN.{length, drop};
+ghost use Rattle.frames.specs.Whole.{Small};
+ghost use Rattle.frames.specs.Contents.{tableOf, bitsOf};
+ghost use Rattle.reporting.specs.Lines.{placed};
+ghost use Rattle.reporting.specs.Report.{outLength, blockLines, reportOf};
+use frames::input::Parsed;
+
+pub mod blocks;
+pub mod lines;
+pub mod listing;
+
+// As much of an input as its report hangs on, and as much as a report can have.
+pub const INPUT: usize = 131072;
+
+pub const OUTPUT: usize = 51039;
+
+const TABLE: usize = 38469;
+
+const BITS: usize = 972;
+
+// Room of zeros, of which callers need the length alone.
+fn table_room() -> [u16; TABLE]
+    ensures { λ r. ⌜ 38469 ≡ length r ⌝ }
+{
+    [0; TABLE]
+}
+
+fn bits_room() -> [u8; BITS]
+    ensures { λ r. ⌜ 972 ≡ length r ⌝ }
+{
+    [0; BITS]
+}
+
+// The report of an input whose frames are in order, in room of the exact lengths.
+fn put_frames(s: &[u8], w: u32, h: u32, table: &mut [u16], bits: &mut [u8], out: &mut [u8]) -> usize
+    requires { ⌜ Small w h × (length (now table) ≡ 38469) × (length (now bits) ≡ 108 * (h * w)) × (length (now out) ≡ outLength) ⌝ }
+    ensures next { λ r. ⌜ r ≡ 0 + length (blockLines w h (tableOf (now (s .entry))) (bitsOf (now (s .entry)) (h * w))) ⌝ }
+    ensures out { λ r. ⌜ now (out .exit) ≡ placed 0 (blockLines w h (tableOf (now (s .entry))) (bitsOf (now (s .entry)) (h * w))) (now (out .entry)) ⌝ }
+{
+    frames::contents::fill_table(s, table);
+    frames::contents::fill_bits(s, (h * w) as usize, bits);
+    blocks::put_block(w, h, table, bits, out)
+}
+
+// The report of an input whose frames are in order.
+fn put_input(s: &[u8], w: u32, h: u32, out: &mut [u8]) -> usize
+    requires { ⌜ Small w h × (length (now out) ≡ outLength) ⌝ }
+    ensures next { λ r. ⌜ r ≡ 0 + length (blockLines w h (tableOf (now (s .entry))) (bitsOf (now (s .entry)) (h * w))) ⌝ }
+    ensures out { λ r. ⌜ now (out .exit) ≡ placed 0 (blockLines w h (tableOf (now (s .entry))) (bitsOf (now (s .entry)) (h * w))) (now (out .entry)) ⌝ }
+{
+    let end = 108 * (h * w) as usize;
+    let mut table = table_room();
+    let mut bits = bits_room();
+    put_frames(s, w, h, &mut table, &mut bits[..end], out)
+}
+
+// The report of an input: how many bytes it has, at the front of `out`.
+// Rules out: lines before a no; the lines of another input; a last line that is left out.
+pub fn report(input: &[u8], out: &mut [u8; OUTPUT]) -> usize
+    ensures length { λ r. ⌜ r ≡ length (reportOf (now (input .entry))) ⌝ }
+    ensures out { λ r. ⌜ now (out .exit) ≡ reportOf (now (input .entry)) ++ drop r (now (out .entry)) ⌝ }
+    ensures fits { λ r. ⌜ r ≤ length (now (out .exit)) ⌝ }
+{
+    match frames::input::parse(input) {
+        Parsed::Refused(r) => blocks::put_refusal(r, out),
+        Parsed::Block(w, h) => put_input(input, w, h, out),
+    }
+}

@@ -7,10 +7,12 @@ pub mod RowLaws  -- row-set-same, row-set-other, row-rows; Written with its star
 pub mod MarkLaws  -- listed-set-same, -other, -kept; unmarked-set: a mark is one less
 pub mod ValueLaws  -- value-local, value-lt: what a row gives
 pub mod ReadyLaws  -- ready, next; order-induction
+pub mod WaitingLaws  -- only-listed-list, only-listed-wait; unready-false: what the marks remember while the order is made
 pub mod LoopLaws  -- stuck-loop: where none is ready one depends on itself; Safe: no listed wire does
 pub mod PlacedLaws  -- Placed: the order's wires, each once, none before what it reads
 pub mod EquationLaws  -- solved-step, agree-step: one step of running the order
 pub mod GraphLaws  -- what a row that was read says of its wire
+pub mod Searching  -- the loop that searches the next wire
 pub mod Listing  -- the loop that lists the wires
 pub mod Reaching  -- the loop that follows readings from a wire on
 pub mod Settling  -- the loop that runs a list; run-bits

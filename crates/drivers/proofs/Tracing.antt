@@ -12,8 +12,8 @@ use Rattle.lists.specs.Tables.{zeros}
 use Rattle.lists.proofs.SearchLaws.{first-le}
 use Rattle.lists.proofs.TableLaws.{zeros-length}
 use Rattle.fabric.specs.declared.Block.{Block}
-use Rattle.netlist.specs.Marks.{listed}
-use Rattle.netlist.proofs.MarkLaws.{unmarked, unmarked-zeros}
+use Rattle.netlist.specs.Marks.{listed, unmarked}
+use Rattle.netlist.proofs.MarkLaws.{unmarked-zeros}
 use Rattle.drivers.specs.declared.follow.Trace.{Trace}
 use Rattle.drivers.specs.declared.follow.Trace.the-variants.{End, Again}
 use Rattle.drivers.specs.Following.{Bounded, traced, tracedMarks, ringLowest, traceDriver, driverOf}

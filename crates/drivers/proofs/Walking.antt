@@ -11,8 +11,8 @@ use borrow.Author.Tests.{eq-eqb, ne-eqb}
 use Rattle.lists.specs.Tables.{zeros}
 use Rattle.lists.proofs.CaseLaws.{cases, clash, eq-or-ne}
 use Rattle.lists.proofs.TableLaws.{zeros-length}
-use Rattle.netlist.specs.Marks.{listed}
-use Rattle.netlist.proofs.MarkLaws.{listed-set-same, listed-set-other, listed-set-kept, unlisted-zero, zeros-unlisted, unmarked, unmarked-set, unmarked-zeros}
+use Rattle.netlist.specs.Marks.{listed, unmarked}
+use Rattle.netlist.proofs.MarkLaws.{listed-set-same, listed-set-other, listed-set-kept, unlisted-zero, zeros-unlisted, unmarked-set, unmarked-zeros}
 use Rattle.drivers.specs.declared.follow.Trace.{Trace}
 use Rattle.drivers.specs.declared.follow.Trace.the-variants.{End, Again}
 use Rattle.drivers.specs.Following.{Bounded, traced, tracedMarks}

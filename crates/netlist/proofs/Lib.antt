@@ -4,7 +4,7 @@ pub mod ListLaws  -- list-solves, list-others-break, list-fits, list-bits: the s
 pub mod PassedLaws  -- passed-every, passed-once, passed-fits, passed-local, passed-bits: of a list that passes ground 12
 pub mod CheckingLaws  -- first-bad-exact: the test of ground 12 is its sentence
 pub mod RowLaws  -- row-set-same, row-set-other, row-rows; Written with its start, step and end: a list filled row by row
-pub mod MarkLaws  -- listed-set-same, -other, -kept; unmarked-set: a mark is one less
+pub mod MarkLaws  -- listed-set-same, -other, -kept; unmarked-mark: a mark is one less
 pub mod ValueLaws  -- value-local, value-lt: what a row gives
 pub mod ReadyLaws  -- ready, next; order-induction
 pub mod WaitingLaws  -- only-listed-list, only-listed-wait; unready-false: what the marks remember while the order is made
@@ -14,6 +14,8 @@ pub mod EquationLaws  -- solved-step, agree-step: one step of running the order
 pub mod GraphLaws  -- what a row that was read says of its wire
 pub mod Searching  -- the loop that searches the next wire
 pub mod Listing  -- the loop that lists the wires
+pub mod RankLaws  -- lower-no-loop: a wire that reads only lower ranks does not depend on itself
+pub mod Descending  -- the steps that rank wires stay in the work room
 pub mod Reaching  -- the loop that follows readings from a wire on
 pub mod Settling  -- the loop that runs a list; run-bits
 pub mod SchedulingLaws  -- answers-unique: the promise determines the answer; whether a wire is left over; the rows written are the order's

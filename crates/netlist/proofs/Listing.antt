@@ -11,10 +11,10 @@ use Rattle.lists.specs.Tables.{zeros}
 use Rattle.lists.proofs.CaseLaws.{clash, eq-or-ne}
 use Rattle.lists.proofs.TableLaws.{zeros-length}
 use Rattle.netlist.specs.Graph.{Graph}
-use Rattle.netlist.specs.Marks.{marksAfter}
+use Rattle.netlist.specs.Marks.{marksAfter, unmarked}
 use Rattle.netlist.specs.Order.{next, orderFrom, order, orderMarks}
 use Rattle.netlist.specs.Waiting.{onlyListed, Unready, done}
-use Rattle.netlist.proofs.MarkLaws.{unmarked, unmarked-zeros}
+use Rattle.netlist.proofs.MarkLaws.{unmarked-zeros}
 use Rattle.netlist.proofs.ReadyLaws.{ready-unlisted, next-le, next-ready, next-unmarked, order-from-step, order-from-end}
 use Rattle.netlist.proofs.WaitingLaws.{only-listed-true, only-listed-list, only-listed-zeros, unready-list}
 

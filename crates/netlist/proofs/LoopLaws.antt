@@ -11,9 +11,9 @@ use Rattle.lists.specs.Tables.{zeros}
 use Rattle.lists.proofs.CaseLaws.{cases, clash, eq-or-ne}
 use Rattle.lists.proofs.TableLaws.{zeros-length}
 use Rattle.netlist.specs.Graph.{Graph, Reads, DependsOn, reads, via, Closed}
-use Rattle.netlist.specs.Marks.{listed, marksAfter}
+use Rattle.netlist.specs.Marks.{listed, marksAfter, unmarked}
 use Rattle.netlist.specs.Order.{ready, next, orderMarks}
-use Rattle.netlist.proofs.MarkLaws.{unlisted-zero, listed-set-other, listed-set-kept, unmarked, unmarked-set, unmarked-none, unmarked-zeros, zeros-unlisted}
+use Rattle.netlist.proofs.MarkLaws.{unlisted-zero, listed-set-other, listed-set-kept, unmarked-set, unmarked-none, unmarked-zeros, zeros-unlisted}
 use Rattle.netlist.proofs.ReadyLaws.{ready-reads, ready-unlisted, ready-false-reads, next-none, order-induction}
 
 module _ (g : Graph) where

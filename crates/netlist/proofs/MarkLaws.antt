@@ -1,4 +1,4 @@
--- Marks: what is read after one is set, and how many are not set. Main laws: `listed-set-same`, `-other`, `-kept`; `unmarked-set`.
+-- Marks: what is read after one is set, and how many are not set. Main laws: `listed-set-same`, `-other`, `-kept`; `unmarked-mark`.
 use mathlib.Core.Path.{_≡_, refl, sym, ap, _∙_}
 use mathlib.Core.Bool.{true, false}
 use mathlib.Core.Logic.{⊎-elim, _≢_}
@@ -12,7 +12,7 @@ use lib.Seq.{getD-set-same, getD-set-other}
 use Rattle.lists.specs.Tables.{zeros}
 use Rattle.lists.proofs.CaseLaws.{cases, clash, eq-or-ne, lt-or-le}
 use Rattle.lists.proofs.TableLaws.{zeros-at}
-use Rattle.netlist.specs.Marks.{listed}
+use Rattle.netlist.specs.Marks.{listed, unmarked}
 
 module _ (m : List ℕ) (w : ℕ) where
   pub listed-true : getD m w 0 ≢ 0 → listed m w ≡ true
@@ -51,18 +51,26 @@ zeros-unlisted n v = listed-false (zeros n) v (zeros-at n v)
 
 -- ---- how many are not marked
 
-abbrev pub unmarked : List ℕ → ℕ
-unmarked [] = 0
-unmarked (zero ∷ m) = suc (unmarked m)
-unmarked (suc x ∷ m) = unmarked m
-
 -- a mark is one less
+pub unmarked-mark : (m : List ℕ) (w x : ℕ) → w < length m → getD m w 0 ≡ 0 → 0 < x → suc (unmarked (set m w x)) ≡ unmarked m
+unmarked-mark [] w x l e p = absurd (omega arith)
+unmarked-mark (y ∷ m) zero zero l e p = absurd (omega arith)
+unmarked-mark (zero ∷ m) zero (suc x) l e p = refl
+unmarked-mark (suc y ∷ m) zero (suc x) l e p = absurd (omega arith)
+unmarked-mark (zero ∷ m) (suc w) x l e p = ap suc (unmarked-mark m w x (le-of-suc-le-suc l) e p)
+unmarked-mark (suc y ∷ m) (suc w) x l e p = unmarked-mark m w x (le-of-suc-le-suc l) e p
+
 pub unmarked-set : (m : List ℕ) (w : ℕ) → w < length m → getD m w 0 ≡ 0 → suc (unmarked (set m w 1)) ≡ unmarked m
-unmarked-set [] w l e = absurd (omega arith)
-unmarked-set (zero ∷ m) zero l e = refl
-unmarked-set (suc x ∷ m) zero l e = absurd (omega arith)
-unmarked-set (zero ∷ m) (suc w) l e = ap suc (unmarked-set m w (le-of-suc-le-suc l) e)
-unmarked-set (suc x ∷ m) (suc w) l e = unmarked-set m w (le-of-suc-le-suc l) e
+unmarked-set m w l e = unmarked-mark m w 1 l e (omega arith)
+
+-- a mark changed leaves no more
+pub unmarked-set-le : (m : List ℕ) (w x : ℕ) → 0 < x → unmarked (set m w x) ≤ unmarked m
+unmarked-set-le [] w x p = omega arith
+unmarked-set-le (y ∷ m) zero zero p = absurd (omega arith)
+unmarked-set-le (zero ∷ m) zero (suc x) p = omega arith
+unmarked-set-le (suc y ∷ m) zero (suc x) p = omega arith
+unmarked-set-le (zero ∷ m) (suc w) x p = let h = unmarked-set-le m w x p in omega arith
+unmarked-set-le (suc y ∷ m) (suc w) x p = unmarked-set-le m w x p
 
 pub unmarked-zeros : (n : ℕ) → unmarked (zeros n) ≡ n
 unmarked-zeros zero = refl

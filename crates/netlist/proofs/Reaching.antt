@@ -13,8 +13,8 @@ use Rattle.lists.specs.Tables.{zeros}
 use Rattle.lists.proofs.CaseLaws.{eq-or-ne, clash, below-suc}
 use Rattle.lists.proofs.TableLaws.{zeros-length}
 use Rattle.netlist.specs.Graph.{Graph, Reads, DependsOn, reads, via}
-use Rattle.netlist.specs.Marks.{listed}
-use Rattle.netlist.proofs.MarkLaws.{unmarked, unmarked-set, unmarked-zeros, unlisted-zero, listed-set-same, listed-set-other, listed-set-kept, zeros-unlisted}
+use Rattle.netlist.specs.Marks.{listed, unmarked}
+use Rattle.netlist.proofs.MarkLaws.{unmarked-set, unmarked-zeros, unlisted-zero, listed-set-same, listed-set-other, listed-set-kept, zeros-unlisted}
 use Rattle.netlist.proofs.LoopLaws.{depends-then}
 
 module _ (g : Graph) where

@@ -13,9 +13,9 @@ use Rattle.lists.proofs.CaseLaws.{cases, clash, lt-or-le, and-left, and-right, 
 use Rattle.lists.proofs.SearchLaws.{first-at, first-none, first-le, first-true, first-before, all-at, all-of, all-not}
 use Rattle.lists.proofs.TableLaws.{zeros-length}
 use Rattle.netlist.specs.Graph.{Graph, Reads}
-use Rattle.netlist.specs.Marks.{listed}
+use Rattle.netlist.specs.Marks.{listed, unmarked}
 use Rattle.netlist.specs.Order.{ready, next, orderFrom, order}
-use Rattle.netlist.proofs.MarkLaws.{unlisted-zero, unmarked, unmarked-set, unmarked-zeros, unmarked-none}
+use Rattle.netlist.proofs.MarkLaws.{unlisted-zero, unmarked-set, unmarked-zeros, unmarked-none}
 
 -- ---- ready
 

@@ -30,7 +30,8 @@ module _ (g : Graph) (n : ℕ) (m₀ : List ℕ) where
     searching-skip l u = record { upto = omega arith; long = h .long; kept = h .kept; lower = below-more (Unready g m) w (h .lower) u }
 
     -- w reads d, which is not listed and remembers it by v
-    pub searching-wait : w < n → (d v : ℕ) → Reads g w d → d < n → getD m d 0 ≢ 1 → (2 ≤ v) × (v ≤ w + 2) × (2 ≤ getD m d 0 → v ≤ getD m d 0) → Searching (set m d v) (w + 1)
+    pub searching-wait : w < n → (d v : ℕ) → Reads g w d → d < n → getD m d 0 ≢ 1
+        → (2 ≤ v) × (v ≤ w + 2) × (2 ≤ getD m d 0 → v ≤ getD m d 0) → Searching (set m d v) (w + 1)
     searching-wait l d v r below old new =
         let e = h .long in
         let low = new .0 in

@@ -1,5 +1,6 @@
--- Who waits while the order is made. The marks remember it, so that the search for the next wire starts where none lower is ready: a mark
--- is 1 where the wire is listed; where it is not, k + 2 with k the lowest wire seen waiting for it, or 0.
+-- Who waits while the order is made. "The next row is always that of the lowest-numbered wire not yet listed whose dependencies all are": the
+-- search for it starts where none lower is ready, by what the marks remember. A mark is 1 where the wire is listed; where it is not, k + 2
+-- with k the lowest wire seen waiting for it, or 0.
 use mathlib.Core.Path.{_≡_}
 use mathlib.Core.Bool.{false, cond}
 use mathlib.Core.List.{List, map}

@@ -5,6 +5,9 @@
 // repository has the fact at hand; none is an entry point.
 pub mod check;
 pub mod loops;
+pub mod order;
+pub mod ranking;
+pub mod ranks;
 pub mod row;
 pub mod row_check;
 pub mod run;

@@ -5,6 +5,9 @@ ghost use mathlib.Core.Bool.{true, false};
 ghost use lib.ListN.{length};
 ghost use Rattle.netlist.specs.Graph.{Closed, DependsOn, LowestLoop};
 ghost use Rattle.netlist.specs.Rows.{rowLength, graphOf};
+use crate::ranking::rank_wires;
+use crate::ranks::first_level;
+use crate::ranks::is_ranked;
 use crate::row::arity;
 use crate::row::operand;
 use crate::row::row_at;
@@ -48,9 +51,8 @@ pub fn depends_on_itself(rows: &[u16], start: usize, marks: &mut [u16], queue: &
     false
 }
 
-// The lowest wire that depends on itself, or the number of indices.
-// Rules out: a wire that only hangs on a loop; a loop's highest wire.
-pub fn lowest_loop(rows: &[u16], marks: &mut [u16], queue: &mut [u16]) -> usize
+// The lowest wire that depends on itself, or the number of indices, by a search from each.
+fn search_loop(rows: &[u16], marks: &mut [u16], queue: &mut [u16]) -> usize
     requires { ⌜ length (now rows) ≡ rowLength * length (now marks) ⌝ }
     requires { ⌜ Closed (graphOf (now rows)) (length (now marks)) ⌝ }
     requires { ⌜ (length (now marks) ≤ length (now queue)) × (length (now marks) ≤ 2 ^ 16) ⌝ }
@@ -65,4 +67,27 @@ pub fn lowest_loop(rows: &[u16], marks: &mut [u16], queue: &mut [u16]) -> usize
         w += 1;
     }
     w
+}
+
+// The lowest wire that depends on itself, or the number of indices. Ranks show that none below it does and one search that it does, so that
+// the time is that of reading the rows a few times. Ranks that fail the check are thrown away.
+// Rules out: a wire that only hangs on a loop; a loop's highest wire.
+pub fn lowest_loop(rows: &[u16], marks: &mut [u16], queue: &mut [u16]) -> usize
+    requires { ⌜ length (now rows) ≡ rowLength * length (now marks) ⌝ }
+    requires { ⌜ Closed (graphOf (now rows)) (length (now marks)) ⌝ }
+    requires { ⌜ (length (now marks) ≤ length (now queue)) × (length (now marks) ≤ 2 ^ 15) ⌝ }
+    ensures { λ r. ⌜ LowestLoop (graphOf (now (rows .entry))) (length (now (marks .entry))) r ⌝ }
+{
+    let n = marks.len();
+    rank_wires(rows, marks, queue);
+    if is_ranked(rows, marks) {
+        let w = first_level(rows, marks);
+        if w == n {
+            return n;
+        }
+        if depends_on_itself(rows, w, marks, queue) {
+            return w;
+        }
+    }
+    search_loop(rows, marks, queue)
 }

@@ -2,7 +2,8 @@
 -- Assumes nothing.
 use mathlib.Core.Logic.{_≢_}
 use Rattle.drivers.proofs.Tracing.{Tracing, tracing-start, tracing-step, tracing-less, tracing-end, tracing-again}
-use Rattle.netlist.proofs.MarkLaws.{listed-true, listed-false, unmarked}
+use Rattle.netlist.specs.Marks.{unmarked}
+use Rattle.netlist.proofs.MarkLaws.{listed-true, listed-false}
 use Rattle.lists.specs.Tables.{zeros}
 use lib.ListN.{getD, set}
 use borrow.Author.Needs.{needs}

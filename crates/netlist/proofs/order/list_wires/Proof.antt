@@ -1,4 +1,4 @@
--- `schedule::list_wires` meets its contract. Invariant: what is written and what is still to be listed is the order, and none below `from` is
+-- `order::list_wires` meets its contract. Invariant: what is written and what is still to be listed is the order, and none below `from` is
 -- ready (`Going`). Measure: the wires that could still be listed. Assumes nothing.
 use borrow.Author.Needs.{needs}
 use Rattle.netlist.proofs.Listing.{Going, going-start, going-within, going-step, going-end}
@@ -9,8 +9,8 @@ use native.Mathlib.Omega.{arith}
 use mathlib.Core.List.{List}
 use mathlib.Core.Path.{_≡_, sym, subst, _∙_}
 use Prim.Native.Nat.{ℕ, _<_, _-_}
-use Rattle.netlist.proofs.schedule.list_wires.Statement.{statement}
-use Rattle.netlist.proofs.schedule.list_wires.Tie as tie
+use Rattle.netlist.proofs.order.list_wires.Statement.{statement}
+use Rattle.netlist.proofs.order.list_wires.Tie as tie
 
 abbrev Inv-loop : tie.InvT-loop
 Inv-loop rows marks₀ out₀ n count₀ from₀ marks out count from = Going (graphOf rows) n out₀ marks out count from
@@ -18,8 +18,10 @@ Inv-loop rows marks₀ out₀ n count₀ from₀ marks out count from = Going (g
 abbrev μ-loop : tie.MeasureT-loop
 μ-loop rows marks₀ out₀ n count₀ from₀ marks out count from = n - count
 
-within : (c : tie.Else1 Inv-loop μ-loop) → (c .before .before .before .next-ready .result < length (c .before .before .before .before .before .before .before .before .before .before .before .before .before .args .marks .now))
-    × (c .before .before .before .before .before .loop .count < length (c .before .before .before .before .before .before .before .before .before .before .before .before .before .args .marks .now))
+within : (c : tie.Else1 Inv-loop μ-loop) → (c .before .before .before .next-ready .result < length
+    (c .before .before .before .before .before .before .before .before .before .before .before .before .before .args .marks .now))
+    × (c .before .before .before .before .before .loop .count < length
+    (c .before .before .before .before .before .before .before .before .before .before .before .before .before .args .marks .now))
 within c =
     let at-next-ready = c .before .before .before in
     let at-loop = at-next-ready .before .before in
@@ -126,7 +128,8 @@ loop-again c =
     let at-loop = at-next-ready .before .before in
     let at-start = at-loop .before .before .before .before .before .before .before .before in
     let e : length (at-next-ready .next-ready .last .1 .0) ≡ length (at-loop .loop .marks) = omega arith in
-    going-step _ _ _ _ _ _ _ _ _ (at-start .pre .1 .1 .0) (at-loop .loop .inv) e (at-next-ready .next-ready .ensures) (at-if1 .if1 .left) (c .resume .result) (c .resume .ensures)
+    going-step _ _ _ _ _ _ _ _ _ (at-start .pre .1 .1 .0) (at-loop .loop .inv) e (at-next-ready .next-ready .ensures) (at-if1 .if1 .left) (c .resume .result)
+    (c .resume .ensures)
 
 keep-listed-requires : tie.Need-keep-listed-requires Inv-loop μ-loop
 keep-listed-requires c κs = search needs

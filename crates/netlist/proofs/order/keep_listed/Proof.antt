@@ -1,4 +1,4 @@
--- `schedule::keep_listed` meets its contract. Invariant: the same wires are listed, and those below w wait no more (`Forgetting`).
+-- `order::keep_listed` meets its contract. Invariant: the same wires are listed, and those below w wait no more (`Forgetting`).
 -- Measure: the indices that are left. Assumes nothing.
 use borrow.Author.Needs.{needs}
 use Rattle.netlist.proofs.WaitingLaws.{Forgetting, forgetting-start, forgetting-skip, forgetting-step, forgetting-end}
@@ -6,8 +6,8 @@ use lib.ListN.{length}
 use native.Mathlib.Omega.{arith}
 use mathlib.Core.Logic.{⊎-elim}
 use Prim.Native.Nat.{_+_, _-_}
-use Rattle.netlist.proofs.schedule.keep_listed.Statement.{statement}
-use Rattle.netlist.proofs.schedule.keep_listed.Tie as tie
+use Rattle.netlist.proofs.order.keep_listed.Statement.{statement}
+use Rattle.netlist.proofs.order.keep_listed.Tie as tie
 
 abbrev Inv-loop : tie.InvT-loop
 Inv-loop marks₀ w₀ marks w = Forgetting marks₀ marks w

@@ -1,4 +1,4 @@
--- `schedule::next_ready` meets its contract. Invariant of the search: none below w is ready (`Searching`). Invariant of the inner loop: the
+-- `order::next_ready` meets its contract. Invariant of the search: none below w is ready (`Searching`). Invariant of the inner loop: the
 -- operands below j are listed. Measures: the indices, and the operands, that are left. Assumes nothing.
 use borrow.Author.Needs.{needs}
 use Rattle.netlist.specs.Waiting.{no-wire, done}
@@ -13,8 +13,8 @@ use mathlib.Core.Logic.{⊎-elim}
 use mathlib.Core.List.{List}
 use mathlib.Core.Path.{_≡_, refl, sym, ap, subst, _∙_}
 use Prim.Native.Nat.{ℕ, _+_, _≤_, _<_, _-_}
-use Rattle.netlist.proofs.schedule.next_ready.Statement.{statement}
-use Rattle.netlist.proofs.schedule.next_ready.Tie as tie
+use Rattle.netlist.proofs.order.next_ready.Statement.{statement}
+use Rattle.netlist.proofs.order.next_ready.Tie as tie
 
 abbrev Inv-loop : tie.InvT-loop
 Inv-loop rows marks₀ from n w row count j₀ marks j = (marks ≡ marks₀) × ((j ≤ count) × ((k : ℕ) → k < j → getD marks (operandOf row k) 0 ≡ 1))
@@ -138,7 +138,8 @@ search-again c =
     (subst (λ (m : List ℕ). Searching (graphOf (at-start .args .rows .now)) (length (at-start .args .marks .now)) (at-start .args .marks .now) m (at-search .search .w))
     (sym (x .5 .inv .0)) (at-search .search .inv))
     (at-search-test .search-test .taken) (x .8 .result) (x .12 .result) r (at-start .pre .1 .0 .0 .below _ _ r) (x .10 .taken) (x .12 .ensures)))
-    (⊎-elim (λ x. rw (x .4) (searching-skip _ _ _ _ _ (at-search .search .inv) (at-search-test .search-test .taken) (no-wire (row-wire-false _ _ _ (x .1 .ensures) (x .3 .left)))))
+    (⊎-elim (λ x. rw (x .4) (searching-skip _ _ _ _ _ (at-search .search .inv) (at-search-test .search-test .taken)
+    (no-wire (row-wire-false _ _ _ (x .1 .ensures) (x .3 .left)))))
     (λ x. rw (x .1) (searching-skip _ _ _ _ _ (at-search .search .inv) (at-search-test .search-test .taken) (done (x .0 .left)))))
     (c .if1 .came)
 

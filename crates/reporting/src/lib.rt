@@ -1,7 +1,7 @@
 // A whole run (document 01, 'Frames and one whole run'): an input of frames to the lines of its report, bytes to bytes. The program `report`
 // only reads its standard input, calls `report` and writes what it gave.
 //
-// specs/Report.antt says what is printed. An input longer than `INPUT` bytes has the report of its first `INPUT` bytes (proofs/InputLaws.antt:
+// specs/Report.antt says what is printed. An input longer than `INPUT` bytes has the report of its first `INPUT` bytes (proofs/PrefixLaws.antt:
 // `report-prefix`), so a caller need read no more.
 ghost use mathlib.Core.Path.{_≡_};
 ghost use Prim.Native.Nat.{_+_, _*_, _≤_};

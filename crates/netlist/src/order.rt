@@ -65,7 +65,7 @@ pub fn next_ready(rows: &[u16], marks: &mut [u16], from: usize) -> usize
     w
 }
 
-// Where the search goes on once w is listed, by the mark that it had: below the wires behind w and those that waited for it.
+// Where the search goes on once w is listed: behind it, or at the lowest wire that waited for it, as the mark of w has it, if that is lower.
 fn resume(mark: u16, w: usize) -> usize
     requires { ⌜ w < 2 ^ 15 ⌝ }
     ensures { λ r. ⌜ (r ≤ w + 1) × (2 ≤ mark → r + 2 ≤ mark) ⌝ }

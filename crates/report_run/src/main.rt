@@ -1,23 +1,6 @@
 // Runs the inputs of data/, 0000.in and so on up to the first number that is missing, through the same call as the report program,
 // and prints each report behind its number. `stdout` holds what the users' vectors and the real blocks' files say.
-ghost use mathlib.Core.Path.{_≡_};
-ghost use Prim.Native.Nat.{_<_};
-ghost use lib.ListN.{length};
 use libc::STDOUT_FILENO;
-use reporting::INPUT;
-use reporting::OUTPUT;
-
-fn input_room() -> [u8; INPUT]
-    ensures { λ r. ⌜ 131072 ≡ length r ⌝ }
-{
-    [0; INPUT]
-}
-
-fn output_room() -> [u8; OUTPUT]
-    ensures { λ r. ⌜ 51039 ≡ length r ⌝ }
-{
-    [0; OUTPUT]
-}
 
 fn figure(n: u32) -> u8 {
     b'0' + (n % 10) as u8
@@ -38,9 +21,9 @@ fn name(n: u32) -> [u8; 7] {
 
 // The report of one file.
 fn run(fd: i32) {
-    let mut input = input_room();
+    let mut input = reporting::input_room();
     let got = io::read_full(fd, &mut input);
-    let mut out = output_room();
+    let mut out = reporting::output_room();
     let written = reporting::report(&input[..got], &mut out);
     io::write_all(STDOUT_FILENO, &out[..written]);
 }

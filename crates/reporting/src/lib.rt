@@ -27,6 +27,18 @@ const TABLE: usize = 38469;
 const BITS: usize = 972;
 
 // Room of zeros, of which callers need the length alone.
+pub fn input_room() -> [u8; INPUT]
+    ensures { λ r. ⌜ 131072 ≡ length r ⌝ }
+{
+    [0; INPUT]
+}
+
+pub fn output_room() -> [u8; OUTPUT]
+    ensures { λ r. ⌜ 51039 ≡ length r ⌝ }
+{
+    [0; OUTPUT]
+}
+
 fn table_room() -> [u16; TABLE]
     ensures { λ r. ⌜ 38469 ≡ length r ⌝ }
 {

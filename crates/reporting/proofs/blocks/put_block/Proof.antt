@@ -156,8 +156,22 @@ put-built-requires c κs =
     let at-rows-room2 = at-settings-room .before in
     let at-rows-room = at-rows-room2 .before in
     let at-start = at-rows-room .before .before .before .before in
-    let few = small-tiles (at-start .args .w) (at-start .args .h) (at-start .pre .0) in
-    ((at-start .pre .0, at-start .pre .3), record { table-long = at-start .pre .2; bits-long = at-start .pre .1; settings-long = front-long (595 * (at-start .args .h * at-start .args .w)) 5355 (at-settings-room .settings-room .result) (at-settings-room .settings-room .ensures) (omega arith); room-long = record { list-long = front-long (7 * (506 * (at-start .args .h * at-start .args .w))) 31878 (at-rows-room .rows-room .result) (at-rows-room .rows-room .ensures) (omega arith); wires-long = front-long (506 * (at-start .args .h * at-start .args .w)) 4554 (at-ports-room .ports-room .result) (at-ports-room .ports-room .ensures) (omega arith); sources-long = front-long (506 * (at-start .args .h * at-start .args .w)) 4554 (at-ports-room2 .ports-room2 .result) (at-ports-room2 .ports-room2 .ensures) (omega arith); rows-long = front-long (7 * (506 * (at-start .args .h * at-start .args .w))) 31878 (at-rows-room2 .rows-room2 .result) (at-rows-room2 .rows-room2 .ensures) (omega arith); marks-long = front-long (506 * (at-start .args .h * at-start .args .w)) 4554 (at-ports-room3 .ports-room3 .result) (at-ports-room3 .ports-room3 .ensures) (omega arith); queue-long = front-long (506 * (at-start .args .h * at-start .args .w)) 4554 (at-ports-room4 .ports-room4 .result) (at-ports-room4 .ports-room4 .ensures) (omega arith) } })
+    let few = small-tiles (at-start .args .w) (at-start .args .h) (at-start .pre .0) in (
+      (at-start .pre .0, at-start .pre .3),
+      record {
+        table-long = at-start .pre .2;
+        bits-long = at-start .pre .1;
+        settings-long = front-long (595 * (at-start .args .h * at-start .args .w)) 5355 (at-settings-room .settings-room .result) (at-settings-room .settings-room .ensures) (omega arith);
+        room-long = record {
+          list-long = front-long (7 * (506 * (at-start .args .h * at-start .args .w))) 31878 (at-rows-room .rows-room .result) (at-rows-room .rows-room .ensures) (omega arith);
+          wires-long = front-long (506 * (at-start .args .h * at-start .args .w)) 4554 (at-ports-room .ports-room .result) (at-ports-room .ports-room .ensures) (omega arith);
+          sources-long = front-long (506 * (at-start .args .h * at-start .args .w)) 4554 (at-ports-room2 .ports-room2 .result) (at-ports-room2 .ports-room2 .ensures) (omega arith);
+          rows-long = front-long (7 * (506 * (at-start .args .h * at-start .args .w))) 31878 (at-rows-room2 .rows-room2 .result) (at-rows-room2 .rows-room2 .ensures) (omega arith);
+          marks-long = front-long (506 * (at-start .args .h * at-start .args .w)) 4554 (at-ports-room3 .ports-room3 .result) (at-ports-room3 .ports-room3 .ensures) (omega arith);
+          queue-long = front-long (506 * (at-start .args .h * at-start .args .w)) 4554 (at-ports-room4 .ports-room4 .result) (at-ports-room4 .ports-room4 .ensures) (omega arith);
+        };
+      },
+    )
 
 same-length : tie.Need-same-length
 same-length c = search needs

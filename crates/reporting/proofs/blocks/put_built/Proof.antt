@@ -30,8 +30,16 @@ put-accepted-requires c κs =
     let at-built2 = c .before .before .before .before .before in
     let at-build = at-built2 .before .before .before .before .before .before .before .before .before .before .before .before .before .before .before .before in
     let at-start = at-build .before .before .before .before .before .before .before .before .before .before .before .before .before .before .before .before .before .before in
-    let says = subst (BuildSays (at-start .args .w) (at-start .args .h) (at-start .args .table .now) (at-start .args .bits .now) (length (at-start .args .list .now)) (length (at-start .args .settings .now)) (length (at-start .args .wires .now)) (length (at-start .args .sources .now)) (length (at-start .args .rows .now)) (length (at-start .args .marks .now)) (length (at-start .args .queue .now))) (at-built2 .built2 .given .1) (at-build .build .ensures .1 .1 .1 .1 .1 .1 .1 .1) in
-    ((says .0 .size, small-tiles _ _ (at-start .pre .0 .0), says .0 .rules, listed-decodable _ _ _ _ _ _ (at-build .build .ensures .0) (build-long-exact (tiles (block (at-start .args .w) (at-start .args .h))) (length (at-start .args .table .now)) (length (at-start .args .bits .now)) (length (at-start .args .list .now)) (length (at-start .args .settings .now)) (length (at-start .args .wires .now)) (length (at-start .args .sources .now)) (length (at-start .args .rows .now)) (length (at-start .args .marks .now)) (length (at-start .args .queue .now)) .1 (at-start .pre .1)) (at-built2 .built2 .given .0 .0) (at-built2 .built2 .given .1)), (at-start .pre .1 .bits-long, at-build .build .kept .1 .1 .1 .1 .1 .0 ∙ at-start .pre .1 .settings-long, at-build .build .kept .1 .1 .1 .1 .1 .1 .0 ∙ at-start .pre .1 .room-long .wires-long, at-build .build .kept .1 .1 .1 .1 .1 .1 .1 .0 ∙ at-start .pre .1 .room-long .sources-long, at-start .pre .0 .1))
+    let says = subst (BuildSays (at-start .args .w) (at-start .args .h) (at-start .args .table .now) (at-start .args .bits .now) (length (at-start .args .list .now)) (length (at-start .args .settings .now)) (length (at-start .args .wires .now)) (length (at-start .args .sources .now)) (length (at-start .args .rows .now)) (length (at-start .args .marks .now)) (length (at-start .args .queue .now))) (at-built2 .built2 .given .1) (at-build .build .ensures .1 .1 .1 .1 .1 .1 .1 .1) in (
+      (says .0 .size, small-tiles _ _ (at-start .pre .0 .0), says .0 .rules, listed-decodable _ _ _ _ _ _ (at-build .build .ensures .0) (build-long-exact (tiles (block (at-start .args .w) (at-start .args .h))) (length (at-start .args .table .now)) (length (at-start .args .bits .now)) (length (at-start .args .list .now)) (length (at-start .args .settings .now)) (length (at-start .args .wires .now)) (length (at-start .args .sources .now)) (length (at-start .args .rows .now)) (length (at-start .args .marks .now)) (length (at-start .args .queue .now)) .1 (at-start .pre .1)) (at-built2 .built2 .given .0 .0) (at-built2 .built2 .given .1)),
+      (
+        at-start .pre .1 .bits-long,
+        at-build .build .kept .1 .1 .1 .1 .1 .0 ∙ at-start .pre .1 .settings-long,
+        at-build .build .kept .1 .1 .1 .1 .1 .1 .0 ∙ at-start .pre .1 .room-long .wires-long,
+        at-build .build .kept .1 .1 .1 .1 .1 .1 .1 .0 ∙ at-start .pre .1 .room-long .sources-long,
+        at-start .pre .0 .1,
+      ),
+    )
 
 same-length : tie.Need-same-length
 same-length c = search needs

@@ -9,11 +9,10 @@ It prints a line for each group of cases and ends with the number of differences
 import os
 import random
 import sys
-import tempfile
 
 sys.path.insert(0, os.path.dirname(os.path.abspath(__file__)))
 import model  # noqa: E402
-from library import U8, U16, Count, Library, blocks  # noqa: E402
+from library import U8, U16, Count, Library, blocks, rounds_asked, run  # noqa: E402
 
 
 def junk(n, top=65536):
@@ -188,13 +187,8 @@ def refusals(lib, rounds):
 
 
 def main():
-    random.seed(2)
-    rounds = int(sys.argv[1]) if len(sys.argv) > 1 else 1000
-    with tempfile.TemporaryDirectory() as folder:
-        lib = Library(folder)
-        wrong = building(lib, rounds // 5) + following(lib, rounds // 2) + stepping(lib, rounds) + refusals(lib, rounds // 2)
-    print('%d differences' % wrong)
-    return wrong != 0
+    lib, steps = Library(), rounds_asked(1000)
+    return run([(building, lib, steps // 5), (following, lib, steps // 2), (stepping, lib, steps), (refusals, lib, steps // 2)], 2)
 
 
 if __name__ == '__main__':

@@ -16,15 +16,15 @@ import tempfile
 
 sys.path.insert(0, os.path.dirname(os.path.abspath(__file__)))
 import model  # noqa: E402
-from library import DATA, ROOT, Count  # noqa: E402
+from library import DATA, ROOT, Count, build_archive, run  # noqa: E402
 
 
 def build_programs(folder):
     """The examples, compiled against the static library: name to program."""
-    subprocess.run(['rt', 'staticlib', 'capi'], cwd=ROOT, check=True, stdout=subprocess.DEVNULL, stderr=subprocess.DEVNULL)
+    archive = build_archive()
     c, rust = os.path.join(folder, 'build_c'), os.path.join(folder, 'build_rs')
-    subprocess.run(['cc', '-Wall', '-Werror', '-Iinclude', 'examples/build.c', 'target/staticlib/libcapi.a', '-o', c], cwd=ROOT, check=True)
-    subprocess.run(['rustc', '-O', 'examples/build.rs', '-L', 'target/staticlib', '-l', 'static=capi', '-o', rust], cwd=ROOT, check=True)
+    subprocess.run(['cc', '-Wall', '-Werror', '-Iinclude', 'examples/build.c', archive, '-o', c], cwd=ROOT, check=True)
+    subprocess.run(['rustc', '-O', 'examples/build.rs', '-L', os.path.dirname(archive), '-l', 'static=capi', '-o', rust], cwd=ROOT, check=True)
     return {'build.c': c, 'build.rs': rust}
 
 
@@ -34,10 +34,10 @@ def modelled(path):
         w, h, table, bits = model.parse(file.read())
     answer = model.build(w, h, table, bits)
     if isinstance(answer, tuple):
-        return '08%02X%04X\n' % answer
+        return model.last_line(*answer)
     settings = model.read(w, h, table, bits)
     flops = sum(settings[model.SETTINGS * t + 580 + 2 * i] >> 1 & 1 for t in range(w * h) for i in range(8))
-    return '08000000\nrows %d\nflip-flops %d\n' % (len(answer), flops)
+    return model.last_line(0, 0) + 'rows %d\nflip-flops %d\n' % (len(answer), flops)
 
 
 def last_line(path):
@@ -57,6 +57,14 @@ def left_out(path):
     with open(path) as file:
         size = [frame[2:] for frame in file.read().splitlines() if frame.startswith('04')]
     return line[2:4] == '0B' or all(1 <= n <= 8 for n in bytes.fromhex(size[0]))
+
+
+def compare_all(programs, where):
+    """The programs on the inputs of a folder."""
+    paths = sorted(glob.glob(os.path.join(where, '*.in')))
+    taken = [path for path in paths if not left_out(path)]
+    print('%s: %d inputs, %d left out' % (os.path.relpath(where, ROOT) if where == DATA else where, len(paths), len(paths) - len(taken)))
+    return sum(compare(name, program, taken, os.path.basename(where)) for name, program in programs.items())
 
 
 def compare(name, program, paths, where):
@@ -87,19 +95,10 @@ def bad_input(name, program, folder):
 
 
 def main():
-    wrong = 0
     with tempfile.TemporaryDirectory() as folder:
         programs = build_programs(folder)
-        for where in [DATA] + sys.argv[1:]:
-            paths = sorted(glob.glob(os.path.join(where, '*.in')))
-            taken = [path for path in paths if not left_out(path)]
-            print('%s: %d inputs, %d left out' % (os.path.relpath(where, ROOT) if where == DATA else where, len(paths), len(paths) - len(taken)))
-            for name, program in programs.items():
-                wrong += compare(name, program, taken, os.path.basename(where))
-        for name, program in programs.items():
-            wrong += bad_input(name, program, folder)
-    print('%d differences' % wrong)
-    return wrong != 0
+        tests = [(compare_all, programs, where) for where in [DATA] + sys.argv[1:]]
+        return run(tests + [(bad_input, name, program, folder) for name, program in programs.items()], 1)
 
 
 if __name__ == '__main__':

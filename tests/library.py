@@ -22,14 +22,25 @@ DATA = os.path.join(ROOT, 'tests', 'data')
 U16, U8 = ctypes.c_uint16, ctypes.c_uint8
 
 
+def rt(*arguments):
+    subprocess.run(['rt', *arguments], cwd=ROOT, check=True, stdout=subprocess.DEVNULL, stderr=subprocess.DEVNULL)
+
+
+def build_archive():
+    """The static library of capi, built."""
+    rt('staticlib', 'capi')
+    return os.path.join(ROOT, 'target', 'staticlib', 'libcapi.a')
+
+
 class Library:
     """The functions of capi, each with arrays that it is lent and gives back."""
 
-    def __init__(self, folder):
-        subprocess.run(['rt', 'staticlib', 'capi'], cwd=ROOT, check=True, stdout=subprocess.DEVNULL, stderr=subprocess.DEVNULL)
-        path = os.path.join(folder, 'libcapi.so')
-        subprocess.run(['cc', '-shared', '-o', path, '-Wl,--whole-archive', os.path.join(ROOT, 'target/staticlib/libcapi.a'), '-Wl,--no-whole-archive'], check=True)
-        self.lib = ctypes.CDLL(path)
+    def __init__(self):
+        archive = build_archive()
+        with tempfile.TemporaryDirectory() as folder:
+            path = os.path.join(folder, 'libcapi.so')
+            subprocess.run(['cc', '-shared', '-o', path, '-Wl,--whole-archive', archive, '-Wl,--no-whole-archive'], check=True)
+            self.lib = ctypes.CDLL(path)
 
     def call(self, name, *arguments):
         """Numbers go as they are, (type, list) as a slice. Answers (ground, value), and what each slice holds afterwards."""
@@ -58,10 +69,24 @@ class Count:
             self.wrong += 1
             if self.wrong < 4:
                 print('  DIFFERENT', self.name, what, 'got', str(got)[:80], 'expected', str(expected)[:80])
+        return got == expected
 
     def done(self):
         print('%-58s %7d cases, %d differences' % (self.name, self.cases, self.wrong))
         return self.wrong
+
+
+def rounds_asked(usual):
+    """How many random cases the command line asks for."""
+    return int(sys.argv[1]) if len(sys.argv) > 1 else usual
+
+
+def run(tests, seed):
+    """Runs tests, each a function that gives its number of differences, with its arguments, and prints the sum. The exit status."""
+    random.seed(seed)
+    wrong = sum(test(*arguments) for test, *arguments in tests)
+    print('%d differences' % wrong)
+    return wrong != 0
 
 
 def blocks():
@@ -173,13 +198,8 @@ def bad_input(lib):
 
 
 def main():
-    random.seed(1)
-    rounds = int(sys.argv[1]) if len(sys.argv) > 1 else 2000
-    with tempfile.TemporaryDirectory() as folder:
-        lib = Library(folder)
-        wrong = real(lib) + damaged(lib, rounds) + bad_input(lib)
-    print('%d differences' % wrong)
-    return wrong != 0
+    lib = Library()
+    return run([(real, lib), (damaged, lib, rounds_asked(2000)), (bad_input, lib)], 1)
 
 
 if __name__ == '__main__':

@@ -1,10 +1,12 @@
 """A model of the reader, written from document 01 and apart from the reader's own text: plain Python, slow, and proved nowhere.
 
 The tests compare the library with it. It works on the lent form of everything: a routing table of 38,469 numbers, 595 settings and 108
-bytes a tile, rows of seven numbers. A no is a pair (ground, place); a yes is what was asked for.
+bytes a tile, rows of seven numbers; at its end, on the lines of the report program. A no is a pair (ground, place); a yes is what was
+asked for.
 """
 import heapq
 import os
+import re
 import sys
 
 sys.path.insert(0, os.path.dirname(os.path.abspath(__file__)))
@@ -143,12 +145,18 @@ def encode(table, settings):
     return bytes(tile)
 
 
-def read(w, h, table, bits):
+def size_or_table(w, h, table):
+    """Ground 1 or 3, or None."""
     if not (1 <= w <= 8 and 1 <= h <= 8):
         return 1, 0
     place = faulty_part(table)
-    if place is not None:
-        return 3, place
+    return None if place is None else (3, place)
+
+
+def read(w, h, table, bits):
+    no = size_or_table(w, h, table)
+    if no:
+        return no
     settings = []
     for t in range(w * h):
         tile = decode(table, bits[BYTES * t:BYTES * t + BYTES])
@@ -159,11 +167,9 @@ def read(w, h, table, bits):
 
 
 def write(w, h, table, settings):
-    if not (1 <= w <= 8 and 1 <= h <= 8):
-        return 1, 0
-    place = faulty_part(table)
-    if place is not None:
-        return 3, place
+    no = size_or_table(w, h, table)
+    if no:
+        return no
     for t in range(w * h):
         if not has_bits(table, settings[SETTINGS * t:SETTINGS * t + SETTINGS]):
             return 9, t
@@ -360,34 +366,115 @@ def step(w, h, settings, rows, state, before, after):
     return [b[wire[p]] for p in range(PORTS * w * h)], new
 
 
-# ---- frames, as the examples are written
+# ---- frames
+
+def words(data):
+    return [int.from_bytes(data[k:k + 2], 'big') for k in range(0, len(data), 2)]
+
+
+def group_numbers(data):
+    """A group as the table has it, from the bytes behind 03, or None where they are malformed."""
+    if len(data) < 3 or data[2] > 8:
+        return None
+    positions, rest = words(data[3:3 + 2 * data[2]]), data[3 + 2 * data[2]:]
+    if not rest or rest[0] > 32 or len(rest) != 1 + 3 * rest[0]:
+        return None
+    numbers = words(data[0:2]) + [len(positions)] + positions + [0] * (8 - len(positions)) + [rest[0]]
+    for e in range(rest[0]):
+        numbers += [rest[1 + 3 * e]] + words(rest[2 + 3 * e:4 + 3 * e])
+    return numbers + [0] * (75 - len(numbers))
+
+
+def frame(line):
+    """A line's kind and what it says, or None where it is malformed: fields, passive positions, a group, the size, a tile's bytes."""
+    if len(line) > 512 or len(line) % 2 or not re.fullmatch(b'[0-9A-F]+', line):
+        return None
+    kind, data = line[:2], bytes.fromhex(line[2:].decode())
+    if kind == b'01' and len(data) == 6:
+        return 1, words(data)
+    if kind == b'02' and data and data[0] <= 64 and len(data) == 1 + 2 * data[0]:
+        return 2, words(data[1:])
+    if kind == b'03' and group_numbers(data):
+        return 3, group_numbers(data)
+    if kind == b'04' and len(data) == 2:
+        return 4, list(data)
+    if kind == b'05' and len(data) == BYTES:
+        return 5, data
+    return None
+
+
+class Input:
+    """What frames say, one taken after the other."""
+
+    def __init__(self):
+        self.w, self.h, self.table, self.bits = 0, 0, [0] * TABLE, b''
+
+    def take(self, kind, data):
+        if kind == 1:
+            self.table[0:3] = data
+        elif kind == 2:
+            self.table[3:4 + len(data)] = [len(data)] + data
+        elif kind == 3:
+            at = 69 + 75 * self.table[68]
+            self.table[at:at + 75] = data
+            self.table[68] += 1
+        elif kind == 4:
+            self.w, self.h = data
+        else:
+            self.bits += data
+
+    def due_after(self, kind):
+        """The kinds of frame that may come next."""
+        return {1: [2], 2: [3, 4], 3: [3, 4] if self.table[68] < 512 else [4], 4: [5],
+                5: [5] if len(self.bits) < BYTES * self.w * self.h else []}[kind]
+
+    def block(self):
+        return self.w, self.h, self.table, self.bits
+
 
 def parse(text):
-    """(w, h, table, bits) of a well-formed input of the report program."""
-    table, groups, bits, w, h = [0] * TABLE, 0, b'', 0, 0
+    """(w, h, table, bits) of well-formed frames, whichever of them are there."""
+    whole = Input()
     for line in text.split():
-        kind, data = line[:2], bytes.fromhex(line[2:])
-        if kind == '01':
-            table[0:3] = [int.from_bytes(data[2 * k:2 * k + 2], 'big') for k in range(3)]
-        elif kind == '02':
-            table[3] = data[0]
-            for k in range(data[0]):
-                table[4 + k] = int.from_bytes(data[1 + 2 * k:3 + 2 * k], 'big')
-        elif kind == '03':
-            at = 69 + 75 * groups
-            table[at], count = int.from_bytes(data[0:2], 'big'), data[2]
-            table[at + 1] = count
-            for k in range(count):
-                table[at + 2 + k] = int.from_bytes(data[3 + 2 * k:5 + 2 * k], 'big')
-            rest = data[3 + 2 * count:]
-            table[at + 10] = rest[0]
-            for e in range(rest[0]):
-                table[at + 11 + 2 * e] = rest[1 + 3 * e]
-                table[at + 12 + 2 * e] = int.from_bytes(rest[2 + 3 * e:4 + 3 * e], 'big')
-            groups += 1
-        elif kind == '04':
-            w, h = data
-        elif kind == '05':
-            bits += data
-    table[68] = groups
-    return w, h, table, bits
+        whole.take(*frame(line.encode()))
+    return whole.block()
+
+
+def read_input(data):
+    """An input of the report program, whole, or ground 11 or 1 as it is met."""
+    *lines, unended = data.split(b'\n')
+    whole, due = Input(), [1]
+    for number, line in enumerate(lines, 1):
+        found = frame(line)
+        if found is None or found[0] not in due:
+            return 11, number
+        whole.take(*found)
+        if found[0] == 4 and not (1 <= whole.w <= 3 and 1 <= whole.h <= 3):
+            return 1, 0
+        due = whole.due_after(found[0])
+    return (11, len(lines) + 1) if unended or due else whole
+
+
+# ---- the report
+
+def last_line(ground, place):
+    return '08%02X%04X\n' % (ground, place)
+
+
+def report(w, h, table, bits):
+    """A block's report: its text, the enabled switches (driven wire, source wire), the cells in use (tile, cell, table, flags)."""
+    answer = build(w, h, table, bits)
+    if isinstance(answer, tuple):
+        return last_line(*answer), [], []
+    block = Block(w, h, table, read(w, h, table, bits))
+    switches = sorted((driven, source) for driven, source, _, _ in block.switches)
+    cells = [(t, i, block.lut(t, i), block.settings[SETTINGS * t + 580 + 2 * i]) for t in range(w * h) for i in range(8)]
+    cells = [cell for cell in cells if cell[2] or cell[3]]
+    text = ''.join('06%04X%04X\n' % switch for switch in switches) + ''.join('07%02X%02X%04X%02X\n' % cell for cell in cells)
+    return text + last_line(0, 0), switches, cells
+
+
+def report_of(data):
+    """What the report program prints for an input, be it frames or not."""
+    whole = read_input(data)
+    return last_line(*whole) if isinstance(whole, tuple) else report(*whole.block())[0]

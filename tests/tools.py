@@ -16,6 +16,7 @@ import sys
 import tempfile
 
 sys.path.insert(0, os.path.dirname(os.path.abspath(__file__)))
+import library  # noqa: E402
 import model  # noqa: E402
 import wire_numbers  # noqa: E402
 from library import DATA, ROOT, Count, blocks  # noqa: E402
@@ -154,19 +155,6 @@ def check_positions():
 
 # ---- reports
 
-def report(w, h, table, bits):
-    """A report as the model gives it: its text, the switches and the cells."""
-    answer = model.build(w, h, table, bits)
-    if isinstance(answer, tuple):
-        return '08%02X%04X\n' % answer, [], []
-    block = model.Block(w, h, table, model.read(w, h, table, bits))
-    switches = sorted((driven, source) for driven, source, _, _ in block.switches)
-    cells = [(t, i, block.lut(t, i), block.settings[model.SETTINGS * t + 580 + 2 * i]) for t in range(w * h) for i in range(8)]
-    cells = [cell for cell in cells if cell[2] or cell[3]]
-    text = ''.join('06%04X%04X\n' % switch for switch in switches) + ''.join('07%02X%02X%04X%02X\n' % cell for cell in cells)
-    return text + '08000000\n', switches, cells
-
-
 def names_of(w, h, corner):
     """Every wire's names as explain prints them, from the wires of tests/wire_numbers.py."""
     all_names = {}
@@ -203,7 +191,7 @@ wire 446 [(5,6) neigh_op_rgt_2, (6,6) lutff_2/out, (5,7) neigh_op_bnr_2, (6,7) n
 def check_explain():
     count = Count('reports of the bundled blocks in words')
     for name, (w, h, table, bits) in blocks().items():
-        text, switches, cells = report(w, h, table, bits)
+        text, switches, cells = model.report(w, h, table, bits)
         by_size = run('explain', w, h, '--corner', 5, 6, stdin=text)
         if text.endswith('08000000\n'):
             expected = '\n'.join(explained(w, h, (5, 6), switches, cells)) + '\n'
@@ -395,12 +383,9 @@ def main():
     parser.add_argument('--chipdb', metavar='FOLDER', default=DEBIAN)
     parser.add_argument('--designs', metavar='FOLDER', action='append', default=[])
     arguments = parser.parse_args()
-    random.seed(1)
-    wrong = check_tables(arguments.chipdb) + check_blocks([DATA] + arguments.designs)
-    wrong += check_wires() + check_names() + check_positions()
-    wrong += check_explain() + check_noes() + check_lines() + check_reads(30) + check_trails(300) + check_mistakes()
-    print('%d differences' % wrong)
-    return wrong != 0
+    return library.run([(check_tables, arguments.chipdb), (check_blocks, [DATA] + arguments.designs), (check_wires,), (check_names,),
+                        (check_positions,), (check_explain,), (check_noes,), (check_lines,), (check_reads, 30), (check_trails, 300),
+                        (check_mistakes,)], 1)
 
 
 if __name__ == '__main__':

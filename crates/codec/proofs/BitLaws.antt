@@ -5,18 +5,21 @@ use mathlib.Core.Logic.{⊎-elim, _≢_}
 use mathlib.Core.List.{List}
 use Prim.Native.Nat.{ℕ, _+_, _*_, _/_, _%_, _^_, _<_, _≤_}
 use native.Mathlib.Omega.{arith}
-use native.Mathlib.Nat.{div-add-mod', mod-lt}
+use native.Mathlib.Nat.{div-add-mod', mod-lt, zero-div}
 use lib.Arith.{digits-div, digits-mod, digits-lt}
 use lib.Count.{ones}
 use lib.Dec.{eqb}
-use lib.ListN.{length, getD, length-set}
-use lib.Seq.{getD-set-same, getD-set-other, set-out, ext-getD}
+use lib.ListN.{length, getD, set, length-set}
+use lib.Seq.{getD-set-same, getD-set-other, set-getD, set-out, ext-getD}
 use Rattle.lists.specs.Search.{count}
+use Rattle.lists.specs.Tables.{zeros}
+use Rattle.lists.proofs.TableLaws.{zeros-at}
 use Rattle.lists.proofs.CaseLaws.{lt-or-le, eq-or-ne}
 use Rattle.lists.proofs.CountLaws.{count-ext, count-add}
 use Rattle.digits.specs.Digits.{digit, isSet, setDigit, fromDigits}
 use Rattle.digits.proofs.DigitLaws.{digit-set-same, digit-set-other, set-digit-lt, from-digits-ext, from-digits-all}
 use Rattle.digits.proofs.OnesLaws.{ones-count}
+use Rattle.digits.proofs.WriteLaws.{digit-split}
 use Rattle.codec.specs.Bits.{unit, tileBytes, bitIn, bitAt, setBitIn, setBit, Bytes, isSetAt}
 
 -- ---- u bits in a number
@@ -107,9 +110,21 @@ module _ (u : ℕ) (some : 0 < u) where
 pub bit-lt : (bits : List ℕ) (p : ℕ) → bitAt bits p < 2
 bit-lt bits p = bit-in-lt unit (omega arith) bits p
 
+pub bit-of-zeros : (n p : ℕ) → bitAt (zeros n) p ≡ 0
+unfolding bitIn
+bit-of-zeros n p = rw (zeros-at n (p / unit)) (ap (λ (x : ℕ). x % 2) (zero-div (2 ^ (p % unit))))
+
 -- a position of the tile is in one of its lent numbers
 pub position-within : {p n : ℕ} → p < 864 → n ≡ tileBytes → p / unit < n
 position-within h e = omega arith
+
+-- a bit written over itself
+pub set-bit-same : (bits : List ℕ) (p v : ℕ) → bitAt bits p ≡ v → setBit bits p v ≡ bits
+unfolding bitIn setBitIn setDigit
+set-bit-same bits p v e =
+    let x : ℕ = getD bits (p / unit) 0 in
+    ap (λ (y : ℕ). set bits (p / unit) ((x / 2 ^ (1 + p % unit) * 2 + y) * 2 ^ (p % unit) + x % 2 ^ (p % unit))) (sym e)
+    ∙ ap (set bits (p / unit)) (digit-split x (p % unit)) ∙ set-getD bits (p / unit) 0
 
 pub set-bit-length : (bits : List ℕ) (p v : ℕ) → length (setBit bits p v) ≡ length bits
 unfolding setBitIn

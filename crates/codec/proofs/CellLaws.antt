@@ -11,6 +11,7 @@ use borrow.Author.Tests.{eq-eqb, ne-eqb}
 use lib.Dec.{eqb}
 use lib.ListN.{length, getD, set, length-set}
 use lib.Seq.{getD-set-same, getD-set-other}
+use Rattle.lists.specs.Tables.{zeros}
 use Rattle.lists.proofs.CaseLaws.{lt-or-le}
 use Rattle.lists.proofs.TableLaws.{tabulate-zero}
 use lib.Pow.{shr-shr}
@@ -24,9 +25,9 @@ use Rattle.routing.specs.LogicTile.{logicTile, lcBits, lcPosition, cellPosition
 use Rattle.routing.proofs.LogicTileLaws.{cell-position-lt, cell-position-once}
 use Rattle.codec.specs.Bits.{bitAt, tileBytes, setBits}
 use Rattle.codec.specs.Settings.{cellsFrom, settingsLength}
-use Rattle.codec.specs.Cells.{cellBitIn, valueIn, cellIn, cellsIn, emptyCell, writeCells, putCells, sameCell}
-use Rattle.codec.proofs.BitLaws.{bit-lt, position-within}
-use Rattle.codec.proofs.SetBitsLaws.{set-bits-back}
+use Rattle.codec.specs.Cells.{cellNumber, cellBitIn, valueIn, cellIn, cellsIn, emptyCell, writeCells, putCells, sameCell}
+use Rattle.codec.proofs.BitLaws.{bit-lt, bit-of-zeros, position-within}
+use Rattle.codec.proofs.SetBitsLaws.{set-bits-other, set-bits-back}
 
 pub value-lt : (bits : List ℕ) (i : ℕ) → valueIn bits i < 2 ^ bitsPerCell
 value-lt bits i = from-digits-lt (cellBitIn bits i) (λ j. bit-lt bits _) bitsPerCell
@@ -75,6 +76,22 @@ module _ (cells : List Cell) (i flags : ℕ) (f : flags ≡ flagsOf (getD cells 
       → set (set now (cellsFrom logicTile + 2 * i) (getD cells i emptyCell .table)) (cellsFrom logicTile + 2 * i + 1) flags ≡ putCells settings cells (i + 1)
   unfolding putCells
   put-cells-turn settings now e = rw (e, f, add-one i)
+
+-- a cell's bits are clear until it is written
+write-cells-later : (bits : List ℕ) (cells : List Cell) (n i j : ℕ) → n ≤ i → i < 8 → j < bitsPerCell
+    → cellBitIn (writeCells bits cells n) i j ≡ cellBitIn bits i j
+unfolding writeCells
+write-cells-later bits cells zero i j h l b = refl
+write-cells-later bits cells (suc n) i j h l b =
+    set-bits-other (writeCells bits cells n) (cellPosition n) (cellNumber (getD cells n emptyCell)) bitsPerCell (cellPosition i j)
+    (λ k a e. omega (arith, cell-position-once i j n k b a e .0))
+    ∙ write-cells-later bits cells n i j (omega arith) l b
+
+pub write-cells-clear : (bits : List ℕ) (cells : List Cell) (now : List ℕ) (i : ℕ) → bits ≡ zeros tileBytes → now ≡ writeCells bits cells i → i < 8
+    → (j : ℕ) → j < bitsPerCell → cellBitIn now i j ≡ 0
+write-cells-clear bits cells now i z e h j l =
+    ap (λ (x : List ℕ). cellBitIn x i j) e ∙ write-cells-later bits cells i i j (omega arith) h l
+    ∙ ap (λ (x : List ℕ). cellBitIn x i j) z ∙ bit-of-zeros tileBytes (cellPosition i j)
 
 module _ (settings : List ℕ) (cells : List Cell) where
   pub put-cells-length : (n : ℕ) → length (putCells settings cells n) ≡ length settings

@@ -1,12 +1,11 @@
 -- A run of slots holds the digits of one number: a cell's bits, a field, a group's positions. Main laws: `run-written`: writing the number
--- writes the run; `run-back`: it is read back; `all-written`: what all runs together have written. Assumes nothing.
+-- writes the run, which was clear (`run-clear`); `run-back`: it is read back; `all-written`: what all runs together have written. Assumes nothing.
 use mathlib.Core.Path.{_≡_, sym, ap, _∙_, subst}
 use mathlib.Core.Logic.{⊎-elim}
 use mathlib.Core.Bool.{true, false}
 use mathlib.Core.List.{List}
-use Prim.Native.Nat.{ℕ, _+_, _-_, _/_, _%_, _^_, _<_, _≤_}
+use Prim.Native.Nat.{ℕ, _+_, _-_, _^_, _<_, _≤_}
 use native.Mathlib.Omega.{arith}
-use native.Mathlib.Nat.{zero-div}
 use lib.ListN.{length, getD}
 use Rattle.lists.specs.Tables.{zeros}
 use Rattle.lists.proofs.CaseLaws.{clash, lt-or-le}
@@ -16,10 +15,10 @@ use Rattle.digits.specs.Digits.{digit, fromDigits}
 use Rattle.digits.proofs.DigitLaws.{from-digits-ext, from-digits-all, digit-from-digits}
 use Rattle.routing.specs.Slots.{Slots, claims, Once}
 use Rattle.routing.proofs.OwnerLaws.{claims-it}
-use Rattle.codec.specs.Bits.{unit, tileBytes, bitIn, bitAt, setBits}
+use Rattle.codec.specs.Bits.{tileBytes, bitAt, setBits}
 use Rattle.codec.specs.Encode.{bitsOf}
 use Rattle.codec.specs.Writing.{Written}
-use Rattle.codec.proofs.BitLaws.{bit-lt, position-within}
+use Rattle.codec.proofs.BitLaws.{bit-lt, bit-of-zeros, position-within}
 use Rattle.codec.proofs.SetBitsLaws.{set-bits-length, set-bits-bytes, set-bits-other, set-bits-at}
 use Rattle.codec.proofs.EncodeLaws.{encode-slot, encode-is}
 
@@ -88,6 +87,15 @@ module _ (S : Slots) (value : ℕ → ℕ) (m w n : ℕ) (at : ℕ → ℕ) (v :
               ∙ set-bits-at bits at v n (s - m) k distinct (λ i a. position-within (R .in-tile i a) (W .long))
               ∙ sym (R .holds (s - m) k) ∙ ap value e
 
+      -- before it is written, the run is clear
+      pub run-clear : (k : ℕ) → k < n → bitAt bits (at k) ≡ 0
+      run-clear k l =
+          W .clear (at k) (R .in-tile k l)
+          (λ s h u e. omega (
+            arith,
+            once s (m + k) (omega (arith, R .within)) (omega (arith, R .within, R .some)) u (R .on k l) (e ∙ sym (R .stands k l)),
+          ))
+
       pub run-written : Written S value (m + w) (setBits bits at v n)
       run-written = record {
         long = set-bits-length bits at v n ∙ W .long;
@@ -101,12 +109,11 @@ module _ (S : Slots) (value : ℕ → ℕ) (m w n : ℕ) (at : ℕ → ℕ) (v :
 module _ (S : Slots) (value : ℕ → ℕ) where
   -- nothing is written yet
   pub none-written : (bits : List ℕ) (n : ℕ) → n ≡ tileBytes → bits ≡ zeros n → Written S value 0 bits
-  unfolding bitIn
   none-written bits n l e = record {
     long = ap length e ∙ zeros-length n ∙ l;
     bytes = λ i. omega (arith, zero-at i);
     held = λ s h. absurd (omega arith);
-    clear = λ p h f. rw (zero-at (p / unit)) (ap (λ (x : ℕ). x % 2) (zero-div (2 ^ (p % unit))));
+    clear = λ p h f. ap (λ (x : List ℕ). bitAt x p) e ∙ bit-of-zeros n p;
   }
     where
       zero-at : (i : ℕ) → getD bits i 0 ≡ 0

@@ -1,11 +1,11 @@
--- A number's digits written to a run of positions, and read from one. Main laws: `set-bits-at`, `set-bits-other`, `set-bits-back`; a turn
--- of the loops that do it: `set-bits-turn`, `digits-turn`. Assumes nothing.
+-- A number's digits written to a run of positions, and read from one. Main laws: `set-bits-at`, `set-bits-other`, `set-bits-back`,
+-- `set-bits-clear`; a turn of the loops that do it: `set-bits-turn`, `digits-turn`. Assumes nothing.
 use mathlib.Core.Path.{_≡_, refl, sym, ap, _∙_, subst}
 use mathlib.Core.Logic.{⊎-elim, _≢_}
 use mathlib.Core.List.{List}
 use Prim.Native.Nat.{ℕ, zero, suc, _+_, _*_, _/_, _%_, _^_, _<_}
 use native.Mathlib.Omega.{arith}
-use native.Mathlib.Nat.{eq-or-lt-of-le, add-comm, lt-of-lt-of-le}
+use native.Mathlib.Nat.{eq-or-lt-of-le, add-comm, lt-of-lt-of-le, zero-div}
 use native.Mathlib.Numerals.{add-one}
 use lib.Bits.{bitAnd}
 use lib.Pow.{pow-mono}
@@ -14,7 +14,7 @@ use Rattle.digits.specs.Digits.{digit, fromDigits}
 use Rattle.digits.proofs.DigitLaws.{from-digits-lt, from-digits-ext, from-digits-all}
 use Rattle.digits.proofs.MaskLaws.{and-one, digit-shl}
 use Rattle.codec.specs.Bits.{unit, bitAt, setBit, setBits, Bytes}
-use Rattle.codec.proofs.BitLaws.{bit-set-same, bit-set-other, set-bit-length, set-bit-bytes}
+use Rattle.codec.proofs.BitLaws.{bit-set-same, bit-set-other, set-bit-same, set-bit-length, set-bit-bytes}
 
 module _ (bits : List ℕ) (at : ℕ → ℕ) (v : ℕ) where
   set-bits-step : (n : ℕ) → setBits bits at v (n + 1) ≡ setBit (setBits bits at v n) (at n) (digit v n)
@@ -62,6 +62,15 @@ module _ (bits : List ℕ) (at : ℕ → ℕ) (v : ℕ) where
   -- a turn of writing
   pub set-bits-turn : (k p : ℕ) (now : List ℕ) → now ≡ setBits bits at v k → p ≡ at k → setBit now p (bitAnd (v / 2 ^ k) 1) ≡ setBits bits at v (k + 1)
   set-bits-turn k p now inv e = rw (inv, e, and-one (v / 2 ^ k), set-bits-step k)
+
+-- zeros written where all is clear
+pub set-bits-clear : (bits : List ℕ) (at : ℕ → ℕ) (n : ℕ) → ((k : ℕ) → k < n → bitAt bits (at k) ≡ 0) → setBits bits at 0 n ≡ bits
+unfolding setBits
+set-bits-clear bits at zero clear = refl
+set-bits-clear bits at (suc n) clear =
+    let e : digit 0 n ≡ 0 = ap (λ (x : ℕ). x % 2) (zero-div (2 ^ n)) in
+    let r : setBits bits at 0 n ≡ bits = set-bits-clear bits at n (λ k l. clear k (omega arith)) in
+    rw (e, r) (set-bit-same bits (at n) 0 (clear n (omega arith)))
 
 -- one bit is a run of one
 pub set-bits-one : (bits : List ℕ) (p v : ℕ) → v < 2 → setBit bits p v ≡ setBits bits (λ (k : ℕ). p) v 1

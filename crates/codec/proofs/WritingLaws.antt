@@ -18,13 +18,13 @@ use Rattle.routing.proofs.LogicTileLaws.{logic-tile-once}
 use Rattle.routing.proofs.TableOnceLaws.{table-once}
 use Rattle.codec.specs.Bits.{tileBytes, setBit, setBits}
 use Rattle.codec.specs.Settings.{fieldSetting, passiveSetting, groupSetting, cellTable, cellFlags}
-use Rattle.codec.specs.Groups.{patternOf}
+use Rattle.codec.specs.Groups.{groupBit, patternOf}
 use Rattle.codec.specs.Cells.{cellValue, cellNumber, cellSetting, cellSettings, emptyCell, writeCells}
 use Rattle.codec.specs.Encode.{slotValue}
 use Rattle.codec.specs.Writing.{TileWritten, Writable}
 use Rattle.codec.proofs.SetBitsLaws.{set-bits-one}
 use Rattle.codec.proofs.LimitLaws.{fit-field, fit-passive, fit-flags}
-use Rattle.codec.proofs.RunLaws.{Run, run-written, none-written, skip-written}
+use Rattle.codec.proofs.RunLaws.{Run, run-clear, run-written, none-written, skip-written}
 use Rattle.codec.proofs.TileRunLaws.{cell-run, field-run, passive-run, group-run}
 
 -- the same bits at the same slot, otherwise spelt
@@ -79,6 +79,14 @@ module _ (table settings bits : List ℕ) (C : Writable table settings) where
       (arith, C .rules .few-groups) in z)
       (skip-written (slotsOf logicTile table) (slotValue table settings) (groupSlot logicTile g) (maxPositions * (maxGroups - g)) bits
       (λ s a b. slot-unused-group logicTile table s (omega arith)) W)
+
+  -- a group's bits are clear until it is written
+  pub group-clear : (g : ℕ) → TileWritten table settings (groupSlot logicTile g) bits → g < groupCount logicTile table
+      → (k : ℕ) → k < widthOf logicTile table g → groupBit logicTile table bits g k ≡ 0
+  group-clear g W h k l =
+      run-clear (slotsOf logicTile table) (slotValue table settings) (groupSlot logicTile g) maxPositions (widthOf logicTile table g)
+      (positionAt logicTile table g) (patternOf logicTile table g (groupSetting logicTile settings g)) (group-run table settings (C .rules) g h)
+      (table-once logicTile table logic-tile-once (C .rules)) bits W k l
 
   -- the number of a cell that the settings hold
   cell-number : (i : ℕ) → i < 8 → cellNumber (getD (cellSettings settings) i emptyCell) ≡ cellValue (cellTable logicTile settings i)

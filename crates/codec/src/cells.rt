@@ -1,12 +1,13 @@
 // The eight cells of a tile, by value: in its bits, in its settings, and two tiles' cells compared (document 01, 'Cells').
 ghost use mathlib.Core.Path.{_≡_};
-ghost use Prim.Native.Nat.{_<_};
+ghost use Prim.Native.Nat.{ℕ, _<_};
 ghost use lib.ListN.{length};
+ghost use Rattle.lists.specs.Tables.{zeros};
 ghost use Rattle.routing.specs.TileKind.{bitsPerCell};
 ghost use Rattle.routing.specs.LogicTile.{logicTile, cellPosition};
 ghost use Rattle.codec.specs.Bits.{tileBytes, setBits};
 ghost use Rattle.codec.specs.Settings.{settingsLength};
-ghost use Rattle.codec.specs.Cells.{valueIn, cellsIn, cellSettings, writeCells, putCells, sameCell, firstDifference};
+ghost use Rattle.codec.specs.Cells.{cellBitIn, valueIn, cellsIn, cellSettings, writeCells, putCells, sameCell, firstDifference};
 use crate::bits::read_bit;
 use crate::bits::write_bit;
 use cell::logic::Cell;
@@ -74,11 +75,14 @@ pub fn cells_of(settings: &[u16]) -> [Cell; 8]
     cells
 }
 
-// A cell's 20 bits written.
+// A cell's 20 bits written where all of them are clear, so that an empty cell takes no time.
 pub fn write_value(bits: &mut [u8], i: usize, value: u32)
-    requires { ⌜ (length (now bits) ≡ tileBytes) × (i < 8) ⌝ }
+    requires { ⌜ (length (now bits) ≡ tileBytes) × (i < 8) × ((j : ℕ) → j < bitsPerCell → cellBitIn (now bits) i j ≡ 0) ⌝ }
     ensures { λ r. ⌜ now (bits .exit) ≡ setBits (now (bits .entry)) (cellPosition i) value bitsPerCell ⌝ }
 {
+    if value == 0 {
+        return;
+    }
     let mut j = 0;
     while j < BITS_PER_CELL {
         let p = routing::cells::cell_position(i, j);
@@ -87,9 +91,9 @@ pub fn write_value(bits: &mut [u8], i: usize, value: u32)
     }
 }
 
-// Eight cells written to a tile's bits.
+// Eight cells written to a tile's bits, which are clear.
 pub fn write_cells(bits: &mut [u8], cells: [Cell; 8])
-    requires { ⌜ length (now bits) ≡ tileBytes ⌝ }
+    requires { ⌜ now bits ≡ zeros tileBytes ⌝ }
     ensures { λ r. ⌜ now (bits .exit) ≡ writeCells (now (bits .entry)) cells 8 ⌝ }
 {
     let mut i = 0;

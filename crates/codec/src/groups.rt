@@ -1,12 +1,12 @@
 // The bits of one group of the routing table, and its setting (document 01, 'The routing table').
 ghost use mathlib.Core.Path.{_≡_};
-ghost use Prim.Native.Nat.{_<_, _≤_};
+ghost use Prim.Native.Nat.{ℕ, _<_, _≤_};
 ghost use lib.ListN.{length};
 ghost use Rattle.routing.specs.LogicTile.{logicTile};
 ghost use Rattle.routing.specs.Table.{groupCount, widthOf, positionAt, entryCount};
 ghost use Rattle.routing.specs.Rules.{TableRules};
 ghost use Rattle.codec.specs.Bits.{tileBytes, setBits};
-ghost use Rattle.codec.specs.Groups.{groupPattern, readGroup, patternOf};
+ghost use Rattle.codec.specs.Groups.{groupBit, groupPattern, readGroup, patternOf};
 use crate::bits::read_bit;
 use crate::bits::write_bit;
 
@@ -50,17 +50,6 @@ pub fn read_group(table: &[u16], g: usize, bits: &[u8]) -> GroupRead
     GroupRead::Unlisted
 }
 
-// The pattern of a group's setting.
-pub fn pattern_of(table: &[u16], g: usize, setting: u16) -> u16
-    requires { ⌜ (TableRules logicTile (now table)) × (g < groupCount logicTile (now table)) × (setting ≤ entryCount logicTile (now table) g) ⌝ }
-    ensures { λ r. ⌜ r ≡ patternOf logicTile (now (table .entry)) g setting ⌝ }
-{
-    if setting == 0 {
-        return 0;
-    }
-    routing::table::pattern(table, g, setting as usize - 1)
-}
-
 // A pattern written to a group's positions, the first with weight 1.
 pub fn write_pattern(table: &[u16], g: usize, bits: &mut [u8], pattern: u16)
     requires { ⌜ (TableRules logicTile (now table)) × (g < groupCount logicTile (now table)) × (length (now bits) ≡ tileBytes) ⌝ }
@@ -75,11 +64,14 @@ pub fn write_pattern(table: &[u16], g: usize, bits: &mut [u8], pattern: u16)
     }
 }
 
-// A group's setting written.
+// A group's setting written where all its bits are clear, so that a group that is off takes no time.
 pub fn write_group(table: &[u16], g: usize, bits: &mut [u8], setting: u16)
-    requires { ⌜ (TableRules logicTile (now table)) × (g < groupCount logicTile (now table)) × (length (now bits) ≡ tileBytes) × (setting ≤ entryCount logicTile (now table) g) ⌝ }
+    requires { ⌜ (TableRules logicTile (now table)) × (g < groupCount logicTile (now table)) × (length (now bits) ≡ tileBytes) × (setting ≤ entryCount logicTile (now table) g) × ((k : ℕ) → k < widthOf logicTile (now table) g → groupBit logicTile (now table) (now bits) g k ≡ 0) ⌝ }
     ensures { λ r. ⌜ now (bits .exit) ≡ setBits (now (bits .entry)) (positionAt logicTile (now (table .entry)) g) (patternOf logicTile (now (table .entry)) g setting) (widthOf logicTile (now (table .entry)) g) ⌝ }
 {
-    let pattern = pattern_of(table, g, setting);
+    if setting == 0 {
+        return;
+    }
+    let pattern = routing::table::pattern(table, g, setting as usize - 1);
     write_pattern(table, g, bits, pattern);
 }

@@ -4,9 +4,10 @@ use Prim.Native.Nat.{_-_, _≤_}
 use native.Mathlib.Omega.{arith}
 use borrow.Author.Needs.{needs}
 use lib.ListN.{length}
+use Rattle.lists.proofs.TableLaws.{zeros-length}
 use Rattle.codec.specs.Cells.{writeCells}
 use Rattle.codec.specs.Bits.{tileBytes}
-use Rattle.codec.proofs.CellLaws.{write-cells-turn}
+use Rattle.codec.proofs.CellLaws.{write-cells-turn, write-cells-clear}
 use Rattle.codec.proofs.cells.write_cells.Statement.{statement}
 use Rattle.codec.proofs.cells.write_cells.Tie as tie
 
@@ -18,7 +19,7 @@ abbrev μ-loop : tie.MeasureT-loop
 
 loop-holds : tie.Need-loop-holds Inv-loop μ-loop
 unfolding writeCells
-loop-holds c = search needs
+loop-holds c = (search needs, ap length (c .before .pre) ∙ zeros-length tileBytes, search needs, search needs)
 
 mul-c : tie.Need-mul-c Inv-loop μ-loop
 mul-c c = search needs
@@ -42,7 +43,14 @@ add-value : tie.Need-add-value Inv-loop μ-loop
 add-value c = search needs
 
 write-value-requires : tie.Need-write-value-requires Inv-loop μ-loop
-write-value-requires c κs = search needs
+write-value-requires c κs =
+    let at-start = c .before .before .before .before .before .before .before in
+    let at-loop = c .before .before .before .before .before in (
+      at-loop .loop .inv .1,
+      omega arith,
+      write-cells-clear (at-start .args .bits .now) (at-start .args .t2) (at-loop .loop .bits) (at-loop .loop .i) (at-start .pre) (at-loop .loop .inv .3)
+          (omega arith),
+    )
 
 add-i : tie.Need-add-i Inv-loop μ-loop
 add-i c = search needs
@@ -65,7 +73,7 @@ loop-again c =
     )
 
 same-length : tie.Need-same-length Inv-loop μ-loop
-same-length c = let at-start = c .before .before .before in c .before .loop .inv .1 ∙ sym (at-start .pre)
+same-length c = let at-start = c .before .before .before in c .before .loop .inv .1 ∙ sym (ap length (at-start .pre) ∙ zeros-length tileBytes)
 
 returns : tie.Need-returns Inv-loop μ-loop
 returns c =

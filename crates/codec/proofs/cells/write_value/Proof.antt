@@ -5,12 +5,12 @@ use native.Mathlib.Omega.{arith}
 use borrow.Author.Needs.{needs}
 use lib.ListN.{length}
 use Rattle.digits.proofs.MaskLaws.{and-one}
-use Rattle.routing.proofs.LogicTileLaws.{cell-position-lt}
-use Rattle.routing.specs.LogicTile.{cellPosition}
 use Rattle.routing.specs.TileKind.{bitsPerCell}
+use Rattle.routing.specs.LogicTile.{cellPosition}
+use Rattle.routing.proofs.LogicTileLaws.{cell-position-lt}
 use Rattle.codec.specs.Bits.{tileBytes, setBits}
-use Rattle.codec.proofs.SetBitsLaws.{set-bits-turn}
 use Rattle.codec.proofs.BitLaws.{position-within}
+use Rattle.codec.proofs.SetBitsLaws.{set-bits-turn, set-bits-clear}
 use Rattle.codec.proofs.cells.write_value.Statement.{statement}
 use Rattle.codec.proofs.cells.write_value.Tie as tie
 
@@ -19,6 +19,12 @@ Inv-loop bits₀ i value j₀ bits j = (j ≤ bitsPerCell) × (length bits ≡ t
 
 abbrev μ-loop : tie.MeasureT-loop
 μ-loop bits₀ i value j₀ bits j = bitsPerCell - j
+
+returns : tie.Need-returns Inv-loop μ-loop
+returns c =
+    let at-start = c .before .before in
+    sym (ap (λ (v : ℕ). setBits (at-start .args .bits .now) (cellPosition (at-start .args .i)) v bitsPerCell) (c .if1 .taken) ∙ set-bits-clear
+    (at-start .args .bits .now) (cellPosition (at-start .args .i)) bitsPerCell (at-start .pre .2))
 
 loop-holds : tie.Need-loop-holds Inv-loop μ-loop
 unfolding setBits
@@ -35,15 +41,16 @@ shr-write-bit c = search needs
 
 cast-write-bit-2 : tie.Need-cast-write-bit-2 Inv-loop μ-loop
 cast-write-bit-2 c =
-    let at-start = c .before .before .before .before .before in
+    let at-start = c .before .before .before .before .before .before in
     let at-loop = c .before .before .before in
     omega (arith, and-one (at-start .args .value / 2 ^ at-loop .loop .j))
 
 write-bit-requires : tie.Need-write-bit-requires Inv-loop μ-loop
 write-bit-requires c κs =
-    let at-start = c .before .before .before .before .before in
-    let at-loop = c .before .before .before in (
-      position-within (subst (λ (x : ℕ). x < 864) (sym (c .before .cell-position .ensures))
+    let at-start = c .before .before .before .before .before .before in
+    let at-loop = c .before .before .before in
+    let at-cell-position = c .before in (
+      position-within (subst (λ (x : ℕ). x < 864) (sym (at-cell-position .cell-position .ensures))
           (cell-position-lt (at-start .args .i) (at-loop .loop .j) (at-start .pre .1) (omega arith))) (at-loop .loop .inv .1),
       omega
           (arith, and-one (at-start .args .value / 2 ^ at-loop .loop .j)),
@@ -57,23 +64,26 @@ loop-less c = search needs
 
 loop-again : tie.Need-loop-again Inv-loop μ-loop
 loop-again c =
-    let at-start = c .before .before .before .before .before .before .before .before in
+    let at-start = c .before .before .before .before .before .before .before .before .before in
     let at-loop = c .before .before .before .before .before .before in
     let at-cell-position = c .before .before .before .before in
     let at-write-bit = c .before .before in (
       omega arith,
       at-write-bit .write-bit .kept .0 ∙ at-loop .loop .inv .1,
-      at-write-bit .write-bit .ensures ∙ set-bits-turn
-          (at-start .args .bits .now) (cellPosition (at-start .args .i)) (at-start .args .value) (at-loop .loop .j) _ (at-loop .loop .bits)
-          (at-loop .loop .inv .2) (at-cell-position .cell-position .ensures),
+      at-write-bit .write-bit .ensures ∙ set-bits-turn (at-start .args .bits .now)
+          (cellPosition (at-start .args .i)) (at-start .args .value) (at-loop .loop .j) _ (at-loop .loop .bits) (at-loop .loop .inv .2)
+          (at-cell-position .cell-position .ensures),
     )
 
 same-length : tie.Need-same-length Inv-loop μ-loop
-same-length c = let at-start = c .before .before .before in c .before .loop .inv .1 ∙ sym (at-start .pre .0)
+same-length c =
+    let at-start = c .before .before .before .before in
+    let at-loop = c .before in
+    at-loop .loop .inv .1 ∙ sym (at-start .pre .0)
 
-returns : tie.Need-returns Inv-loop μ-loop
-returns c =
-    let at-start = c .before .before .before in
+returns-2 : tie.Need-returns-2 Inv-loop μ-loop
+returns-2 c =
+    let at-start = c .before .before .before .before in
     let at-loop = c .before in
     at-loop .loop .inv .2 ∙ ap (setBits (at-start .args .bits .now) (cellPosition (at-start .args .i)) (at-start .args .value))
     (let e : at-loop .loop .j ≡ bitsPerCell = omega arith in e)
@@ -84,6 +94,7 @@ write-value-spec =
     (tie.spec
     Inv-loop
     μ-loop
+    returns
     loop-holds
     cell-position-requires
     cast-write-bit
@@ -94,4 +105,4 @@ write-value-spec =
     loop-less
     loop-again
     same-length
-    returns)
+    returns-2)

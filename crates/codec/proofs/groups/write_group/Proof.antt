@@ -1,15 +1,36 @@
--- `write_group` meets its contract: the setting's pattern is written. Assumes nothing.
-use mathlib.Core.Path.{ap, _∙_}
+-- `write_group` meets its contract: off is clear already, else the pattern of the entry is written. Assumes nothing.
+use mathlib.Core.Path.{sym, ap, _∙_}
 use Prim.Native.Nat.{ℕ}
+use native.Mathlib.Omega.{arith}
 use borrow.Author.Needs.{needs}
-use Rattle.routing.specs.Table.{widthOf, positionAt}
 use Rattle.routing.specs.LogicTile.{logicTile}
+use Rattle.routing.specs.Table.{widthOf, positionAt}
+use Rattle.codec.specs.Groups.{patternOf}
 use Rattle.codec.specs.Bits.{setBits}
+use Rattle.codec.proofs.GroupLaws.{pattern-entry}
+use Rattle.codec.proofs.SetBitsLaws.{set-bits-clear}
 use Rattle.codec.proofs.groups.write_group.Statement.{statement}
 use Rattle.codec.proofs.groups.write_group.Tie as tie
 
-pattern-of-requires : tie.Need-pattern-of-requires
-pattern-of-requires c κs = search needs
+returns : tie.Need-returns
+returns c =
+    let at-start = c .before .before .before in
+    sym (ap (λ (s : ℕ). setBits (at-start .args .bits .now) (positionAt logicTile (at-start .args .table .now) (at-start .args .g))
+    (patternOf logicTile (at-start .args .table .now) (at-start .args .g) s) (widthOf logicTile (at-start .args .table .now) (at-start .args .g)))
+    (c .if1 .taken) ∙ set-bits-clear (at-start .args .bits .now) (positionAt logicTile (at-start .args .table .now) (at-start .args .g))
+    (widthOf logicTile (at-start .args .table .now) (at-start .args .g)) (at-start .pre .4))
+
+sub-pattern : tie.Need-sub-pattern
+sub-pattern c = search needs
+
+pattern-requires : tie.Need-pattern-requires
+pattern-requires c κs =
+    let at-start = c .before .before .before in (
+      at-start .pre .0 .long,
+      omega (arith, at-start .pre .0 .few-groups),
+      omega
+          (arith, at-start .pre .0 .groups (at-start .args .g) (at-start .pre .1) .few-entries),
+    )
 
 write-pattern-requires : tie.Need-write-pattern-requires
 write-pattern-requires c κs = search needs
@@ -17,15 +38,18 @@ write-pattern-requires c κs = search needs
 same-length : tie.Need-same-length
 same-length c = search needs
 
-returns : tie.Need-returns
-returns c =
-    let at-start = c .before .before .before .before .before .before .before in
-    let at-pattern-of = c .before .before .before .before in
+returns-2 : tie.Need-returns-2
+returns-2 c =
+    let at-start = c .before .before .before .before .before .before .before .before in
+    let at-if1 = c .before .before .before .before .before in
+    let at-pattern = c .before .before .before .before in
     let at-write-pattern = c .before .before in
-    at-write-pattern .write-pattern .ensures ∙ ap (λ (x : ℕ). setBits (at-start .args .bits .now)
-    (positionAt logicTile (at-start .args .table .now) (at-start .args .g)) x
-    (widthOf logicTile (at-start .args .table .now) (at-start .args .g))) (at-pattern-of .pattern-of .ensures)
+    at-write-pattern .write-pattern .ensures ∙ ap (λ (v : ℕ). setBits (at-start .args .bits .now)
+    (positionAt logicTile (at-start .args .table .now) (at-start .args .g)) v (widthOf logicTile (at-start .args .table .now) (at-start .args .g)))
+    (at-pattern .pattern .ensures ∙ pattern-entry logicTile (at-start .args .table .now) (at-start .args .g) (at-start .args .setting)
+    (at-if1 .if1 .left))
 
 pub write-group-spec : {M : Type 1} → statement M
 write-group-spec =
-    tie.close (tie.spec pattern-of-requires write-pattern-requires same-length returns)
+    tie.close
+    (tie.spec returns sub-pattern pattern-requires write-pattern-requires same-length returns-2)

@@ -1,7 +1,8 @@
 -- `encode_tile` meets its contract: cleared, then cells, fields, passive bits and groups, each from where the one before left off. Assumes
 -- nothing.
-use mathlib.Core.Path.{_∙_}
+use mathlib.Core.Path.{ap, _∙_}
 use borrow.Author.Needs.{needs}
+use Rattle.lists.specs.Tables.{zeros}
 use Rattle.routing.specs.Slots.{slotsOf}
 use Rattle.routing.specs.LogicTile.{logicTile}
 use Rattle.codec.specs.Encode.{slotValue}
@@ -21,7 +22,7 @@ write-cells-requires : tie.Need-write-cells-requires
 write-cells-requires c κs =
     let at-start = c .before .before .before .before .before .before .before .before .before in
     let at-clear-bytes = c .before .before .before .before in
-    at-clear-bytes .clear-bytes .kept .0 ∙ at-start .pre .3
+    at-clear-bytes .clear-bytes .ensures ∙ ap zeros (at-start .pre .3)
 
 write-fields-requires : tie.Need-write-fields-requires
 write-fields-requires c κs =

@@ -7,7 +7,7 @@ use Rattle.routing.specs.Slots.{groupSlot}
 use Rattle.routing.specs.Table.{groupCount}
 use Rattle.routing.specs.LogicTile.{logicTile}
 use Rattle.codec.specs.Writing.{TileWritten}
-use Rattle.codec.proofs.WritingLaws.{group-turn, group-end}
+use Rattle.codec.proofs.WritingLaws.{group-turn, group-end, group-clear}
 use Rattle.codec.proofs.LimitLaws.{fit-group}
 use Rattle.codec.proofs.tile.write_groups.Statement.{statement}
 use Rattle.codec.proofs.tile.write_groups.Tie as tie
@@ -54,6 +54,9 @@ write-group-requires c κs =
       fit-group (at-start .args .table .now)
           (at-start .args .settings .now) (at-start .pre .0 .fit) (at-loop .loop .g)
           (omega (arith, at-group-count .group-count .ensures, at-start .pre .0 .rules .few-groups))
+          (let q : at-loop .loop .g < groupCount logicTile (at-start .args .table .now) = omega (arith, at-group-count .group-count .ensures) in q),
+      group-clear (at-start .args .table .now) (at-start .args .settings .now) (at-loop .loop .bits) (at-start .pre .0) (at-loop .loop .g)
+          (at-loop .loop .inv .1)
           (let q : at-loop .loop .g < groupCount logicTile (at-start .args .table .now) = omega (arith, at-group-count .group-count .ensures) in q),
     )
 

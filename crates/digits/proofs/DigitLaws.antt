@@ -4,8 +4,8 @@ use mathlib.Core.Path.{_≡_, refl, sym, ap, _∙_, subst}
 use mathlib.Core.Logic.{⊎-elim, _≢_}
 use Prim.Native.Nat.{ℕ, zero, suc, _+_, _-_, _*_, _/_, _%_, _^_, _<_, _≤_}
 use native.Mathlib.Omega.{arith}
-use native.Mathlib.Nat.{mod-lt, mod-eq-of-lt, eq-or-lt-of-le, mul-le-mul-right, one-mul}
-use lib.Pow.{pow-pos, pow-add, high, low, mod-pow-add, field, mod-mod-pow, shr-shr, shr-lt}
+use native.Mathlib.Nat.{mod-lt, mod-eq-of-lt, eq-or-lt-of-le, lt-of-lt-of-le, mul-le-mul-right, one-mul}
+use lib.Pow.{pow-pos, pow-mono, pow-add, high, low, mod-pow-add, field, mod-mod-pow, shr-shr, shr-lt}
 use lib.Arith.{digits-lt}
 use Rattle.lists.proofs.CaseLaws.{lt-or-le}
 use Rattle.digits.specs.Digits.{digit, setDigit, fromDigits}
@@ -15,6 +15,12 @@ pub digit-mod : (n k j : ℕ) → j < k → digit (n % 2 ^ k) j ≡ digit n j
 digit-mod n k j h =
     let e : k ≡ (k - j - 1 + 1) + j = omega arith in
     ap (λ (x : ℕ). n % 2 ^ x / 2 ^ j % 2) e ∙ ap (λ (x : ℕ). x % 2) (field n (k - j - 1 + 1) j) ∙ mod-mod-pow (n / 2 ^ j) (k - j - 1) 1
+
+-- past its digits a number has zeros
+pub digit-past : (n w k : ℕ) → n < 2 ^ w → w ≤ k → digit n k ≡ 0
+digit-past n w k h l =
+    let z : n / 2 ^ k < 2 ^ 0 = shr-lt 0 k (subst (λ (x : ℕ). n < 2 ^ x) (let q : k ≡ 0 + k = omega arith in q) (lt-of-lt-of-le h (pow-mono {i = w} {j = k} l))) in
+    omega arith
 
 -- digits of a number in two parts
 pub digit-below : (q k j : ℕ) {r : ℕ} → r < 2 ^ k → j < k → digit (q * 2 ^ k + r) j ≡ digit r j

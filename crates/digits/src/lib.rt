@@ -1,4 +1,4 @@
-// Binary digits: reading one, and writing one, in a byte. The theory that shifts, masks and patterns rest on is in specs/ and
+// Binary digits: reading one, writing one, and going through the set ones, in a byte. The theory that shifts, masks and patterns rest on is in specs/ and
 // proofs/. Nothing here knows of tiles.
 ghost use mathlib.Core.Path.{_≡_};
 ghost use Prim.Native.Nat.{_<_};
@@ -19,4 +19,20 @@ pub fn with_digit(byte: u8, k: u32, value: u8) -> u8
 {
     let old = (byte >> k) & 1;
     byte - (old << k) + (value << k)
+}
+
+// The lowest digit that is set, in a byte that has one.
+pub fn lowest_digit(byte: u8) -> u32
+    requires { ⌜ 0 < byte ⌝ }
+    ensures { λ r. ⌜ (r < 8) × (digit byte r ≡ 1) ⌝ }
+{
+    u8::trailing_zeros(byte)
+}
+
+// A byte without its digit k, which is set.
+pub fn without_digit(byte: u8, k: u32) -> u8
+    requires { ⌜ (k < 8) × (digit byte k ≡ 1) ⌝ }
+    ensures { λ r. ⌜ (r ≡ setDigit byte k 0) × (r < byte) ⌝ }
+{
+    byte - (1 << k)
 }

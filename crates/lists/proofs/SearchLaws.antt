@@ -132,6 +132,15 @@ unfolding all
 all-of p i zero h = refl
 all-of p i (suc m) h = rw (h i (omega arith) (omega arith)) (all-of p (suc i) m (λ k a b. h k (omega arith) (omega arith)))
 
+-- two tests that agree
+pub all-ext : (p q : ℕ → Bool) (i m : ℕ) → ((k : ℕ) → i ≤ k → k < i + m → p k ≡ q k) → all p i m ≡ all q i m
+unfolding all
+all-ext p q i zero h = refl
+all-ext p q i (suc m) h =
+    let e : p i ≡ q i = h i (omega arith) (omega arith) in
+    let r : all p (suc i) m ≡ all q (suc i) m = all-ext p q (suc i) m (λ k a b. h k (omega arith) (omega arith)) in
+    rw (e, r)
+
 -- where not all pass, one does not
 pub all-not : (p : ℕ → Bool) (i m : ℕ) → all p i m ≡ false → (k : ℕ) × (i ≤ k) × (k < i + m) × (p k ≡ false)
 unfolding all

@@ -1,13 +1,15 @@
--- Whether some number below n passes a test: not all fail. Main laws: `some-is`, `some-true`; `some-last`, a number more.
+-- Whether some number below n passes a test: not all fail. Main laws: `some-is`, `some-true`; `some-last`, a number more;
+-- `all-more-pass`, `all-more-fail`: the turns of a loop that looks at every number.
 use Prim.Native.Nat.{ℕ, zero, suc, _+_, _<_}
-use mathlib.Core.Path.{_≡_, refl}
+use mathlib.Core.Path.{_≡_, refl, sym, ap, _∙_}
 use mathlib.Core.Bool.{Bool, true, false, not, cond, _&&_, _||_}
 use mathlib.Core.Logic.{⊎-elim}
 use native.Mathlib.Omega.{arith}
 use native.Mathlib.Nat.{zero-add}
+use native.Mathlib.Numerals.{add-one}
 use borrow.Author.Tests.{not-true, not-false}
 use Rattle.lists.specs.Search.{all, some}
-use Rattle.lists.proofs.CaseLaws.{cases, clash}
+use Rattle.lists.proofs.CaseLaws.{cases, clash, and-false-right}
 use Rattle.lists.proofs.SearchLaws.{all-at, all-not}
 
 pub some-is : (p : ℕ → Bool) (n : ℕ) → some p n ≡ true → (i : ℕ) × (i < n) × (p i ≡ true)
@@ -28,6 +30,21 @@ all-last p i (suc n) = rw (all-last p (suc i) n, let e : i + suc n ≡ suc i + n
     go : (a b c : Bool) → cond a (b && c) false ≡ cond a b false && c
     go true b c = refl
     go false b c = refl
+
+-- the turns of a loop that looks at every number; x says whether all below n pass
+module _ (p : ℕ → Bool) (n : ℕ) (x : Bool) (inv : x ≡ all p 0 n) where
+  all-more : all p 0 (n + 1) ≡ x && p n
+  all-more = ap (all p 0) (add-one n) ∙ rw (all-last p 0 n, zero-add n, inv)
+
+  pub all-more-pass : p n ≡ true → x ≡ all p 0 (n + 1)
+  all-more-pass e = sym (all-more ∙ rw e (go x))
+    where
+      go : (b : Bool) → b && true ≡ b
+      go true = refl
+      go false = refl
+
+  pub all-more-fail : p n ≡ false → false ≡ all p 0 (n + 1)
+  all-more-fail e = sym (all-more ∙ and-false-right x (p n) e)
 
 -- one of the numbers below n passes, or n does
 pub some-last : (p : ℕ → Bool) (n : ℕ) → some p (suc n) ≡ some p n || p n

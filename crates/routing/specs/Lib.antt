@@ -6,3 +6,4 @@ pub mod Slots  -- every claim on a position as a slot of one sequence; Once: no 
 pub mod Rules  -- TableRules: document 01's rules, sentence by sentence
 pub mod TableCheck  -- faultyPart: the first part that breaks a rule, computed (ground 3)
 pub mod Claiming  -- SlotRun, TableOwned: what claiming a part's positions takes and leaves
+pub mod Marks  -- Marked: the patterns of a group's first entries, while it is checked

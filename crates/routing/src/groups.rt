@@ -1,9 +1,11 @@
 // A group by itself: its destination, its counts and its entries (document 01, 'The routing table').
 ghost use mathlib.Core.Path.{_≡_};
-ghost use Prim.Native.Nat.{_<_, _≤_};
+ghost use mathlib.Core.Bool.{true};
+ghost use Prim.Native.Nat.{_+_, _<_, _≤_};
 ghost use lib.ListN.{length};
 ghost use Rattle.routing.specs.LogicTile.{logicTile};
 ghost use Rattle.routing.specs.Table.{maxGroups, maxEntries, maxPositions, tableLength, widthOf, entryCount};
+ghost use Rattle.routing.specs.Marks.{Marked};
 ghost use Rattle.routing.specs.TableCheck.{entryOk, groupAloneOk};
 use crate::ports::is_destination;
 use crate::ports::is_source;
@@ -11,15 +13,18 @@ use crate::table::MAX_ENTRIES;
 use crate::table::MAX_POSITIONS;
 use crate::table::destination;
 use crate::table::entry_count;
-use crate::table::find_entry;
 use crate::table::pattern;
 use crate::table::source;
 use crate::table::width;
 
-// Entry e of group g, by itself and with the entries before it.
-pub fn entry_ok(table: &[u16], g: usize, e: usize) -> bool
-    requires { ⌜ (length (now table) ≡ tableLength logicTile) × (g < maxGroups) × (e < maxEntries) × (widthOf logicTile (now table) g ≤ maxPositions) × (entryCount logicTile (now table) g ≤ maxEntries) ⌝ }
-    ensures { λ r. ⌜ r ≡ entryOk logicTile (now (table .entry)) g e ⌝ }
+// How many patterns eight positions have.
+const PATTERNS: usize = 256;
+
+// Entry e of group g, by itself and with the entries before it, whose patterns are those that `seen` has.
+pub fn entry_ok(table: &[u16], g: usize, e: usize, seen: &mut [bool; PATTERNS]) -> bool
+    requires { ⌜ (length (now table) ≡ tableLength logicTile) × (g < maxGroups) × (e < entryCount logicTile (now table) g) × (widthOf logicTile (now table) g ≤ maxPositions) × (entryCount logicTile (now table) g ≤ maxEntries) × Marked logicTile (now table) g e (now seen) ⌝ }
+    ensures answer { λ r. ⌜ r ≡ entryOk logicTile (now (table .entry)) g e ⌝ }
+    ensures seen { λ r. ⌜ (r ≡ true → Marked logicTile (now (table .entry)) g (e + 1) (now (seen .exit))) ⌝ }
 {
     let v = pattern(table, g, e);
     if v == 0 {
@@ -29,9 +34,11 @@ pub fn entry_ok(table: &[u16], g: usize, e: usize) -> bool
     if top <= v {
         return false;
     }
-    if find_entry(table, g, v) != e {
+    let i = v as usize;
+    if seen[i] {
         return false;
     }
+    seen[i] = true;
     is_source(source(table, g, e))
 }
 
@@ -57,9 +64,10 @@ pub fn group_alone_ok(table: &[u16], g: usize) -> bool
     if MAX_ENTRIES < n {
         return false;
     }
+    let mut seen = [false; PATTERNS];
     let mut e = 0;
     while e < n {
-        if !entry_ok(table, g, e) {
+        if !entry_ok(table, g, e, &mut seen) {
             return false;
         }
         e += 1;

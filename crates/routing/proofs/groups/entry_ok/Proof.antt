@@ -1,11 +1,17 @@
 -- `groups::entry_ok` is `entryOk`: a return for each test. Assumes nothing.
-use Rattle.routing.proofs.EntryLaws.{one-shifted, entry-zero, entry-wide, entry-again, entry-new}
-use Rattle.routing.specs.Table.{entryOf}
-use Rattle.routing.specs.LogicTile.{logicTile, isSource}
+use mathlib.Core.List.{List}
+use mathlib.Core.Bool.{Bool, true, false}
+use mathlib.Core.Path.{_≡_, refl, sym, ap, subst, _∙_}
+use Prim.Native.Nat.{ℕ, _+_, _^_, _<_}
 use native.Mathlib.Omega.{arith}
-use mathlib.Core.Path.{sym, ap, _∙_}
-use Prim.Native.Nat.{ℕ, _^_}
 use borrow.Author.Needs.{needs}
+use lib.ListN.{getD, set}
+use Rattle.lists.proofs.CaseLaws.{clash}
+use Rattle.routing.specs.LogicTile.{logicTile, isSource}
+use Rattle.routing.specs.Marks.{Marked}
+use Rattle.routing.specs.Table.{widthOf, patternAt}
+use Rattle.routing.proofs.MarkLaws.{pattern-lt, mark-again, mark-new, mark-more}
+use Rattle.routing.proofs.EntryLaws.{one-shifted, entry-zero, entry-wide, entry-again, entry-new}
 use Rattle.routing.proofs.groups.entry_ok.Statement.{statement}
 use Rattle.routing.proofs.groups.entry_ok.Tie as tie
 
@@ -16,10 +22,11 @@ pattern-requires c κs = search needs
 returns : tie.Need-returns
 returns c =
     let at-start = c .before .before .before in
-    let table = at-start .args .table .now in
-    let g = at-start .args .g in
-    let e = at-start .args .e in
-    entry-zero logicTile table g e (sym (c .before .pattern .ensures) ∙ c .if1 .taken)
+    let at-pattern = c .before in (
+      entry-zero logicTile (at-start .args .table .now) (at-start .args .g) (at-start .args .e)
+          (sym (at-pattern .pattern .ensures) ∙ c .if1 .taken),
+      λ z. clash z refl,
+    )
 
 width-requires : tie.Need-width-requires
 width-requires c κs = search needs
@@ -33,35 +40,66 @@ shl-top c = search needs
 -- it does not fit the positions
 returns-2 : tie.Need-returns-2
 returns-2 c =
+    let at-start = c .before .before .before .before .before in
+    let at-pattern = c .before .before .before in
     let at-if1 = c .before .before in
-    let at-pattern = at-if1 .before in
-    let at-start = at-pattern .before .before in
-    let table = at-start .args .table .now in
-    let g = at-start .args .g in
-    let e = at-start .args .e in
-    let pattern = at-pattern .pattern .ensures in
-    let top = one-shifted (c .before .width .result) (omega arith) in
-    let pow = ap (λ (x : ℕ). 2 ^ x) (c .before .width .ensures) in
-    entry-wide logicTile table g e (λ z. at-if1 .if1 .left (pattern ∙ z)) (omega arith)
+    let at-width = c .before in
+    let top = one-shifted (at-width .width .result) (omega arith) in
+    let pow = ap (λ (x : ℕ). 2 ^ x) (at-width .width .ensures) in
+    let pattern = at-pattern .pattern .ensures in (
+      entry-wide logicTile (at-start .args .table .now) (at-start .args .g) (at-start .args .e)
+          (λ z. at-if1 .if1 .left (at-pattern .pattern .ensures ∙ z)) (omega arith),
+      λ z. clash z refl,
+    )
 
-find-entry-requires : tie.Need-find-entry-requires
-find-entry-requires c κs = search needs
+cast-i : tie.Need-cast-i
+cast-i c = search needs
+
+element-copy-out-if3 : tie.Need-element-copy-out-if3
+element-copy-out-if3 c =
+    let at-start = c .before .before .before .before .before in
+    let at-pattern = c .before .before .before in
+    let at-width = c .before in
+    let top = one-shifted (at-width .width .result) (omega arith) in
+    let pow = ap (λ (x : ℕ). 2 ^ x) (at-width .width .ensures) in
+    let pattern = at-pattern .pattern .ensures in
+    let fits : patternAt logicTile (at-start .args .table .now) (at-start .args .g) (at-start .args .e) < 2 ^ widthOf logicTile
+    (at-start .args .table .now) (at-start .args .g) = omega arith in
+    let few : patternAt logicTile (at-start .args .table .now) (at-start .args .g) (at-start .args .e) < 256 = pattern-lt (at-start .pre .3) fits in
+    omega arith
 
 -- an earlier entry has it
 returns-3 : tie.Need-returns-3
 returns-3 c =
+    let at-start = c .before .before .before .before .before .before .before in
+    let at-pattern = c .before .before .before .before .before in
+    let at-if1 = c .before .before .before .before in
     let at-width = c .before .before .before in
-    let at-if1 = at-width .before in
-    let at-pattern = at-if1 .before in
-    let at-start = at-pattern .before .before in
-    let table = at-start .args .table .now in
-    let g = at-start .args .g in
-    let e = at-start .args .e in
-    let pattern = at-pattern .pattern .ensures in
     let top = one-shifted (at-width .width .result) (omega arith) in
     let pow = ap (λ (x : ℕ). 2 ^ x) (at-width .width .ensures) in
-    let found = c .before .find-entry .ensures ∙ ap (entryOf logicTile table g) pattern in
-    entry-again logicTile table g e (λ z. at-if1 .if1 .left (pattern ∙ z)) (omega arith) (λ z. c .if3 .taken (found ∙ z))
+    let pattern = at-pattern .pattern .ensures in
+    let fits : patternAt logicTile (at-start .args .table .now) (at-start .args .g) (at-start .args .e) < 2 ^ widthOf logicTile
+    (at-start .args .table .now) (at-start .args .g) = omega arith in
+    let few : patternAt logicTile (at-start .args .table .now) (at-start .args .g) (at-start .args .e) < 256 = pattern-lt (at-start .pre .3) fits in (
+      entry-again logicTile (at-start .args .table .now) (at-start .args .g) (at-start .args .e)
+          (λ z. at-if1 .if1 .left (at-pattern .pattern .ensures ∙ z)) fits
+          (mark-again logicTile (at-start .args .table .now) (at-start .args .g) (at-start .args .e) (at-start .args .seen .now) (at-start .pre .5) few
+          (subst (λ (x : ℕ). getD (at-start .args .seen .now) x false ≡ true) (at-pattern .pattern .ensures) (c .if3 .taken))),
+      λ z. clash z refl,
+    )
+
+element-write-seen : tie.Need-element-write-seen
+element-write-seen c =
+    let at-start = c .before .before .before .before .before .before .before in
+    let at-pattern = c .before .before .before .before .before in
+    let at-width = c .before .before .before in
+    let top = one-shifted (at-width .width .result) (omega arith) in
+    let pow = ap (λ (x : ℕ). 2 ^ x) (at-width .width .ensures) in
+    let pattern = at-pattern .pattern .ensures in
+    let fits : patternAt logicTile (at-start .args .table .now) (at-start .args .g) (at-start .args .e) < 2 ^ widthOf logicTile
+    (at-start .args .table .now) (at-start .args .g) = omega arith in
+    let few : patternAt logicTile (at-start .args .table .now) (at-start .args .g) (at-start .args .e) < 256 = pattern-lt (at-start .pre .3) fits in
+    omega arith
 
 source-requires : tie.Need-source-requires
 source-requires c κs = search needs
@@ -72,23 +110,27 @@ is-source-requires c κs = search needs
 -- its source decides
 returns-4 : tie.Need-returns-4
 returns-4 c =
+    let at-start = c .before .before .before .before .before .before .before .before .before in
+    let at-pattern = c .before .before .before .before .before .before .before in
+    let at-if1 = c .before .before .before .before .before .before in
+    let at-width = c .before .before .before .before .before in
     let at-if3 = c .before .before in
-    let at-find-entry = at-if3 .before in
-    let at-width = at-find-entry .before .before in
-    let at-if1 = at-width .before in
-    let at-pattern = at-if1 .before in
-    let at-start = at-pattern .before .before in
-    let table = at-start .args .table .now in
-    let g = at-start .args .g in
-    let e = at-start .args .e in
-    let pattern = at-pattern .pattern .ensures in
+    let at-source = c .before in
     let top = one-shifted (at-width .width .result) (omega arith) in
     let pow = ap (λ (x : ℕ). 2 ^ x) (at-width .width .ensures) in
-    let found = at-find-entry .find-entry .ensures ∙ ap (entryOf logicTile table g) pattern in
-    let new = sym found ∙ at-if3 .if3 .left in
-    c .is-source .ensures
-    ∙ ap isSource (c .before .source .ensures)
-    ∙ entry-new logicTile table g e (λ z. at-if1 .if1 .left (pattern ∙ z)) (omega arith) new
+    let pattern = at-pattern .pattern .ensures in
+    let fits : patternAt logicTile (at-start .args .table .now) (at-start .args .g) (at-start .args .e) < 2 ^ widthOf logicTile
+    (at-start .args .table .now) (at-start .args .g) = omega arith in
+    let few : patternAt logicTile (at-start .args .table .now) (at-start .args .g) (at-start .args .e) < 256 = pattern-lt (at-start .pre .3) fits in (
+      c .is-source .ensures ∙ ap isSource (at-source .source .ensures) ∙ entry-new logicTile (at-start .args .table .now) (at-start .args .g)
+          (at-start .args .e) (λ z. at-if1 .if1 .left (at-pattern .pattern .ensures ∙ z)) fits
+          (mark-new logicTile (at-start .args .table .now) (at-start .args .g) (at-start .args .e) (at-start .args .seen .now) (at-start .pre .5) few
+          (at-start .pre .2) (subst (λ (x : ℕ). getD (at-start .args .seen .now) x false ≡ false) (at-pattern .pattern .ensures)
+          (at-if3 .if3 .left))),
+      λ z. subst (λ (x : ℕ). Marked logicTile (at-start .args .table .now) (at-start .args .g) ((at-start .args .e) + 1)
+          (set (at-start .args .seen .now) x true)) (sym (at-pattern .pattern .ensures))
+          (mark-more logicTile (at-start .args .table .now) (at-start .args .g) (at-start .args .e) (at-start .args .seen .now) (at-start .pre .5) few),
+    )
 
 pub entry-ok-spec : {M : Type 1} → statement M
 entry-ok-spec =
@@ -100,8 +142,10 @@ entry-ok-spec =
     cast-top
     shl-top
     returns-2
-    find-entry-requires
+    cast-i
+    element-copy-out-if3
     returns-3
+    element-write-seen
     source-requires
     is-source-requires
     returns-4)

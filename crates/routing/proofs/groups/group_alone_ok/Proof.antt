@@ -1,23 +1,26 @@
--- `groups::group_alone_ok` is `groupAloneOk`: a return for each test. Invariant: the entries from e on decide. Measure: the entries left.
--- Assumes nothing.
-use Rattle.routing.proofs.GroupLaws.{alone-destination, alone-thin, alone-wide, alone-none, alone-many, alone-all}
-use Rattle.routing.specs.TableCheck.{entryOk, groupAloneOk}
-use Rattle.routing.specs.LogicTile.{logicTile, isDestination}
-use Rattle.lists.proofs.SearchLaws.{all-turn-hit, all-turn-skip, all-turn-end}
-use Rattle.lists.specs.Search.{all}
-use borrow.Author.Tests.{not-true, not-false}
-use borrow.Author.Needs.{needs}
+-- `groups::group_alone_ok` is `groupAloneOk`: a return for each test. Invariant: the entries from e on decide, and the patterns of those before are
+-- marked. Measure: the entries left. Assumes nothing.
+use mathlib.Core.Path.{_≡_, refl, sym, ap, _∙_}
+use Prim.Native.Nat.{_-_, _≤_, _<_}
 use native.Mathlib.Omega.{arith}
-use mathlib.Core.Path.{_≡_, sym, ap, _∙_}
-use Prim.Native.Nat.{_-_, _≤_}
+use borrow.Author.Needs.{needs}
+use borrow.Author.Tests.{not-true, not-false}
+use Rattle.lists.specs.Search.{all}
+use Rattle.lists.proofs.SearchLaws.{all-turn-hit, all-turn-skip, all-turn-end}
+use Rattle.routing.specs.LogicTile.{logicTile, isDestination}
+use Rattle.routing.specs.Marks.{Marked}
+use Rattle.routing.specs.Table.{entryCount}
+use Rattle.routing.specs.TableCheck.{entryOk, groupAloneOk}
+use Rattle.routing.proofs.MarkLaws.{mark-none}
+use Rattle.routing.proofs.GroupLaws.{alone-destination, alone-thin, alone-wide, alone-none, alone-many, alone-all}
 use Rattle.routing.proofs.groups.group_alone_ok.Statement.{statement}
 use Rattle.routing.proofs.groups.group_alone_ok.Tie as tie
 
 abbrev Inv-loop : tie.InvT-loop
-Inv-loop table g w n e₀ e = (e ≤ n) × (all (entryOk logicTile table g) e (n - e) ≡ groupAloneOk logicTile table g)
+Inv-loop table g w n seen₀ e₀ seen e = (e ≤ n) × (all (entryOk logicTile table g) e (n - e) ≡ groupAloneOk logicTile table g) × Marked logicTile table g e seen
 
 abbrev μ-loop : tie.MeasureT-loop
-μ-loop table g w n e₀ e = n - e
+μ-loop table g w n seen₀ e₀ seen e = n - e
 
 destination-requires : tie.Need-destination-requires Inv-loop μ-loop
 destination-requires c κs = search needs
@@ -28,12 +31,11 @@ is-destination-requires c κs = search needs
 -- no switch may end on its destination
 returns : tie.Need-returns Inv-loop μ-loop
 returns c =
+    let at-start = c .before .before .before .before in
     let at-destination = c .before .before in
-    let at-start = at-destination .before .before in
-    let table = at-start .args .table .now in
-    let g = at-start .args .g in
-    let tested = sym (ap isDestination (at-destination .destination .ensures)) ∙ sym (c .before .is-destination .ensures) in
-    alone-destination logicTile table g (tested ∙ not-true _ (c .if1 .taken))
+    let at-is-destination = c .before in
+    let tested = sym (ap isDestination (at-destination .destination .ensures)) ∙ sym (at-is-destination .is-destination .ensures) in
+    alone-destination logicTile (at-start .args .table .now) (at-start .args .g) (tested ∙ not-true _ (c .if1 .taken))
 
 width-requires : tie.Need-width-requires Inv-loop μ-loop
 width-requires c κs = search needs
@@ -41,31 +43,28 @@ width-requires c κs = search needs
 -- no position
 returns-2 : tie.Need-returns-2 Inv-loop μ-loop
 returns-2 c =
+    let at-start = c .before .before .before .before .before .before in
+    let at-destination = c .before .before .before .before in
+    let at-is-destination = c .before .before .before in
     let at-if1 = c .before .before in
-    let at-is-destination = at-if1 .before in
-    let at-destination = at-is-destination .before in
-    let at-start = at-destination .before .before in
-    let table = at-start .args .table .now in
-    let g = at-start .args .g in
+    let at-width = c .before in
     let tested = sym (ap isDestination (at-destination .destination .ensures)) ∙ sym (at-is-destination .is-destination .ensures) in
     let ends = tested ∙ not-false _ (at-if1 .if1 .left) in
-    let width = c .before .width .ensures in
-    alone-thin logicTile table g ends (omega arith)
+    let width = at-width .width .ensures in
+    alone-thin logicTile (at-start .args .table .now) (at-start .args .g) ends (omega arith)
 
 -- more than 8 positions
 returns-3 : tie.Need-returns-3 Inv-loop μ-loop
 returns-3 c =
+    let at-start = c .before .before .before .before .before .before .before in
+    let at-destination = c .before .before .before .before .before in
+    let at-is-destination = c .before .before .before .before in
+    let at-if1 = c .before .before .before in
     let at-width = c .before .before in
-    let at-if1 = at-width .before in
-    let at-is-destination = at-if1 .before in
-    let at-destination = at-is-destination .before in
-    let at-start = at-destination .before .before in
-    let table = at-start .args .table .now in
-    let g = at-start .args .g in
     let tested = sym (ap isDestination (at-destination .destination .ensures)) ∙ sym (at-is-destination .is-destination .ensures) in
     let ends = tested ∙ not-false _ (at-if1 .if1 .left) in
     let width = at-width .width .ensures in
-    alone-wide logicTile table g ends (omega arith) (omega arith)
+    alone-wide logicTile (at-start .args .table .now) (at-start .args .g) ends (omega arith) (omega arith)
 
 entry-count-requires : tie.Need-entry-count-requires Inv-loop μ-loop
 entry-count-requires c κs = search needs
@@ -73,61 +72,74 @@ entry-count-requires c κs = search needs
 -- no entry
 returns-4 : tie.Need-returns-4 Inv-loop μ-loop
 returns-4 c =
+    let at-start = c .before .before .before .before .before .before .before .before .before in
+    let at-destination = c .before .before .before .before .before .before .before in
+    let at-is-destination = c .before .before .before .before .before .before in
+    let at-if1 = c .before .before .before .before .before in
     let at-width = c .before .before .before .before in
-    let at-if1 = at-width .before in
-    let at-is-destination = at-if1 .before in
-    let at-destination = at-is-destination .before in
-    let at-start = at-destination .before .before in
-    let table = at-start .args .table .now in
-    let g = at-start .args .g in
+    let at-entry-count = c .before in
     let tested = sym (ap isDestination (at-destination .destination .ensures)) ∙ sym (at-is-destination .is-destination .ensures) in
     let ends = tested ∙ not-false _ (at-if1 .if1 .left) in
     let width = at-width .width .ensures in
-    let count = c .before .entry-count .ensures in
-    alone-none logicTile table g ends (omega arith) (omega arith) (omega arith)
+    let count = at-entry-count .entry-count .ensures in
+    alone-none logicTile (at-start .args .table .now) (at-start .args .g) ends (omega arith) (omega arith) (omega arith)
 
 -- more than 32 entries
 returns-5 : tie.Need-returns-5 Inv-loop μ-loop
 returns-5 c =
+    let at-start = c .before .before .before .before .before .before .before .before .before .before in
+    let at-destination = c .before .before .before .before .before .before .before .before in
+    let at-is-destination = c .before .before .before .before .before .before .before in
+    let at-if1 = c .before .before .before .before .before .before in
+    let at-width = c .before .before .before .before .before in
     let at-entry-count = c .before .before in
-    let at-width = at-entry-count .before .before .before in
-    let at-if1 = at-width .before in
-    let at-is-destination = at-if1 .before in
-    let at-destination = at-is-destination .before in
-    let at-start = at-destination .before .before in
-    let table = at-start .args .table .now in
-    let g = at-start .args .g in
     let tested = sym (ap isDestination (at-destination .destination .ensures)) ∙ sym (at-is-destination .is-destination .ensures) in
     let ends = tested ∙ not-false _ (at-if1 .if1 .left) in
     let width = at-width .width .ensures in
     let count = at-entry-count .entry-count .ensures in
-    alone-many logicTile table g ends (omega arith) (omega arith) (omega arith) (omega arith)
+    alone-many logicTile (at-start .args .table .now) (at-start .args .g) ends (omega arith) (omega arith) (omega arith) (omega arith)
 
 loop-holds : tie.Need-loop-holds Inv-loop μ-loop
 loop-holds c =
+    let at-start = c .before .before .before .before .before .before .before .before .before .before in
+    let at-destination = c .before .before .before .before .before .before .before .before in
+    let at-is-destination = c .before .before .before .before .before .before .before in
+    let at-if1 = c .before .before .before .before .before .before in
+    let at-width = c .before .before .before .before .before in
     let at-entry-count = c .before .before in
-    let at-width = at-entry-count .before .before .before in
-    let at-if1 = at-width .before in
-    let at-is-destination = at-if1 .before in
-    let at-destination = at-is-destination .before in
-    let at-start = at-destination .before .before in
-    let table = at-start .args .table .now in
-    let g = at-start .args .g in
     let tested = sym (ap isDestination (at-destination .destination .ensures)) ∙ sym (at-is-destination .is-destination .ensures) in
     let ends = tested ∙ not-false _ (at-if1 .if1 .left) in
     let width = at-width .width .ensures in
     let count = at-entry-count .entry-count .ensures in
-    let every = alone-all logicTile table g ends (omega arith) (omega arith) (omega arith) (omega arith) in
-    (omega arith, ap (all (entryOk logicTile table g) 0) (omega arith) ∙ every)
+    let every = alone-all logicTile (at-start .args .table .now) (at-start .args .g) ends (omega arith) (omega arith) (omega arith) (omega arith) in (
+      omega arith,
+      ap (all (entryOk logicTile (at-start .args .table .now) (at-start .args .g)) 0) (omega arith) ∙ every,
+      mark-none logicTile
+          (at-start .args .table .now) (at-start .args .g) _ refl,
+    )
 
 entry-ok-requires : tie.Need-entry-ok-requires Inv-loop μ-loop
-entry-ok-requires c κs = search needs
+entry-ok-requires c κs =
+    let at-start = c .before .before .before .before .before .before .before .before .before .before .before .before .before in
+    let at-width = c .before .before .before .before .before .before .before .before in
+    let at-entry-count = c .before .before .before .before .before in
+    let at-loop = c .before .before in (
+      at-start .pre .0,
+      at-start .pre .1,
+      (let q : at-loop .loop .e < entryCount logicTile (at-start .args .table .now) (at-start .args .g) = omega
+          (arith, at-entry-count .entry-count .ensures) in q),
+      omega (arith, at-width .width .ensures),
+      omega
+          (arith, at-entry-count .entry-count .ensures),
+      at-loop .loop .inv .2,
+    )
 
 -- an entry breaks a rule
 returns-6 : tie.Need-returns-6 Inv-loop μ-loop
 returns-6 c =
-    let at-loop = c .before .before .before in
-    all-turn-hit _ _ _ _ (at-loop .loop .inv .1) (omega arith) (sym (c .before .entry-ok .ensures) ∙ not-true _ (c .if6 .taken))
+    let at-loop = c .before .before .before .before in
+    let at-entry-ok = c .before in
+    all-turn-hit _ _ _ _ (at-loop .loop .inv .1) (omega arith) (sym (at-entry-ok .entry-ok .ensures .0) ∙ not-true _ (c .if6 .taken))
 
 add-e : tie.Need-add-e Inv-loop μ-loop
 add-e c = search needs
@@ -137,12 +149,19 @@ loop-less c = search needs
 
 loop-again : tie.Need-loop-again Inv-loop μ-loop
 loop-again c =
-    let at-loop = c .before .before .before in
-    (omega arith, all-turn-skip _ _ _ _ (at-loop .loop .inv .1) (omega arith) (sym (c .before .entry-ok .ensures) ∙ not-false _ (c .if6 .left)))
+    let at-loop = c .before .before .before .before in
+    let at-entry-ok = c .before in (
+      omega arith,
+      all-turn-skip _ _ _ _ (at-loop .loop .inv .1) (omega arith)
+          (sym (at-entry-ok .entry-ok .ensures .0) ∙ not-false _ (c .if6 .left)),
+      at-entry-ok .entry-ok .ensures .1 (not-false _ (c .if6 .left)),
+    )
 
 -- every entry passes
 returns-7 : tie.Need-returns-7 Inv-loop μ-loop
-returns-7 c = all-turn-end _ _ _ _ (c .before .loop .inv .1) (omega arith)
+returns-7 c =
+    let at-loop = c .before in
+    all-turn-end _ _ _ _ (at-loop .loop .inv .1) (omega arith)
 
 pub group-alone-ok-spec : {M : Type 1} → statement M
 group-alone-ok-spec =

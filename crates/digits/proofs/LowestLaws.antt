@@ -1,0 +1,51 @@
+-- The lowest set digit, which the language's count of trailing zeros gives, and a number without a set digit. Main laws: `trailing-digit`,
+-- `trailing-lt`; `drop-is`.
+use mathlib.Core.Path.{_≡_, refl, sym, ap, _∙_, subst}
+use mathlib.Core.Logic.{⊎-elim}
+use Prim.Native.Nat.{ℕ, zero, suc, _+_, _-_, _*_, _/_, _%_, _^_, _<_, _≤_}
+use native.Mathlib.Omega.{arith}
+use lib.Count.{trailingZeros, under}
+use lib.Pow.{shr-shr, pow-pos}
+use Rattle.lists.proofs.CaseLaws.{lt-or-le}
+use Rattle.digits.specs.Digits.{digit, setDigit}
+use Rattle.digits.proofs.DigitLaws.{digit-past}
+use Rattle.digits.proofs.WriteLaws.{digit-split}
+use Rattle.digits.proofs.MaskLaws.{one-shl}
+
+-- n, which is not 0, has a digit set, and the count of its trailing zeros is the lowest
+pub trailing-digit : (k n : ℕ) → 0 < n → n < 2 ^ k → digit n (trailingZeros k n) ≡ 1
+unfolding trailingZeros
+trailing-digit zero n p h = absurd (omega arith)
+trailing-digit (suc k) n p h = go (n % 2) refl (λ q. trailing-digit k (n / 2) q (let r : n / 2 < 2 ^ k = omega arith in r))
+  where
+    go : (d : ℕ) → n % 2 ≡ d → (0 < n / 2 → digit (n / 2) (trailingZeros k (n / 2)) ≡ 1) → digit n (under d (trailingZeros k (n / 2))) ≡ 1
+    go zero e rest =
+        ap (λ (x : ℕ). x % 2)
+        (ap (λ (x : ℕ). n / 2 ^ x) (let q : suc (trailingZeros k (n / 2)) ≡ 1 + trailingZeros k (n / 2) = omega arith in q)
+        ∙ sym (shr-shr n 1 (trailingZeros k (n / 2))))
+        ∙ rest (omega arith)
+    go (suc d) e rest = let q : n / 2 ^ 0 % 2 ≡ 1 = omega arith in q
+
+pub trailing-lt : (k n : ℕ) → 0 < n → n < 2 ^ k → trailingZeros k n < k
+trailing-lt k n p h =
+    ⊎-elim (λ (l : trailingZeros k n < k). l)
+    (λ (l : k ≤ trailingZeros k n). absurd (omega (arith, trailing-digit k n p h, digit-past n k (trailingZeros k n) h l)))
+    (lt-or-le (trailingZeros k n) k)
+
+-- n - (1 << k), where digit k is set, in a number of w digits
+module _ (w n k : ℕ) (l : k < w) (d : digit n k ≡ 1) where
+  shifted : (1 * 2 ^ k) % 2 ^ w ≡ 2 ^ k
+  shifted = one-shl k w l
+
+  parts : (n / 2 ^ (1 + k) * 2 + 1) * 2 ^ k + n % 2 ^ k ≡ n
+  parts = subst (λ (x : ℕ). (n / 2 ^ (1 + k) * 2 + x) * 2 ^ k + n % 2 ^ k ≡ n) d (digit-split n k)
+
+  pub drop-le : (1 * 2 ^ k) % 2 ^ w ≤ n
+  drop-le = omega (arith, shifted, parts)
+
+  pub drop-is : n - (1 * 2 ^ k) % 2 ^ w ≡ setDigit n k 0
+  unfolding setDigit
+  drop-is = omega (arith, shifted, parts)
+
+  pub drop-lt : n - (1 * 2 ^ k) % 2 ^ w < n
+  drop-lt = omega (arith, shifted, drop-le, pow-pos k)

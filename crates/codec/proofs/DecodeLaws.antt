@@ -18,7 +18,7 @@ use Rattle.cell.specs.Settings.{flagsOf}
 use Rattle.codec.specs.Cells.{valueIn, cellsIn, emptyCell, putCells}
 use Rattle.codec.specs.Decode.{settingNumber, settingAt, decode}
 use Rattle.codec.proofs.CellLaws.{cells-in-table, cells-in-flags, put-cells-length, put-cells-kept, put-cells-table, put-cells-flags}
-use Rattle.codec.proofs.SettingAtLaws.{setting-field, setting-passive, setting-passive-rest, setting-group, setting-group-rest, setting-table, setting-flags}
+use Rattle.codec.proofs.SettingAtLaws.{setting-field, setting-passive, setting-passive-rest, setting-of-group, setting-group-rest, setting-table, setting-flags}
 
 -- what holds of the settings below the cells and of both numbers of each cell holds of all
 pub setting-cases : (P : ℕ → Type 0) → ((n : ℕ) → n < cellsFrom logicTile → P n)
@@ -84,13 +84,8 @@ module _ (table bits : List ℕ) where
     decode-passive-rest h = decode-at (3 + j) (omega arith) ∙ setting-passive-rest table bits (3 + j) (omega arith) (omega arith) (omega arith)
 
   module _ (g : ℕ) (few : g < maxGroups) where
-    from-group : groupsFrom logicTile + g - groupsFrom logicTile ≡ g
-    from-group = omega arith
-
     pub decode-group : g < groupCount logicTile table → groupSetting logicTile (decode table bits) g ≡ settingNumber (readGroup logicTile table bits g)
-    decode-group h =
-        decode-at (groupsFrom logicTile + g) (omega arith) ∙ setting-group table bits (groupsFrom logicTile + g) (omega arith) (omega arith) (omega arith)
-        ∙ ap (λ (x : ℕ). settingNumber (readGroup logicTile table bits x)) from-group
+    decode-group h = decode-at (groupsFrom logicTile + g) (omega arith) ∙ setting-of-group table bits g few h
 
     pub decode-group-rest : groupCount logicTile table ≤ g → groupSetting logicTile (decode table bits) g ≡ 0
     decode-group-rest h = decode-at (groupsFrom logicTile + g) (omega arith) ∙ setting-group-rest table bits (groupsFrom logicTile + g) (omega arith)

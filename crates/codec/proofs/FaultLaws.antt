@@ -102,7 +102,7 @@ module _ (table bits : List ℕ) (p : ℕ) where
         (λ (l : slotCount logicTile ≤ mine). omega (arith, first-le (claims (slotsOf logicTile table) p) 0 (slotCount logicTile)))
         (lt-or-le mine (slotCount logicTile))
 
-    owner-some : getD own p 0 ≢ 0 → (owner (slotsOf logicTile table) p + 1 ≡ getD own p 0) × (owner (slotsOf logicTile table) p < slotCount logicTile)
+    pub owner-some : getD own p 0 ≢ 0 → (owner (slotsOf logicTile table) p + 1 ≡ getD own p 0) × (owner (slotsOf logicTile table) p < slotCount logicTile)
     owner-some n =
         ⊎-elim
         (λ (l : mine < slotCount logicTile).

@@ -43,16 +43,18 @@ module _ (table : List ℕ) (T : TableRules logicTile table) where
   once : Once (slotsOf logicTile table)
   once = table-once logicTile table logic-tile-once T
 
-  carry-owner : owner (slotsOf logicTile table) (fieldAt table carryInSet) ≡ fieldSlots logicTile + carryInSet
+  pub carry-owner : owner (slotsOf logicTile table) (fieldAt table carryInSet) ≡ fieldSlots logicTile + carryInSet
   carry-owner =
       subst (λ (p : ℕ). owner (slotsOf logicTile table) p ≡ fieldSlots logicTile + carryInSet) (slot-at-field logicTile table carryInSet (omega arith))
       (owner-is (slotsOf logicTile table) once (fieldSlots logicTile + carryInSet) (omega arith) (slot-used-field logicTile table carryInSet (omega arith)))
 
-  group-owner : (g : ℕ) → g < groupCount logicTile table → owner (slotsOf logicTile table) (positionAt logicTile table g 0) ≡ groupSlot logicTile g + 0
-  group-owner g h =
-      subst (λ (p : ℕ). owner (slotsOf logicTile table) p ≡ groupSlot logicTile g + 0) (slot-at-group logicTile table g 0 (omega arith))
-      (owner-is (slotsOf logicTile table) once (groupSlot logicTile g + 0) (omega (arith, T .few-groups))
-      (slot-used-group logicTile table g 0 (omega arith) h ∙ lt-ltb 0 (widthOf logicTile table g) (T .groups g h .some-positions)))
+  pub group-owner : (g k : ℕ) → g < groupCount logicTile table → k < widthOf logicTile table g
+      → owner (slotsOf logicTile table) (positionAt logicTile table g k) ≡ groupSlot logicTile g + k
+  group-owner g k h l =
+      let few : k < maxPositions = omega (arith, T .groups g h .few-positions) in
+      subst (λ (p : ℕ). owner (slotsOf logicTile table) p ≡ groupSlot logicTile g + k) (slot-at-group logicTile table g k few)
+      (owner-is (slotsOf logicTile table) once (groupSlot logicTile g + k) (omega (arith, T .few-groups))
+      (slot-used-group logicTile table g k few h ∙ lt-ltb k (widthOf logicTile table g) l))
 
 -- ---- a position
 
@@ -66,7 +68,7 @@ module _ (table bits : List ℕ) (T : TableRules logicTile table) where
 
   fault-of : (p : ℕ) → Faulty table bits p → faultAt table bits p ≡ true
   fault-of p (unlisted g h n m) =
-      fault-group table bits (positionAt logicTile table g 0) (maxPositions * g) (group-owner table T g h ∙ omega arith)
+      fault-group table bits (positionAt logicTile table g 0) (maxPositions * g) (group-owner table T g 0 h (T .groups g h .some-positions) ∙ omega arith)
       (omega (arith, T .few-groups)) (omega arith)
       ∙ ap (λ (x : ℕ). isUnlisted (readGroup logicTile table bits x)) (let e : maxPositions * g / maxPositions ≡ g = omega arith in e)
       ∙ unlisted-exact table bits g (T .groups g h) .1 (n, m)

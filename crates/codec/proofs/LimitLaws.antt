@@ -1,19 +1,23 @@
--- The largest value of each setting, one law for each way through `limitAt`, and what settings that fit keep to. Main law: `fit-at`.
+-- The largest value of each setting, one law for each way through `limitAt`, the test of all, and what settings that fit keep
+-- to. Main laws: `fit-within`, `fit-at`.
 -- Assumes nothing.
-use mathlib.Core.Path.{_≡_, refl, sym, subst}
+use mathlib.Core.Path.{_≡_, refl, sym, ap, _∙_, subst}
 use mathlib.Core.Logic.{_≢_}
 use mathlib.Core.Bool.{Bool, true, false, not}
 use mathlib.Core.List.{List}
 use Prim.Native.Nat.{ℕ, _+_, _-_, _*_, _%_, _<_, _≤_}
 use native.Mathlib.Omega.{arith}
 use borrow.Author.Tests.{eq-eqb, ne-eqb, lt-ltb, le-ltb, leb-true}
+use lib.Dec.{leb}
 use lib.ListN.{getD}
+use Rattle.lists.specs.Search.{all}
 use Rattle.lists.proofs.CaseLaws.{and-left, and-right}
-use Rattle.lists.proofs.SearchLaws.{all-at}
+use Rattle.lists.proofs.TableLaws.{tabulate-zero}
+use Rattle.lists.proofs.SearchLaws.{all-at, all-ext}
 use Rattle.routing.specs.LogicTile.{logicTile}
 use Rattle.routing.specs.Table.{maxPassives, maxGroups, passiveCount, groupCount, entryCount}
 use Rattle.codec.specs.Settings.{fieldSetting, passiveSetting, groupSetting, groupsFrom, cellsFrom, cellTable, cellFlags, settingsLength}
-use Rattle.codec.specs.Limits.{limitAt, withinLimit, bothCarries, settingsFit}
+use Rattle.codec.specs.Limits.{limitAt, withinLimit, limitsOf, withinAt, bothCarries, settingsFit}
 
 module _ (table : List ℕ) (n : ℕ) where
   pub limit-field : n < 3 → limitAt table n ≡ 1
@@ -70,6 +74,22 @@ module _ (table : List ℕ) (n : ℕ) where
       ne-eqb
           ((n - cellsFrom logicTile) % 2) 0 e,
     )
+
+-- ---- settings held against the largest values, as the code does it
+
+module _ (table settings : List ℕ) where
+  pub fit-carry-pair : bothCarries settings ≡ true → false ≡ settingsFit table settings
+  unfolding settingsFit
+  fit-carry-pair e = rw e
+
+  pub fit-within : (limits : List ℕ) → limits ≡ limitsOf table → bothCarries settings ≡ false
+      → all (withinAt limits settings) 0 (settingsLength logicTile) ≡ settingsFit table settings
+  unfolding settingsFit
+  fit-within limits e b =
+      rw b
+      (all-ext (withinAt limits settings) (withinLimit table settings) 0 (settingsLength logicTile)
+      (λ k a l. ap (leb (getD settings k 0))
+      (ap (λ (x : List ℕ). getD x k 0) e ∙ tabulate-zero (limitAt table) 0 (settingsLength logicTile) k (omega arith))))
 
 -- ---- settings that fit
 

@@ -1,11 +1,11 @@
 -- What is read to each setting: one law for each way through `settingAt`, `setting-field`, .. `setting-flags`. Assumes nothing.
-use mathlib.Core.Path.{_≡_}
+use mathlib.Core.Path.{_≡_, ap, _∙_}
 use mathlib.Core.List.{List}
 use Prim.Native.Nat.{ℕ, _+_, _-_, _*_, _/_, _%_, _^_, _<_, _≤_}
 use native.Mathlib.Omega.{arith}
 use borrow.Author.Tests.{lt-ltb, le-ltb}
 use Rattle.routing.specs.LogicTile.{logicTile}
-use Rattle.routing.specs.Table.{fieldAt, passiveCount, passiveAt, groupCount}
+use Rattle.routing.specs.Table.{maxGroups, fieldAt, passiveCount, passiveAt, groupCount}
 use Rattle.codec.specs.Bits.{bitAt}
 use Rattle.codec.specs.Settings.{groupsFrom, cellsFrom}
 use Rattle.codec.specs.Groups.{readGroup}
@@ -48,6 +48,14 @@ module _ (table bits : List ℕ) where
             lt-ltb n (cellsFrom logicTile) b,
             le-ltb (n - groupsFrom logicTile) (groupCount logicTile table) h,
           )
+
+  -- the settings of the groups, as the code numbers them
+  module _ (g : ℕ) (few : g < maxGroups) where
+    pub setting-of-group : g < groupCount logicTile table
+        → settingAt table bits (groupsFrom logicTile + g) ≡ settingNumber (readGroup logicTile table bits g)
+    setting-of-group h =
+        setting-group (groupsFrom logicTile + g) (omega arith) (omega arith) (omega arith)
+        ∙ ap (λ (x : ℕ). settingNumber (readGroup logicTile table bits x)) (let e : groupsFrom logicTile + g - groupsFrom logicTile ≡ g = omega arith in e)
 
   module _ (i : ℕ) where
     pub setting-table : settingAt table bits (cellsFrom logicTile + 2 * i) ≡ valueIn bits i % 2 ^ 16

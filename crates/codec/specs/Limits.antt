@@ -5,6 +5,7 @@ use mathlib.Core.List.{List}
 use lib.Dec.{eqb, ltb, leb}
 use lib.ListN.{getD}
 use Rattle.lists.specs.Search.{all}
+use Rattle.lists.specs.Tables.{tabulate}
 use Rattle.routing.specs.LogicTile.{logicTile, carryInSet, carryChain}
 use Rattle.routing.specs.Table.{passiveCount, groupCount, entryCount}
 use Rattle.codec.specs.Settings.{fieldSetting, groupsFrom, cellsFrom, settingsLength}
@@ -17,6 +18,14 @@ limitAt table n =
     (cond (ltb n (groupsFrom logicTile)) (cond (ltb (n - 3) (passiveCount logicTile table)) 1 0)
     (cond (ltb n (cellsFrom logicTile)) (cond (ltb (n - groupsFrom logicTile) (groupCount logicTile table)) (entryCount logicTile table (n - groupsFrom logicTile)) 0)
     (cond (eqb ((n - cellsFrom logicTile) % 2) 0) 65535 15)))
+
+-- the largest values of all settings
+abbrev pub limitsOf : List ℕ → List ℕ
+limitsOf table = tabulate (limitAt table) 0 (settingsLength logicTile)
+
+-- setting n against a list of largest values
+abbrev pub withinAt : List ℕ → List ℕ → ℕ → Bool
+withinAt limits settings n = leb (getD settings n 0) (getD limits n 0)
 
 unfoldable pub bothCarries : List ℕ → Bool
 bothCarries settings = eqb (fieldSetting settings carryInSet) 1 && eqb (fieldSetting settings carryChain) 1

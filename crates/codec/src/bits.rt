@@ -6,7 +6,8 @@ ghost use Rattle.codec.specs.Bits.{unit, tileBytes, bitAt, setBit, bitCo
 
 pub const TILE_BYTES: usize = 108;
 
-const UNIT: usize = 8;
+// How many positions a lent number has.
+pub const UNIT: usize = 8;
 
 // The bit at position p.
 pub fn read_bit(bits: &[u8], p: usize) -> u8

@@ -6,7 +6,7 @@ ghost use Rattle.routing.specs.LogicTile.{logicTile};
 ghost use Rattle.routing.specs.Table.{groupCount, widthOf, positionAt, entryCount};
 ghost use Rattle.routing.specs.Rules.{TableRules};
 ghost use Rattle.codec.specs.Bits.{tileBytes, setBits};
-ghost use Rattle.codec.specs.Groups.{groupBit, groupPattern, readGroup, patternOf};
+ghost use Rattle.codec.specs.Groups.{groupBit, groupPattern, settingOfPattern, readGroup, patternOf};
 use crate::bits::read_bit;
 use crate::bits::write_bit;
 
@@ -32,13 +32,12 @@ pub fn read_pattern(table: &[u16], g: usize, bits: &[u8]) -> u16
     pattern
 }
 
-// The setting that a group's bits give.
+// The setting that a pattern gives.
 // Rules out: a pattern that only lacks its enable bit taken as off; an entry past the group's count.
-pub fn read_group(table: &[u16], g: usize, bits: &[u8]) -> GroupRead
-    requires { ⌜ (TableRules logicTile (now table)) × (g < groupCount logicTile (now table)) × (length (now bits) ≡ tileBytes) ⌝ }
-    ensures { λ r. ⌜ r ≡ readGroup logicTile (now (table .entry)) (now (bits .entry)) g ⌝ }
+pub fn setting_of(table: &[u16], g: usize, pattern: u16) -> GroupRead
+    requires { ⌜ (TableRules logicTile (now table)) × (g < groupCount logicTile (now table)) ⌝ }
+    ensures { λ r. ⌜ r ≡ settingOfPattern logicTile (now (table .entry)) g pattern ⌝ }
 {
-    let pattern = read_pattern(table, g, bits);
     if pattern == 0 {
         return GroupRead::Setting(0);
     }
@@ -48,6 +47,15 @@ pub fn read_group(table: &[u16], g: usize, bits: &[u8]) -> GroupRead
         return GroupRead::Setting(e as u16 + 1);
     }
     GroupRead::Unlisted
+}
+
+// The setting that a group's bits give.
+pub fn read_group(table: &[u16], g: usize, bits: &[u8]) -> GroupRead
+    requires { ⌜ (TableRules logicTile (now table)) × (g < groupCount logicTile (now table)) × (length (now bits) ≡ tileBytes) ⌝ }
+    ensures { λ r. ⌜ r ≡ readGroup logicTile (now (table .entry)) (now (bits .entry)) g ⌝ }
+{
+    let pattern = read_pattern(table, g, bits);
+    setting_of(table, g, pattern)
 }
 
 // A pattern written to a group's positions, the first with weight 1.

@@ -7,10 +7,10 @@ ghost use Rattle.routing.specs.LogicTile.{logicTile};
 ghost use Rattle.routing.specs.Table.{groupCount};
 ghost use Rattle.routing.specs.Rules.{TableRules};
 ghost use Rattle.codec.specs.Bits.{tileBytes};
-ghost use Rattle.codec.specs.Settings.{cellsFrom, settingsLength};
+ghost use Rattle.codec.specs.Settings.{groupsFrom, settingsLength};
 ghost use Rattle.codec.specs.Groups.{readGroup};
 ghost use Rattle.codec.specs.Decode.{settingNumber, settingAt};
-ghost use Rattle.codec.specs.Limits.{limitAt, bothCarries};
+ghost use Rattle.codec.specs.Limits.{limitAt, limitsOf, bothCarries};
 use crate::bits::read_bit;
 use crate::cells::CELLS_FROM;
 use crate::groups::GroupRead;
@@ -34,26 +34,19 @@ pub fn group_setting(table: &[u16], g: usize, bits: &[u8]) -> u16
     }
 }
 
-// Setting n of what the bits read to, below the cells.
+// Setting n of what the bits read to, below the groups: a field or a passive bit.
 pub fn setting_at(table: &[u16], bits: &[u8], n: usize) -> u16
-    requires { ⌜ (TableRules logicTile (now table)) × (length (now bits) ≡ tileBytes) × (n < cellsFrom logicTile) ⌝ }
+    requires { ⌜ (TableRules logicTile (now table)) × (length (now bits) ≡ tileBytes) × (n < groupsFrom logicTile) ⌝ }
     ensures { λ r. ⌜ r ≡ settingAt (now (table .entry)) (now (bits .entry)) n ⌝ }
 {
     if n < PASSIVES_FROM {
         let p = routing::table::field(table, n);
         return read_bit(bits, p) as u16;
     }
-    if n < GROUPS_FROM {
-        let j = n - PASSIVES_FROM;
-        if j < routing::table::passive_count(table) {
-            let p = routing::table::passive(table, j);
-            return read_bit(bits, p) as u16;
-        }
-        return 0;
-    }
-    let g = n - GROUPS_FROM;
-    if g < routing::table::group_count(table) {
-        return group_setting(table, g, bits);
+    let j = n - PASSIVES_FROM;
+    if j < routing::table::passive_count(table) {
+        let p = routing::table::passive(table, j);
+        return read_bit(bits, p) as u16;
     }
     0
 }
@@ -83,6 +76,20 @@ pub fn limit_at(table: &[u16], n: usize) -> u16
         return 65535;
     }
     15
+}
+
+// The largest values of all settings, for a caller with many tiles.
+pub fn limits(table: &[u16]) -> [u16; SETTINGS_LENGTH]
+    requires { ⌜ TableRules logicTile (now table) ⌝ }
+    ensures { λ r. ⌜ r ≡ limitsOf (now (table .entry)) ⌝ }
+{
+    let mut limits = [0u16; SETTINGS_LENGTH];
+    let mut n = 0;
+    while n < SETTINGS_LENGTH {
+        limits[n] = limit_at(table, n);
+        n += 1;
+    }
+    limits
 }
 
 // Whether settings have CarryInSet together with the chain switch.

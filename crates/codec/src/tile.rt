@@ -1,6 +1,8 @@
 // One tile: the lowest position at fault, its settings read, its settings written, and whether any bits have them.
 ghost use mathlib.Core.Path.{_≡_};
 ghost use mathlib.Core.Bool.{true};
+ghost use mathlib.Core.List.{List};
+ghost use Prim.Native.Nat.{ℕ};
 ghost use lib.ListN.{length};
 ghost use Rattle.routing.specs.LogicTile.{logicTile};
 ghost use Rattle.routing.specs.Rules.{TableRules};
@@ -10,7 +12,7 @@ ghost use Rattle.codec.specs.Settings.{settingsLength};
 ghost use Rattle.codec.specs.Decode.{decode};
 ghost use Rattle.codec.specs.Fault.{tileFault};
 ghost use Rattle.codec.specs.Encode.{encode};
-ghost use Rattle.codec.specs.Limits.{settingsFit};
+ghost use Rattle.codec.specs.Limits.{limitsOf, settingsFit};
 ghost use Rattle.codec.specs.Writing.{Writable, TileWritten};
 use crate::bits::write_bit;
 use crate::cells::CELLS_FROM;
@@ -19,21 +21,25 @@ use crate::cells::decode_cells;
 use crate::cells::put_cells;
 use crate::cells::write_cells;
 use crate::fault::is_fault_at;
+use crate::fault::is_quiet;
 use crate::groups::write_group;
 use crate::settings::GROUPS_FROM;
 use crate::settings::PASSIVES_FROM;
 use crate::settings::SETTINGS_LENGTH;
+use crate::settings::group_setting;
 use crate::settings::has_both_carries;
-use crate::settings::limit_at;
 use crate::settings::setting_at;
 
 const POSITIONS: usize = 864;
 
-// The lowest position at fault; 864 where the tile can be decoded. `own` is the ownership map of the table.
+// The lowest position at fault; 864 where the tile can be decoded, which is soon known of most. `own` is the ownership map of the table.
 pub fn tile_fault(table: &[u16], own: &[u16], bits: &[u8]) -> usize
     requires { ⌜ (TableRules logicTile (now table)) × (Owned 864 (slotsOf logicTile (now table)) (slotCount logicTile) (now own)) × (length (now bits) ≡ tileBytes) ⌝ }
     ensures { λ r. ⌜ r ≡ tileFault (now (table .entry)) (now (bits .entry)) ⌝ }
 {
+    if is_quiet(table, own, bits) {
+        return POSITIONS;
+    }
     let mut p = 0;
     while p < POSITIONS {
         if is_fault_at(table, own, bits, p) {
@@ -51,9 +57,20 @@ pub fn decode_tile(table: &[u16], bits: &[u8], settings: &mut [u16])
     ensures { λ r. ⌜ now (settings .exit) ≡ decode (now (table .entry)) (now (bits .entry)) ⌝ }
 {
     let mut n = 0;
-    while n < CELLS_FROM {
+    while n < GROUPS_FROM {
         settings[n] = setting_at(table, bits, n);
         n += 1;
+    }
+    let count = routing::table::group_count(table);
+    let mut g = 0;
+    while g < count {
+        settings[GROUPS_FROM + g] = group_setting(table, g, bits);
+        g += 1;
+    }
+    let mut rest = GROUPS_FROM + count;
+    while rest < CELLS_FROM {
+        settings[rest] = 0;
+        rest += 1;
     }
     let cells = decode_cells(bits);
     put_cells(settings, cells);
@@ -112,21 +129,22 @@ pub fn encode_tile(table: &[u16], settings: &[u16], bits: &mut [u8])
     write_groups(table, settings, bits);
 }
 
-// Whether some bits have these settings (ground 9).
+// Whether some bits have these settings (ground 9), `limits` being those of their table. All are looked at, for the machine compares many at once.
 // Rules out: an entry past a group's count; a number past the table's counts that is not 0.
-pub fn settings_fit(table: &[u16], settings: &[u16]) -> bool
-    requires { ⌜ (TableRules logicTile (now table)) × (length (now settings) ≡ settingsLength logicTile) ⌝ }
-    ensures { λ r. ⌜ r ≡ settingsFit (now (table .entry)) (now (settings .entry)) ⌝ }
+pub fn settings_fit(limits: &[u16; SETTINGS_LENGTH], settings: &[u16]) -> bool
+    requires { ⌜ length (now settings) ≡ settingsLength logicTile ⌝ }
+    ensures { λ r. ⌜ ((table : List ℕ) → now (limits .entry) ≡ limitsOf table → r ≡ settingsFit table (now (settings .entry))) ⌝ }
 {
     if has_both_carries(settings) {
         return false;
     }
+    let mut fit = true;
     let mut n = 0;
     while n < SETTINGS_LENGTH {
-        if limit_at(table, n) < settings[n] {
-            return false;
+        if limits[n] < settings[n] {
+            fit = false;
         }
         n += 1;
     }
-    true
+    fit
 }

@@ -53,11 +53,12 @@ pub fn bitless_tile(table: &[u16], settings: &[u16], n: usize) -> usize
     requires { ⌜ (n ≤ 64) × TableRules logicTile (now table) × (length (now settings) ≡ settingsLength logicTile * n) ⌝ }
     ensures { λ r. ⌜ r ≡ bitlessTile (now (table .entry)) (now (settings .entry)) n ⌝ }
 {
+    let limits = codec::settings::limits(table);
     let mut t = 0;
     while t < n {
         let start = SETTINGS_LENGTH * t;
         let end = start + SETTINGS_LENGTH;
-        if !codec::tile::settings_fit(table, &settings[start..end]) {
+        if !codec::tile::settings_fit(&limits, &settings[start..end]) {
             return t;
         }
         t += 1;

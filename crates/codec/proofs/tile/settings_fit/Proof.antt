@@ -1,57 +1,52 @@
--- `settings_fit` meets its contract. Invariant: all settings from n on are within their limits as all from 0 on are. Measure: the settings
--- left. Assumes nothing.
+-- `settings_fit` meets its contract. Invariant: `fit` says whether the first n settings are within their limits. Measure: the settings left. Assumes
+-- nothing.
 use mathlib.Core.Bool.{true, false}
-use mathlib.Core.Path.{_≡_, refl, sym, _∙_}
-use Prim.Native.Nat.{_-_, _≤_}
+use mathlib.Core.Logic.{⊎-elim}
+use mathlib.Core.Path.{_≡_, sym, ap, _∙_}
+use Prim.Native.Nat.{ℕ, _-_, _≤_}
 use native.Mathlib.Omega.{arith}
 use borrow.Author.Tests.{le-leb, lt-leb}
 use borrow.Author.Needs.{needs}
-use Rattle.lists.proofs.SearchLaws.{all-turn-hit, all-turn-skip, all-turn-end}
 use Rattle.lists.specs.Search.{all}
-use Rattle.codec.specs.Limits.{withinLimit, bothCarries, settingsFit}
-use Rattle.codec.specs.Settings.{settingsLength}
+use Rattle.lists.proofs.SomeLaws.{all-more-pass, all-more-fail}
 use Rattle.routing.specs.LogicTile.{logicTile}
+use Rattle.codec.specs.Limits.{bothCarries, withinAt}
+use Rattle.codec.specs.Settings.{settingsLength}
+use Rattle.codec.proofs.LimitLaws.{fit-carry-pair, fit-within}
 use Rattle.codec.proofs.tile.settings_fit.Statement.{statement}
 use Rattle.codec.proofs.tile.settings_fit.Tie as tie
 
 abbrev Inv-loop : tie.InvT-loop
-Inv-loop table settings n₀ n = (n ≤ settingsLength logicTile) × (all (withinLimit table settings) n (settingsLength logicTile - n) ≡ all
-    (withinLimit table settings) 0 (settingsLength logicTile))
+Inv-loop limits settings fit₀ n₀ fit n = (n ≤ settingsLength logicTile) × (fit ≡ all (withinAt limits settings) 0 n)
 
 abbrev μ-loop : tie.MeasureT-loop
-μ-loop table settings n₀ n = settingsLength logicTile - n
+μ-loop limits settings fit₀ n₀ fit n = settingsLength logicTile - n
 
 has-both-carries-requires : tie.Need-has-both-carries-requires Inv-loop μ-loop
 has-both-carries-requires c κs = search needs
 
+-- the carry pair
 returns : tie.Need-returns Inv-loop μ-loop
-unfolding settingsFit
 returns c =
-    let at-start = c .before .before .before .before in
-    (let e : bothCarries (at-start .args .settings .now) ≡ true = sym (c .before .has-both-carries .ensures) ∙ c .if1 .taken in rw e)
+    let at-start = c .before .before .before in
+    let at-has-both-carries = c .before in
+    λ table e. fit-carry-pair table (at-start .args .settings .now) (sym (at-has-both-carries .has-both-carries .ensures) ∙ c .if1 .taken)
 
 loop-holds : tie.Need-loop-holds Inv-loop μ-loop
-loop-holds c = (omega arith, refl)
-
-limit-at-requires : tie.Need-limit-at-requires Inv-loop μ-loop
-limit-at-requires c κs = search needs
+unfolding all
+loop-holds c = search needs
 
 mul-if2 : tie.Need-mul-if2 Inv-loop μ-loop
 mul-if2 c = search needs
 
+element-copy-out-if2 : tie.Need-element-copy-out-if2 Inv-loop μ-loop
+element-copy-out-if2 c = search needs
+
+mul-if2-2 : tie.Need-mul-if2-2 Inv-loop μ-loop
+mul-if2-2 c = search needs
+
 shared-slice-read-if2 : tie.Need-shared-slice-read-if2 Inv-loop μ-loop
 shared-slice-read-if2 c = search needs
-
-returns-2 : tie.Need-returns-2 Inv-loop μ-loop
-unfolding settingsFit
-returns-2 c =
-    let at-start = c .before .before .before .before .before .before .before .before .before in
-    let at-has-both-carries = c .before .before .before .before .before .before in
-    let at-test = c .before .before .before .before .before in
-    let at-loop = c .before .before .before .before in
-    let at-limit-at = c .before .before in
-    (let e : bothCarries (at-start .args .settings .now) ≡ false = sym (at-has-both-carries .has-both-carries .ensures) ∙ at-test .if1 .left in rw e
-    (all-turn-hit _ _ _ _ (at-loop .loop .inv .1) (omega arith) (lt-leb _ _ (rw (at-limit-at .limit-at .ensures) at (c .if2 .taken)))))
 
 add-n : tie.Need-add-n Inv-loop μ-loop
 add-n c = search needs
@@ -61,18 +56,21 @@ loop-less c = search needs
 
 loop-again : tie.Need-loop-again Inv-loop μ-loop
 loop-again c =
-    let at-loop = c .before .before .before .before in
-    let at-limit-at = c .before .before in
-    (omega arith, all-turn-skip _ _ _ _ (at-loop .loop .inv .1) (omega arith) (le-leb _ _ (rw (at-limit-at .limit-at .ensures) at (c .if2 .left))))
+    let at-loop = c .before .before .before .before in (
+      omega arith,
+      ⊎-elim (λ w. w .1 ∙ all-more-fail _ _ _ (at-loop .loop .inv .1) (lt-leb _ _ (w .0 .taken)))
+          (λ w. w .1 ∙ all-more-pass _ _ _ (at-loop .loop .inv .1) (le-leb _ _ (w .0 .left))) (c .if2 .came),
+    )
 
-returns-3 : tie.Need-returns-3 Inv-loop μ-loop
-unfolding settingsFit
-returns-3 c =
-    let at-start = c .before .before .before .before .before .before in
+returns-2 : tie.Need-returns-2 Inv-loop μ-loop
+returns-2 c =
+    let at-start = c .before .before .before .before .before in
     let at-has-both-carries = c .before .before .before in
-    let at-test = c .before .before in
-    (let e : bothCarries (at-start .args .settings .now) ≡ false = sym (at-has-both-carries .has-both-carries .ensures) ∙ at-test .if1 .left in rw e
-    (all-turn-end _ _ _ _ (c .before .loop .inv .1) (omega arith)))
+    let at-if1 = c .before .before in
+    let at-loop = c .before in
+    λ table e. at-loop .loop .inv .1 ∙ ap (all (withinAt (at-start .args .limits .now) (at-start .args .settings .now)) 0)
+    (let q : at-loop .loop .n ≡ settingsLength logicTile = omega arith in q) ∙ fit-within table (at-start .args .settings .now)
+    (at-start .args .limits .now) e (sym (at-has-both-carries .has-both-carries .ensures) ∙ at-if1 .if1 .left)
 
 pub settings-fit-spec : {M : Type 1} → statement M
 settings-fit-spec =
@@ -83,11 +81,11 @@ settings-fit-spec =
     has-both-carries-requires
     returns
     loop-holds
-    limit-at-requires
     mul-if2
+    element-copy-out-if2
+    mul-if2-2
     shared-slice-read-if2
-    returns-2
     add-n
     loop-less
     loop-again
-    returns-3)
+    returns-2)

@@ -1,27 +1,30 @@
 -- `config::blocks::bitless_tile` meets its contract. Invariant: the search from t on finds what the search from 0 finds. Measure: the tiles
 -- that are left. Assumes nothing.
-use mathlib.Core.Bool.{not}
 use mathlib.Core.Path.{_≡_, sym, ap, _∙_}
+use mathlib.Core.Bool.{not}
 use Prim.Native.Nat.{ℕ, _-_, _*_, _≤_}
-use native.Mathlib.Nat.{sub-zero}
 use native.Mathlib.Omega.{arith}
+use native.Mathlib.Nat.{sub-zero}
 use borrow.Author.Needs.{needs}
 use lib.ListN.{take, drop}
-use Rattle.lists.proofs.PartLaws.{part-size, part-code-length}
-use Rattle.lists.proofs.SearchLaws.{first-turn-hit, first-turn-skip, first-turn-end}
 use Rattle.lists.specs.Search.{first}
+use Rattle.lists.proofs.SearchLaws.{first-turn-hit, first-turn-skip, first-turn-end}
+use Rattle.lists.proofs.PartLaws.{part-size, part-code-length}
 use Rattle.routing.specs.LogicTile.{logicTile}
-use Rattle.codec.specs.Limits.{settingsFit}
 use Rattle.codec.specs.Settings.{settingsLength}
+use Rattle.codec.specs.Limits.{settingsFit}
 use Rattle.config.specs.Blocks.{bitlessAt}
 use Rattle.config.proofs.blocks.bitless_tile.Statement.{statement}
 use Rattle.config.proofs.blocks.bitless_tile.Tie as tie
 
 abbrev Inv-loop : tie.InvT-loop
-Inv-loop table settings n t₀ t = (t ≤ n) × (first (bitlessAt table settings) t (n - t) ≡ first (bitlessAt table settings) 0 n)
+Inv-loop table settings n limits t₀ t = (t ≤ n) × (first (bitlessAt table settings) t (n - t) ≡ first (bitlessAt table settings) 0 n)
 
 abbrev μ-loop : tie.MeasureT-loop
-μ-loop table settings n t₀ t = n - t
+μ-loop table settings n limits t₀ t = n - t
+
+limits-requires : tie.Need-limits-requires Inv-loop μ-loop
+limits-requires c κs = search needs
 
 loop-holds : tie.Need-loop-holds Inv-loop μ-loop
 loop-holds c = (omega arith, simp sub-zero)
@@ -46,21 +49,21 @@ part-settings-fit-end c = search needs
 
 settings-fit-requires : tie.Need-settings-fit-requires Inv-loop μ-loop
 settings-fit-requires c κs =
-    let at-loop = c .before .before in
-    let at-start = at-loop .before .before .before in
-    let args = at-start .args in
-    (at-start .pre .1, part-code-length (settingsLength logicTile) (at-loop .loop .t) (args .n) (args .settings .now) (at-start .pre .2) (omega arith))
+    let at-start = c .before .before .before .before .before .before .before in
+    let at-loop = c .before .before .before in
+    part-code-length (settingsLength logicTile) (at-loop .loop .t) (at-start .args .n) (at-start .args .settings .now) (at-start .pre .2) (omega arith)
 
 -- tile t is the lowest
 returns : tie.Need-returns Inv-loop μ-loop
 unfolding bitlessAt
 returns c =
+    let at-start = c .before .before .before .before .before .before .before .before .before in
+    let at-limits = c .before .before .before .before .before .before in
+    let at-loop = c .before .before .before .before .before in
     let at-settings-fit = c .before in
-    let at-loop = at-settings-fit .before .before .before in
-    let at-start = at-loop .before .before .before in
-    let args = at-start .args in
-    let t = at-loop .loop .t in
-    let fit = ap not (at-settings-fit .settings-fit .ensures ∙ ap (λ (x : ℕ). settingsFit (args .table .now) (take x (drop (settingsLength logicTile * t) (args .settings .now)))) (part-size (settingsLength logicTile) t)) in
+    let fit = ap not (at-settings-fit .settings-fit .ensures (at-start .args .table .now) (at-limits .limits .ensures) ∙ ap
+    (λ (x : ℕ). settingsFit (at-start .args .table .now) (take x (drop (settingsLength logicTile * at-loop .loop .t) (at-start .args .settings .now))))
+    (part-size (settingsLength logicTile) (at-loop .loop .t))) in
     first-turn-hit _ _ _ _ (at-loop .loop .inv .1) (omega arith) (sym fit ∙ c .if1 .taken)
 
 add-t : tie.Need-add-t Inv-loop μ-loop
@@ -72,12 +75,13 @@ loop-less c = search needs
 loop-again : tie.Need-loop-again Inv-loop μ-loop
 unfolding bitlessAt
 loop-again c =
+    let at-start = c .before .before .before .before .before .before .before .before .before in
+    let at-limits = c .before .before .before .before .before .before in
+    let at-loop = c .before .before .before .before .before in
     let at-settings-fit = c .before in
-    let at-loop = at-settings-fit .before .before .before in
-    let at-start = at-loop .before .before .before in
-    let args = at-start .args in
-    let t = at-loop .loop .t in
-    let fit = ap not (at-settings-fit .settings-fit .ensures ∙ ap (λ (x : ℕ). settingsFit (args .table .now) (take x (drop (settingsLength logicTile * t) (args .settings .now)))) (part-size (settingsLength logicTile) t)) in
+    let fit = ap not (at-settings-fit .settings-fit .ensures (at-start .args .table .now) (at-limits .limits .ensures) ∙ ap
+    (λ (x : ℕ). settingsFit (at-start .args .table .now) (take x (drop (settingsLength logicTile * at-loop .loop .t) (at-start .args .settings .now))))
+    (part-size (settingsLength logicTile) (at-loop .loop .t))) in
     (omega arith, first-turn-skip _ _ _ _ (at-loop .loop .inv .1) (omega arith) (sym fit ∙ c .if1 .left))
 
 -- there is none
@@ -92,6 +96,7 @@ bitless-tile-spec =
     (tie.spec
     Inv-loop
     μ-loop
+    limits-requires
     loop-holds
     mul-start
     add-end

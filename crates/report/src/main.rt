@@ -1,5 +1,6 @@
 // The report program: frames on standard input, the lines of the report on standard output. What is printed, and that the first
 // `INPUT` bytes decide it, is proved in crates/reporting.
+use libc::STDERR_FILENO;
 use libc::STDIN_FILENO;
 use libc::STDOUT_FILENO;
 
@@ -8,5 +9,7 @@ fn main() {
     let got = io::read_full(STDIN_FILENO, &mut input);
     let mut out = reporting::output_room();
     let written = reporting::report(&input[..got], &mut out);
-    io::write_all(STDOUT_FILENO, &out[..written]);
+    if !io::write_all(STDOUT_FILENO, &out[..written]) {
+        io::write_all(STDERR_FILENO, b"report: the report could not be written\n");
+    }
 }

@@ -165,7 +165,7 @@ def damaged(lib, rounds):
         w, h, table, bits = random.choice(small)
         table = list(table)
         for _ in range(random.choice((1, 1, 2))):
-            g = random.randrange(table[68] or 1) if random.random() < 0.9 else random.randrange(512)
+            g = random.randrange(min(table[68], 512) or 1) if random.random() < 0.9 else random.randrange(512)
             at = random.choice((random.randrange(69), 3, 68, 69 + 75 * g, 69 + 75 * g + 1, 69 + 75 * g + 10, 69 + 75 * g + random.randrange(75)))
             table[at] = random.choice((0, 1, 8, 9, 32, 33, 64, 65, 254, 512, 513, 403, 404, 476, 479, 505, 506, 863, 864, 65535, random.randrange(65536),
                                        table[69 + 75 * random.randrange(254) + 2], random.choice(sorted(model.ALL_CELL_BITS))))

@@ -2,9 +2,10 @@
 -- Assumes nothing.
 use mathlib.Core.Path.{_≡_, refl, sym, ap, _∙_}
 use mathlib.Core.Bool.{Bool, true, false, cond}
-use Prim.Native.Nat.{ℕ, _+_, _*_, _<_}
+use Prim.Native.Nat.{ℕ, _+_, _-_, _*_, _/_, _%_, _^_, _<_, _≤_}
 use native.Mathlib.Omega.{arith}
-use borrow.Author.Tests.{eqb-true, ltb-true}
+use borrow.Author.Tests.{eqb-true, ltb-true, lt-ltb, le-ltb}
+use lib.Bits.{bitAnd, and-mask}
 use lib.Dec.{eqb, ltb}
 use lib.ListN.{getD}
 use Rattle.lists.specs.Search.{first, all}
@@ -39,7 +40,34 @@ lc-bit-once j l a b e = sym (found j a) ∙ ap (λ (k : ℕ). first (isLcBit k) 
     found : (k : ℕ) → k < bitsPerCell → first (isLcBit (lcBit k)) 0 20 ≡ k
     found k h = eqb-true (first (isLcBit (lcBit k)) 0 20) k (all-at foundFirst 0 20 k refl (omega arith) (omega arith))
 
+-- ---- the twenty as the code has them, five digits each in two numbers
+
+inFirst : ℕ → Bool
+inFirst j = eqb (86029347607199172 / 2 ^ (5 * j) % 32) (lcBit j)
+
+inLast : ℕ → Bool
+inLast j = eqb (672472770913 / 2 ^ (5 * j) % 32) (lcBit (12 + j))
+
+pub lc-bit-first : (j : ℕ) → j < 12 → bitAnd (86029347607199172 / 2 ^ (5 * j)) 31 ≡ lcBit j
+unfolding inFirst all
+lc-bit-first j h =
+    and-mask (86029347607199172 / 2 ^ (5 * j)) 5
+    ∙ eqb-true (86029347607199172 / 2 ^ (5 * j) % 32) (lcBit j) (all-at inFirst 0 12 j refl (omega arith) (omega arith))
+
+pub lc-bit-last : (j : ℕ) → 12 ≤ j → j < bitsPerCell → bitAnd (672472770913 / 2 ^ (5 * (j - 12))) 31 ≡ lcBit j
+unfolding inLast all
+lc-bit-last j h l =
+    and-mask (672472770913 / 2 ^ (5 * (j - 12))) 5
+    ∙ eqb-true (672472770913 / 2 ^ (5 * (j - 12)) % 32) (lcBit (12 + (j - 12))) (all-at inLast 0 8 (j - 12) refl (omega arith) (omega arith))
+    ∙ ap lcBit (let e : 12 + (j - 12) ≡ j = omega arith in e)
+
 -- ---- a cell has two rows, 108 positions
+
+pub lc-position-left : (i k : ℕ) → k < 10 → 54 * (2 * i) + (36 + k) ≡ lcPosition i k
+lc-position-left i k h = rw (lt-ltb k 10 h)
+
+pub lc-position-right : (i k : ℕ) → 10 ≤ k → 54 * (2 * i + 1) + (26 + k) ≡ lcPosition i k
+lc-position-right i k h = rw (le-ltb k 10 h)
 
 -- the place of logic cell bit k in them
 place : ℕ → ℕ

@@ -1,11 +1,13 @@
 -- The bits of a list of numbers: read, written, and two lists that agree at each bit; first over the number u of bits in a lent number,
 -- then for the form that a tile's bits have. Main laws: `bit-set-same`, `bit-set-other`, `bits-ext`; `bit-count-step`. Assumes nothing.
 use mathlib.Core.Path.{_≡_, sym, ap, ap₂, _∙_, subst}
+use mathlib.Core.Bool.{true}
 use mathlib.Core.Logic.{⊎-elim, _≢_}
 use mathlib.Core.List.{List}
 use Prim.Native.Nat.{ℕ, _+_, _*_, _/_, _%_, _^_, _<_, _≤_}
 use native.Mathlib.Omega.{arith}
 use native.Mathlib.Nat.{div-add-mod', mod-lt, zero-div}
+use borrow.Author.Tests.{eqb-true}
 use lib.Arith.{digits-div, digits-mod, digits-lt}
 use lib.Count.{ones}
 use lib.Dec.{eqb}
@@ -13,14 +15,15 @@ use lib.ListN.{length, getD, set, length-set}
 use lib.Seq.{getD-set-same, getD-set-other, set-getD, set-out, ext-getD}
 use Rattle.lists.specs.Search.{count}
 use Rattle.lists.specs.Tables.{zeros}
-use Rattle.lists.proofs.TableLaws.{zeros-at}
+use Rattle.lists.proofs.TableLaws.{zeros-length, zeros-at}
+use Rattle.lists.proofs.SearchLaws.{all-at}
 use Rattle.lists.proofs.CaseLaws.{lt-or-le, eq-or-ne}
 use Rattle.lists.proofs.CountLaws.{count-ext, count-add}
 use Rattle.digits.specs.Digits.{digit, isSet, setDigit, fromDigits}
 use Rattle.digits.proofs.DigitLaws.{digit-set-same, digit-set-other, set-digit-lt, from-digits-ext, from-digits-all}
 use Rattle.digits.proofs.OnesLaws.{ones-count}
 use Rattle.digits.proofs.WriteLaws.{digit-split}
-use Rattle.codec.specs.Bits.{unit, tileBytes, bitIn, bitAt, setBitIn, setBit, Bytes, isSetAt}
+use Rattle.codec.specs.Bits.{unit, tileBytes, bitIn, bitAt, setBitIn, setBit, Bytes, isSetAt, isZeroAt, isEmpty}
 
 -- ---- u bits in a number
 
@@ -113,6 +116,13 @@ bit-lt bits p = bit-in-lt unit (omega arith) bits p
 pub bit-of-zeros : (n p : ℕ) → bitAt (zeros n) p ≡ 0
 unfolding bitIn
 bit-of-zeros n p = rw (zeros-at n (p / unit)) (ap (λ (x : ℕ). x % 2) (zero-div (2 ^ (p % unit))))
+
+pub empty-clear : (bits : List ℕ) → length bits ≡ tileBytes → isEmpty bits ≡ true → (p : ℕ) → bitAt bits p ≡ 0
+empty-clear bits n e p =
+    ap (λ (x : List ℕ). bitAt x p)
+    (ext-getD 0 bits (zeros tileBytes) (n ∙ sym (zeros-length tileBytes))
+    (λ i l. eqb-true (getD bits i 0) 0 (all-at (isZeroAt bits) 0 tileBytes i e (omega arith) (omega arith)) ∙ sym (zeros-at tileBytes i)))
+    ∙ bit-of-zeros tileBytes p
 
 -- a position of the tile is in one of its lent numbers
 pub position-within : {p n : ℕ} → p < 864 → n ≡ tileBytes → p / unit < n

@@ -1,19 +1,22 @@
 -- The settings that a tile's bits decode to. Main laws: `setting-kinds`: what holds of each kind of setting holds of all; `decode-field`, ..
--- `decode-flags`: the decoding, kind by kind; `decode-filled`: what the code fills is the decoding. Assumes nothing.
-use mathlib.Core.Path.{_≡_, sym, ap, _∙_, subst}
+-- `decode-flags`: the decoding, kind by kind; `decode-filled`: what the code fills is the decoding; `decode-empty`. Assumes nothing.
+use mathlib.Core.Path.{_≡_, refl, sym, ap, _∙_, subst}
 use mathlib.Core.Logic.{⊎-elim, _≢_}
 use mathlib.Core.List.{List}
-use Prim.Native.Nat.{ℕ, _+_, _-_, _*_, _/_, _%_, _^_, _<_, _≤_}
+use Prim.Native.Nat.{ℕ, zero, suc, _+_, _-_, _*_, _/_, _%_, _^_, _<_, _≤_}
 use native.Mathlib.Omega.{arith}
 use lib.ListN.{length, getD}
 use Rattle.lists.proofs.CaseLaws.{lt-or-le, eq-or-ne}
-use Rattle.lists.proofs.TableLaws.{tabulate-length, tabulate-zero, tabulate-is}
+use Rattle.lists.proofs.TableLaws.{tabulate-length, tabulate-zero, tabulate-is, zeros-length, zeros-at}
+use Rattle.lists.specs.Tables.{zeros}
+use Rattle.digits.specs.Digits.{fromDigits}
 use Rattle.cell.specs.declared.logic.Cell.{Cell}
-use Rattle.routing.specs.LogicTile.{logicTile}
-use Rattle.routing.specs.Table.{maxPassives, maxGroups, fieldAt, passiveCount, passiveAt, groupCount}
+use Rattle.routing.specs.TileKind.{bitsPerCell}
+use Rattle.routing.specs.LogicTile.{logicTile, cellPosition}
+use Rattle.routing.specs.Table.{maxPassives, maxGroups, fieldAt, passiveCount, passiveAt, groupCount, widthOf, positionAt}
 use Rattle.codec.specs.Bits.{bitAt}
 use Rattle.codec.specs.Settings.{fieldSetting, passiveSetting, groupSetting, groupsFrom, cellsFrom, cellTable, cellFlags, settingsLength}
-use Rattle.codec.specs.Groups.{readGroup}
+use Rattle.codec.specs.Groups.{settingOfPattern, readGroup}
 use Rattle.cell.specs.Settings.{flagsOf}
 use Rattle.codec.specs.Cells.{valueIn, cellsIn, emptyCell, putCells}
 use Rattle.codec.specs.Decode.{settingNumber, settingAt, decode}
@@ -109,3 +112,29 @@ module _ (table bits : List ℕ) where
       ∙ sym (setting-table table bits i))
       (λ i h. put-cells-flags settings cells long 8 i (omega arith) h ∙ ap (λ (c : List Cell). flagsOf (getD c i emptyCell)) e
       ∙ cells-in-flags bits i h ∙ sym (setting-flags table bits i)))
+
+-- ---- a tile with no bit set
+
+module _ (table bits : List ℕ) (clear : (p : ℕ) → bitAt bits p ≡ 0) where
+  no-digits : (at : ℕ → ℕ) (n : ℕ) → fromDigits (λ (k : ℕ). bitAt bits (at k)) n ≡ 0
+  unfolding fromDigits
+  no-digits at zero = refl
+  no-digits at (suc n) = rw (clear (at n), no-digits at n) (omega arith)
+
+  setting-empty : (n : ℕ) → n < settingsLength logicTile → settingAt table bits n ≡ 0
+  setting-empty =
+      setting-kinds table (λ (n : ℕ). settingAt table bits n ≡ 0)
+      (λ f h. setting-field table bits f h ∙ clear (fieldAt table f))
+      (λ j few h. setting-passive table bits (3 + j) (omega arith) (omega arith) (omega arith) ∙ clear (passiveAt logicTile table (3 + j - 3)))
+      (λ j few h. setting-passive-rest table bits (3 + j) (omega arith) (omega arith) (omega arith))
+      (λ g few h. setting-of-group table bits g few h
+      ∙ ap (λ (v : ℕ). settingNumber (settingOfPattern logicTile table g v)) (no-digits (positionAt logicTile table g) (widthOf logicTile table g)))
+      (λ g few h. setting-group-rest table bits (groupsFrom logicTile + g) (omega arith) (omega arith) (omega arith))
+      (λ i h. setting-table table bits i ∙ ap (λ (v : ℕ). v % 2 ^ 16) (no-digits (cellPosition i) bitsPerCell))
+      (λ i h. setting-flags table bits i ∙ ap (λ (v : ℕ). v / 2 ^ 16) (no-digits (cellPosition i) bitsPerCell))
+
+  pub decode-empty : (n : ℕ) → n ≡ settingsLength logicTile → zeros n ≡ decode table bits
+  decode-empty n e =
+      ap zeros e
+      ∙ tabulate-is (settingAt table bits) 0 (settingsLength logicTile) (zeros (settingsLength logicTile)) (zeros-length (settingsLength logicTile))
+      (λ k l. zeros-at (settingsLength logicTile) k ∙ sym (setting-empty k l))

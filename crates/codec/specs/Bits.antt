@@ -4,7 +4,7 @@ use mathlib.Core.Bool.{Bool}
 use mathlib.Core.List.{List}
 use lib.Dec.{eqb}
 use lib.ListN.{getD, set}
-use Rattle.lists.specs.Search.{count}
+use Rattle.lists.specs.Search.{all, count}
 use Rattle.digits.specs.Digits.{digit, setDigit}
 
 -- how many positions stand in one lent number, and how many numbers a tile is: "A tile is 108 bytes"
@@ -39,6 +39,13 @@ Bytes bits = (i : ℕ) → getD bits i 0 < 2 ^ unit
 
 abbrev pub isSetAt : List ℕ → ℕ → Bool
 isSetAt bits p = eqb (bitAt bits p) 1
+
+-- no bit is set
+abbrev pub isZeroAt : List ℕ → ℕ → Bool
+isZeroAt bits i = eqb (getD bits i 0) 0
+
+abbrev pub isEmpty : List ℕ → Bool
+isEmpty bits = all (isZeroAt bits) 0 tileBytes
 
 -- "how many of its 864 bits are set"
 abbrev pub bitCount : List ℕ → ℕ

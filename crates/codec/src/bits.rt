@@ -2,7 +2,7 @@
 ghost use mathlib.Core.Path.{_≡_};
 ghost use Prim.Native.Nat.{_/_, _<_};
 ghost use lib.ListN.{length};
-ghost use Rattle.codec.specs.Bits.{unit, tileBytes, bitAt, setBit, bitCount};
+ghost use Rattle.codec.specs.Bits.{unit, tileBytes, bitAt, setBit, isEmpty, bitCount};
 
 pub const TILE_BYTES: usize = 108;
 
@@ -25,6 +25,21 @@ pub fn write_bit(bits: &mut [u8], p: usize, value: u8)
     let i = p / UNIT;
     let byte = bits[i];
     bits[i] = digits::with_digit(byte, (p % UNIT) as u32, value);
+}
+
+// Whether no bit of a tile is set.
+pub fn is_empty(bits: &[u8]) -> bool
+    requires { ⌜ length (now bits) ≡ tileBytes ⌝ }
+    ensures { λ r. ⌜ r ≡ isEmpty (now (bits .entry)) ⌝ }
+{
+    let mut i = 0;
+    while i < TILE_BYTES {
+        if bits[i] != 0 {
+            return false;
+        }
+        i += 1;
+    }
+    true
 }
 
 // How many of a tile's 864 bits are set.

@@ -14,6 +14,7 @@ ghost use Rattle.codec.specs.Fault.{tileFault};
 ghost use Rattle.codec.specs.Encode.{encode};
 ghost use Rattle.codec.specs.Limits.{limitsOf, settingsFit};
 ghost use Rattle.codec.specs.Writing.{Writable, TileWritten};
+use crate::bits::is_empty;
 use crate::bits::write_bit;
 use crate::cells::CELLS_FROM;
 use crate::cells::cells_of;
@@ -50,12 +51,16 @@ pub fn tile_fault(table: &[u16], own: &[u16], bits: &[u8]) -> usize
     p
 }
 
-// A tile's settings read from its bits; the cells go through the array by value.
+// A tile's settings read from its bits; the cells go through the array by value. Many tiles of a block have no bit set, and take no time.
 // Rules out: writing nothing; leaving the numbers past the table's counts as they were.
 pub fn decode_tile(table: &[u16], bits: &[u8], settings: &mut [u16])
     requires { ⌜ (TableRules logicTile (now table)) × (length (now bits) ≡ tileBytes) × (length (now settings) ≡ settingsLength logicTile) ⌝ }
     ensures { λ r. ⌜ now (settings .exit) ≡ decode (now (table .entry)) (now (bits .entry)) ⌝ }
 {
+    if is_empty(bits) {
+        lists::clear(settings);
+        return;
+    }
     let mut n = 0;
     while n < GROUPS_FROM {
         settings[n] = setting_at(table, bits, n);

@@ -10,7 +10,8 @@ use Rattle.routing.specs.Table.{maxGroups, groupCount}
 use Rattle.routing.specs.LogicTile.{logicTile}
 use Rattle.codec.specs.Settings.{settingsLength, groupsFrom, cellsFrom}
 use Rattle.codec.specs.Decode.{settingAt}
-use Rattle.codec.proofs.DecodeLaws.{decode-filled}
+use Rattle.codec.proofs.BitLaws.{empty-clear}
+use Rattle.codec.proofs.DecodeLaws.{decode-filled, decode-empty}
 use Rattle.codec.proofs.SettingAtLaws.{setting-of-group, setting-group-rest}
 use Rattle.codec.proofs.tile.decode_tile.Statement.{statement}
 use Rattle.codec.proofs.tile.decode_tile.Tie as tie
@@ -33,9 +34,30 @@ Inv-loop3 table bits settings₀ n count g rest₀ settings rest = (groupsFrom l
 abbrev μ-loop3 : tie.MeasureT-loop3
 μ-loop3 table bits settings₀ n count g rest₀ settings rest = cellsFrom logicTile - rest
 
+is-empty-requires : tie.Need-is-empty-requires Inv-loop μ-loop Inv-loop2 μ-loop2 Inv-loop3 μ-loop3
+is-empty-requires c κs = search needs
+
+clear-requires : tie.Need-clear-requires Inv-loop μ-loop Inv-loop2 μ-loop2 Inv-loop3 μ-loop3
+clear-requires c κs = search needs
+
+same-length : tie.Need-same-length Inv-loop μ-loop Inv-loop2 μ-loop2 Inv-loop3 μ-loop3
+same-length c =
+    let at-clear = c .before .before in
+    at-clear .clear .kept .0
+
+-- no bit is set
+returns : tie.Need-returns Inv-loop μ-loop Inv-loop2 μ-loop2 Inv-loop3 μ-loop3
+returns c =
+    let at-start = c .before .before .before .before .before .before .before .before .before in
+    let at-is-empty = c .before .before .before .before .before in
+    let at-if1 = c .before .before .before .before in
+    let at-clear = c .before .before in
+    at-clear .clear .ensures ∙ decode-empty (at-start .args .table .now) (at-start .args .bits .now)
+    (empty-clear (at-start .args .bits .now) (at-start .pre .1) (sym (at-is-empty .is-empty .ensures) ∙ at-if1 .if1 .taken)) _ (at-start .pre .2)
+
 loop-holds : tie.Need-loop-holds Inv-loop μ-loop Inv-loop2 μ-loop2 Inv-loop3 μ-loop3
 loop-holds c =
-    let at-start = c .before .before .before in (
+    let at-start = c .before .before .before .before .before in (
       omega arith,
       filled-start (settingAt (at-start .args .table .now) (at-start .args .bits .now)) 0 (settingsLength logicTile)
           (at-start .args .settings .now) (at-start .pre .2),
@@ -62,7 +84,7 @@ loop-less c = search needs
 
 loop-again : tie.Need-loop-again Inv-loop μ-loop Inv-loop2 μ-loop2 Inv-loop3 μ-loop3
 loop-again c =
-    let at-start = c .before .before .before .before .before .before in
+    let at-start = c .before .before .before .before .before .before .before .before in
     let at-loop = c .before .before in (
       omega arith,
       filled-step (settingAt (at-start .args .table .now) (at-start .args .bits .now)) 0 (settingsLength logicTile) (at-loop .loop .settings)
@@ -72,12 +94,12 @@ loop-again c =
 group-count-requires :
     tie.Need-group-count-requires Inv-loop μ-loop Inv-loop2 μ-loop2 Inv-loop3 μ-loop3
 group-count-requires c κs =
-    let at-start = c .before .before .before .before .before in
+    let at-start = c .before .before .before .before .before .before .before in
     at-start .pre .0 .long
 
 loop2-holds : tie.Need-loop2-holds Inv-loop μ-loop Inv-loop2 μ-loop2 Inv-loop3 μ-loop3
 loop2-holds c =
-    let at-start = c .before .before .before .before .before .before in
+    let at-start = c .before .before .before .before .before .before .before .before in
     let at-loop = c .before .before in (
       omega arith,
       subst (λ (x : ℕ). Filled (settingAt (at-start .args .table .now) (at-start .args .bits .now)) 0 (settingsLength logicTile) x
@@ -87,7 +109,7 @@ loop2-holds c =
 group-setting-requires :
     tie.Need-group-setting-requires Inv-loop μ-loop Inv-loop2 μ-loop2 Inv-loop3 μ-loop3
 group-setting-requires c κs =
-    let at-start = c .before .before .before .before .before .before .before .before in
+    let at-start = c .before .before .before .before .before .before .before .before .before .before in
     let at-group-count = c .before .before in
     let at-loop2 = c .before in (
       at-start .pre .0,
@@ -98,20 +120,20 @@ group-setting-requires c κs =
 
 add-settings : tie.Need-add-settings Inv-loop μ-loop Inv-loop2 μ-loop2 Inv-loop3 μ-loop3
 add-settings c =
-    let at-start = c .before .before .before .before .before .before .before .before .before in
+    let at-start = c .before .before .before .before .before .before .before .before .before .before .before in
     let at-group-count = c .before .before .before in
     omega (arith, at-group-count .group-count .ensures, at-start .pre .0 .few-groups)
 
 mul-settings-2 : tie.Need-mul-settings-2 Inv-loop μ-loop Inv-loop2 μ-loop2 Inv-loop3 μ-loop3
 mul-settings-2 c =
-    let at-start = c .before .before .before .before .before .before .before .before .before in
+    let at-start = c .before .before .before .before .before .before .before .before .before .before .before in
     let at-group-count = c .before .before .before in
     omega (arith, at-group-count .group-count .ensures, at-start .pre .0 .few-groups)
 
 slice-write-settings-2 :
     tie.Need-slice-write-settings-2 Inv-loop μ-loop Inv-loop2 μ-loop2 Inv-loop3 μ-loop3
 slice-write-settings-2 c =
-    let at-start = c .before .before .before .before .before .before .before .before .before in
+    let at-start = c .before .before .before .before .before .before .before .before .before .before .before in
     let at-group-count = c .before .before .before in
     let at-loop2 = c .before .before in
     omega (arith, at-loop2 .loop2 .inv .1 .long, at-group-count .group-count .ensures, at-start .pre .0 .few-groups)
@@ -124,7 +146,7 @@ loop2-less c = search needs
 
 loop2-again : tie.Need-loop2-again Inv-loop μ-loop Inv-loop2 μ-loop2 Inv-loop3 μ-loop3
 loop2-again c =
-    let at-start = c .before .before .before .before .before .before .before .before .before in
+    let at-start = c .before .before .before .before .before .before .before .before .before .before .before in
     let at-group-count = c .before .before .before in
     let at-loop2 = c .before .before in (
       omega arith,
@@ -141,13 +163,13 @@ loop2-again c =
 
 add-rest : tie.Need-add-rest Inv-loop μ-loop Inv-loop2 μ-loop2 Inv-loop3 μ-loop3
 add-rest c =
-    let at-start = c .before .before .before .before .before .before .before .before in
+    let at-start = c .before .before .before .before .before .before .before .before .before .before in
     let at-group-count = c .before .before in
     omega (arith, at-group-count .group-count .ensures, at-start .pre .0 .few-groups)
 
 loop3-holds : tie.Need-loop3-holds Inv-loop μ-loop Inv-loop2 μ-loop2 Inv-loop3 μ-loop3
 loop3-holds c =
-    let at-start = c .before .before .before .before .before .before .before .before in
+    let at-start = c .before .before .before .before .before .before .before .before .before .before in
     let at-group-count = c .before .before in
     let at-loop2 = c .before in (
       omega arith,
@@ -173,7 +195,7 @@ loop3-less c = search needs
 
 loop3-again : tie.Need-loop3-again Inv-loop μ-loop Inv-loop2 μ-loop2 Inv-loop3 μ-loop3
 loop3-again c =
-    let at-start = c .before .before .before .before .before .before .before .before .before .before in
+    let at-start = c .before .before .before .before .before .before .before .before .before .before .before .before in
     let at-group-count = c .before .before .before .before in
     let at-loop3 = c .before in (
       omega arith,
@@ -186,7 +208,7 @@ loop3-again c =
 decode-cells-requires :
     tie.Need-decode-cells-requires Inv-loop μ-loop Inv-loop2 μ-loop2 Inv-loop3 μ-loop3
 decode-cells-requires c κs =
-    let at-start = c .before .before .before .before .before .before .before .before .before .before in
+    let at-start = c .before .before .before .before .before .before .before .before .before .before .before .before in
     at-start .pre .1
 
 put-cells-requires :
@@ -195,16 +217,16 @@ put-cells-requires c κs =
     let at-loop3 = c .before .before .before in
     at-loop3 .loop3 .inv .1 .long
 
-same-length : tie.Need-same-length Inv-loop μ-loop Inv-loop2 μ-loop2 Inv-loop3 μ-loop3
-same-length c =
-    let at-start = c .before .before .before .before .before .before .before .before .before .before .before .before .before .before .before in
+same-length-2 : tie.Need-same-length-2 Inv-loop μ-loop Inv-loop2 μ-loop2 Inv-loop3 μ-loop3
+same-length-2 c =
+    let at-start = c .before .before .before .before .before .before .before .before .before .before .before .before .before .before .before .before .before in
     let at-loop3 = c .before .before .before .before .before .before in
     let at-put-cells = c .before .before in
     at-put-cells .put-cells .kept .0 ∙ at-loop3 .loop3 .inv .1 .long ∙ sym (at-start .pre .2)
 
-returns : tie.Need-returns Inv-loop μ-loop Inv-loop2 μ-loop2 Inv-loop3 μ-loop3
-returns c =
-    let at-start = c .before .before .before .before .before .before .before .before .before .before .before .before .before .before .before in
+returns-2 : tie.Need-returns-2 Inv-loop μ-loop Inv-loop2 μ-loop2 Inv-loop3 μ-loop3
+returns-2 c =
+    let at-start = c .before .before .before .before .before .before .before .before .before .before .before .before .before .before .before .before .before in
     let at-loop3 = c .before .before .before .before .before .before in
     let at-decode-cells = c .before .before .before .before in
     let at-put-cells = c .before .before in
@@ -221,6 +243,10 @@ decode-tile-spec =
     μ-loop2
     Inv-loop3
     μ-loop3
+    is-empty-requires
+    clear-requires
+    same-length
+    returns
     loop-holds
     setting-at-requires
     mul-settings
@@ -246,5 +272,5 @@ decode-tile-spec =
     loop3-again
     decode-cells-requires
     put-cells-requires
-    same-length
-    returns)
+    same-length-2
+    returns-2)

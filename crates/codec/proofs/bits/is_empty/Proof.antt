@@ -1,0 +1,58 @@
+-- `is_empty` meets its contract. Invariant: the bytes from i on decide. Measure: the bytes left. Assumes nothing.
+use mathlib.Core.Path.{_≡_, refl}
+use Prim.Native.Nat.{_-_, _≤_}
+use native.Mathlib.Omega.{arith}
+use borrow.Author.Tests.{eq-eqb, ne-eqb}
+use borrow.Author.Needs.{needs}
+use Rattle.lists.specs.Search.{all}
+use Rattle.lists.proofs.SearchLaws.{all-turn-hit, all-turn-skip, all-turn-end}
+use Rattle.codec.specs.Bits.{tileBytes, isZeroAt}
+use Rattle.codec.proofs.bits.is_empty.Statement.{statement}
+use Rattle.codec.proofs.bits.is_empty.Tie as tie
+
+abbrev Inv-loop : tie.InvT-loop
+Inv-loop bits i₀ i = (i ≤ tileBytes) × (all (isZeroAt bits) i (tileBytes - i) ≡ all (isZeroAt bits) 0 tileBytes)
+
+abbrev μ-loop : tie.MeasureT-loop
+μ-loop bits i₀ i = tileBytes - i
+
+loop-holds : tie.Need-loop-holds Inv-loop μ-loop
+loop-holds c = (omega arith, refl)
+
+shared-slice-read-if1 : tie.Need-shared-slice-read-if1 Inv-loop μ-loop
+shared-slice-read-if1 c = search needs
+
+returns : tie.Need-returns Inv-loop μ-loop
+returns c =
+    let at-loop = c .before .before .before in
+    all-turn-hit _ _ _ _ (at-loop .loop .inv .1) (omega arith) (ne-eqb _ _ (c .if1 .taken))
+
+add-i : tie.Need-add-i Inv-loop μ-loop
+add-i c = search needs
+
+loop-less : tie.Need-loop-less Inv-loop μ-loop
+loop-less c = search needs
+
+loop-again : tie.Need-loop-again Inv-loop μ-loop
+loop-again c =
+    let at-loop = c .before .before .before in
+    (omega arith, all-turn-skip _ _ _ _ (at-loop .loop .inv .1) (omega arith) (eq-eqb _ _ (c .if1 .left)))
+
+returns-2 : tie.Need-returns-2 Inv-loop μ-loop
+returns-2 c =
+    let at-loop = c .before in
+    all-turn-end _ _ _ _ (at-loop .loop .inv .1) (omega arith)
+
+pub is-empty-spec : {M : Type 1} → statement M
+is-empty-spec =
+    tie.close
+    (tie.spec
+    Inv-loop
+    μ-loop
+    loop-holds
+    shared-slice-read-if1
+    returns
+    add-i
+    loop-less
+    loop-again
+    returns-2)

@@ -4,7 +4,7 @@ ghost use lib.ListN.{length};
 ghost use Rattle.fabric.specs.Block.{Sized, ports};
 ghost use Rattle.equations.specs.Sources.{wiresOf};
 use fabric::Block;
-use fabric::wire::wire_of;
+use fabric::fill::fill;
 
 // Writes the wire of each port.
 // Rules out: a port left out; a number that is another port of the same wire.
@@ -12,10 +12,5 @@ pub fn fill_wires(b: Block, wires: &mut [u16])
     requires { ⌜ Sized b × (length (now wires) ≡ ports b) ⌝ }
     ensures { λ r. ⌜ now (wires .exit) ≡ wiresOf b ⌝ }
 {
-    let n = wires.len();
-    let mut p = 0;
-    while p < n {
-        wires[p] = wire_of(b, p as u32) as u16;
-        p += 1;
-    }
+    fill(b, wires);
 }

@@ -17,3 +17,6 @@ pub mod PortReach  -- reach: every port reaches its computed number
 pub mod NeighbourLaws  -- the ports of an output by where its tile stands
 pub mod EdgeLaws  -- the lowest port at an edge, in the code's terms
 pub mod WireAtLaws  -- the arms of `wire_at`
+pub mod FillLaws  -- Written, written-start, -step; copy-end, cross-end, number-end: a range of ports filled
+pub mod FillSpans  -- row-span, from-south, rim-owns, rim-far, right-copies, right-owns-..: the ranges of spans as they are filled
+pub mod FillPorts  -- each range of a tile's ports as it is filled

@@ -9,6 +9,7 @@ ghost use Rattle.fabric.specs.WireNumber.{wireNumber, IsWire};
 use crate::wire::wire_of;
 use refusal::Refusal;
 
+pub mod fill;
 mod output;
 pub mod ports;
 mod span;

@@ -26,14 +26,14 @@ pub const SPAN12_ROW: Span = Span {
     far: ports::SP12_H_R,
 };
 
-const SPAN4_COLUMN: Span = Span {
+pub const SPAN4_COLUMN: Span = Span {
     through: 36,
     shift: 12,
     near: ports::SP4_V_T,
     far: ports::SP4_V_B,
 };
 
-const SPAN12_COLUMN: Span = Span {
+pub const SPAN12_COLUMN: Span = Span {
     through: 22,
     shift: 2,
     near: ports::SP12_V_T,

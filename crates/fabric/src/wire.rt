@@ -15,7 +15,7 @@ use crate::span_wire::sp4_column;
 use crate::span_wire::sp12_column;
 
 // Port q of the tile to the south, where the block has that tile, else port own of the tile itself.
-fn below_wire(b: Block, x: u32, y: u32, own: u32, q: u32) -> u32
+pub fn below_wire(b: Block, x: u32, y: u32, own: u32, q: u32) -> u32
     requires { ⌜ Sized b × (x < b .w) × (y < b .h) × (own < portsPerTile) × (q < portsPerTile) ⌝ }
     ensures { λ r. ⌜ r ≡ below b x y own q ⌝ }
 {

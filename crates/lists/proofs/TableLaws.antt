@@ -9,6 +9,7 @@ use borrow.Author.Count.{below-more}
 use lib.ListN.{length, getD, set, length-set, replicate}
 use lib.Seq.{getD-set-same, getD-set-other, ext-getD}
 use Rattle.lists.specs.Tables.{tabulate, zeros}
+pub use Rattle.lists.specs.Tables.{Filled}
 
 module _ {A : Type 0} (f : ℕ → A) where
   pub tabulate-length : (i n : ℕ) → length (tabulate f i n) ≡ n
@@ -41,12 +42,7 @@ module _ {A : Type 0} (f : ℕ → A) where
 pub tabulate-ext : {A : Type 0} (d : A) (f g : ℕ → A) (n : ℕ) → ((k : ℕ) → k < n → f k ≡ g k) → tabulate f 0 n ≡ tabulate g 0 n
 tabulate-ext d f g n h = tabulate-is g d n (tabulate f 0 n) (tabulate-length f 0 n) (λ k l. tabulate-zero f d n k l ∙ h k l)
 
--- ---- a list of n elements of which the first i are f's; d stands for what is past the end
-
-pub record Filled {A : Type 0} (f : ℕ → A) (d : A) (n i : ℕ) (xs : List A) : Type 0 where
-  pub upto : i ≤ n
-  pub long : length xs ≡ n
-  pub filled : (k : ℕ) → k < i → getD xs k d ≡ f k
+-- ---- a list that is filled from the front
 
 module _ {A : Type 0} (f : ℕ → A) (d : A) (n : ℕ) where
   pub filled-start : (xs : List A) → length xs ≡ n → Filled f d n 0 xs

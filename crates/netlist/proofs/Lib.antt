@@ -22,5 +22,6 @@ pub mod SchedulingLaws  -- answers-unique: the promise determines the answer; wh
 pub mod OperandLaws  -- an operand by its use
 pub mod GoodLaws  -- a good row by its parts, a zero row by its numbers
 pub mod FirstBadLaws  -- the loops of ground 12
+pub mod OrLaws  -- AtMost: no number is higher than all or-ed; rows-none: rows of zeros
 pub mod Example  -- closed-test; three wires
 pub mod LoopWireLaws  -- loop-at-exact, loop-wire-is: the computed place of a loop is the lowest wire that depends on itself

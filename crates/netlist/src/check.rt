@@ -1,22 +1,24 @@
 // Ground 12: the first row of a lent list that may not stand where it does.
 ghost use mathlib.Core.Path.{_≡_};
-ghost use Prim.Native.Nat.{_*_, _<_, _≤_, _-_};
+ghost use Prim.Native.Nat.{ℕ, _*_, _<_, _≤_, _-_};
 ghost use mathlib.Core.Bool.{not};
-ghost use lib.ListN.{length};
+ghost use lib.ListN.{length, getD};
 ghost use Rattle.lists.specs.Search.{first};
 ghost use Rattle.lists.specs.Tables.{zeros};
 ghost use Rattle.netlist.specs.Rows.{rowLength, rowAt};
 ghost use Rattle.netlist.specs.Checking.{zeroTest, goodAt, wireCount, firstBadRow};
+use crate::row::ROW_LENGTH;
 use crate::row::row_at;
 use crate::row::wide;
 use crate::row_check::is_zero;
 use crate::row_check::row_good;
 
-// How many wires the block has.
+// How many wires the block has. A count of 16 bits lets the compiler take eight marks at a time.
 pub fn count_wires(wires: &[u16]) -> usize
+    requires { ⌜ length (now wires) < 65536 ⌝ }
     ensures { λ r. ⌜ r ≡ wireCount (now (wires .entry)) ⌝ }
 {
-    let mut count = 0;
+    let mut count: u16 = 0;
     let mut w = 0;
     while w < wires.len() {
         if wires[w] != 0 {
@@ -24,7 +26,7 @@ pub fn count_wires(wires: &[u16]) -> usize
         }
         w += 1;
     }
-    count
+    wide(count)
 }
 
 // The first of the rows below `count` that may not stand where it does, or `count`. `marks` ends with the wires of the rows before it.
@@ -52,11 +54,28 @@ fn first_not_good(
     i
 }
 
-// The first of the rows from `from` on, below n, that is not zero, or n.
+// The numbers from `from` on, below `to`, or-ed: none is higher.
+fn or_all(list: &[u16], from: usize, to: usize) -> u16
+    requires { ⌜ to ≤ length (now list) ⌝ }
+    ensures { λ r. ⌜ ((k : ℕ) → from ≤ k → k < to → getD (now (list .entry)) k 0 ≤ r) ⌝ }
+{
+    let mut any: u16 = 0;
+    let mut i = from;
+    while i < to {
+        any = any | list[i];
+        i += 1;
+    }
+    any
+}
+
+// The first of the rows from `from` on, below n, that is not zero, or n. One pass over the numbers says whether there is one.
 fn first_not_zero(list: &[u16], from: usize, n: usize) -> usize
     requires { ⌜ (rowLength * n ≤ length (now list)) × (from ≤ n) ⌝ }
     ensures { λ r. ⌜ r ≡ first (λ i. not (zeroTest (rowAt (now (list .entry)) i))) from (n - from) ⌝ }
 {
+    if or_all(list, ROW_LENGTH * from, ROW_LENGTH * n) == 0 {
+        return n;
+    }
     let mut i = from;
     while i < n {
         let row = row_at(list, i);
@@ -68,16 +87,21 @@ fn first_not_zero(list: &[u16], from: usize, n: usize) -> usize
     i
 }
 
-// The first row that breaks a rule of ground 12, or the number of rows. `wires` is not 0 at the block's wires, and `cells` is how many
-// cells there are. `marks` ends as zeros.
+// The first row that breaks a rule of ground 12, or the number of rows. `wires` is not 0 at the block's wires, `count` is how many they
+// are, and `cells` how many cells there are. `marks` ends as zeros.
 // Rules out: a row's own wire as its operand; a row past the number of wires let through.
-pub fn first_bad_row(list: &[u16], cells: usize, wires: &[u16], marks: &mut [u16]) -> usize
-    requires { ⌜ (length (now list) ≡ rowLength * length (now wires)) × (length (now marks) ≡ length (now wires)) ⌝ }
+pub fn first_bad_row(
+    list: &[u16],
+    count: usize,
+    cells: usize,
+    wires: &[u16],
+    marks: &mut [u16],
+) -> usize
+    requires { ⌜ (length (now list) ≡ rowLength * length (now wires)) × (length (now marks) ≡ length (now wires)) × (count ≡ wireCount (now wires)) ⌝ }
     ensures answer { λ r. ⌜ r ≡ firstBadRow (now (list .entry)) cells (now (wires .entry)) ⌝ }
     ensures marks { λ r. ⌜ now (marks .exit) ≡ zeros (length (now (marks .entry))) ⌝ }
 {
     let n = wires.len();
-    let count = count_wires(wires);
     let i = first_not_good(list, count, cells, wires, marks);
     lists::clear(marks);
     if i < count {

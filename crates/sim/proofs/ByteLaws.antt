@@ -6,7 +6,7 @@ use mathlib.Core.Bool.{false}
 use mathlib.Core.Logic.{⊎-elim}
 use mathlib.Core.List.{List, _++_}
 use native.Mathlib.Omega.{arith}
-use borrow.Author.Tests.{ltb-true, ltb-false}
+use borrow.Author.Tests.{ltb-true, ltb-false, le-ltb}
 use lib.Dec.{ltb}
 use lib.ListN.{length, getD, length-append, List·getD-append, List·getD-eq-default}
 use lib.Seq.{getD-append-add}
@@ -17,6 +17,10 @@ use Rattle.sim.specs.Stepping.{aboveOne, badByte}
 
 pub bad-byte-le : (xs : List ℕ) → badByte xs ≤ length xs
 bad-byte-le xs = let l = first-le (aboveOne xs) 0 (length xs) in omega arith
+
+-- where no byte is higher than x, which is below 2
+pub low-bytes : (xs : List ℕ) (x : ℕ) → ((k : ℕ) → k < length xs → getD xs k 0 ≤ x) → x < 2 → length xs ≡ badByte xs
+low-bytes xs x h l = sym (first-none (aboveOne xs) (length xs) (λ k lk. le-ltb 1 (getD xs k 0) (omega (arith, h k lk))))
 
 -- ---- two lists joined
 

@@ -14,6 +14,7 @@ use crate::clock::clock;
 use crate::settle::settle;
 use crate::settle::write_values;
 use fabric::Block;
+use netlist::check::count_wires;
 use refusal::Answer;
 
 // What a step writes: the list is run on before and on after, both with the old state.
@@ -36,8 +37,9 @@ pub fn write_step(
     ensures values { λ r. ⌜ now (values .exit) ≡ portValues b (settledBy b (now (list .entry)) (now (state .entry)) (now (before .entry))) ⌝ }
     ensures next { λ r. ⌜ now (next .exit) ≡ nextStates b (now (settings .entry)) (settledBy b (now (list .entry)) (now (state .entry)) (now (before .entry))) (settledBy b (now (list .entry)) (now (state .entry)) (now (after .entry))) (now (state .entry)) ⌝ }
 {
-    settle(b, list, own, state, before, first);
-    settle(b, list, own, state, after, second);
+    let count = count_wires(own);
+    settle(b, list, count, state, before, first);
+    settle(b, list, count, state, after, second);
     write_values(b, wires, first, values);
     clock(b, settings, wires, first, second, state, next);
 }

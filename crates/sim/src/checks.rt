@@ -1,10 +1,10 @@
 // The checks of a step that look at contents: grounds 3, 9, 12, 10. They are not given the outputs, so they cannot write them.
 ghost use mathlib.Core.Path.{_≡_};
-ghost use Prim.Native.Nat.{_*_};
+ghost use Prim.Native.Nat.{ℕ, _*_, _<_, _≤_};
 ghost use mathlib.Core.Bool.{cond};
 ghost use lib.Dec.{eqb};
 ghost use mathlib.Core.List.{_++_};
-ghost use lib.ListN.{length};
+ghost use lib.ListN.{length, getD};
 ghost use Rattle.refusal.specs.declared.Answer.the-variants.{Done};
 ghost use Rattle.fabric.specs.Block.{Sized, tiles, ports};
 ghost use Rattle.netlist.specs.Rows.{rowLength};
@@ -14,18 +14,35 @@ ghost use Rattle.sim.specs.Stepping.{badByte, InputsLong, inputsAnswer, 
 use config::blocks::bitless_tile;
 use equations::wires::fill_wires;
 use fabric::Block;
+use netlist::check::count_wires;
 use netlist::check::first_bad_row;
-use netlist::row::wide;
 use refusal::Answer;
 use refusal::Refusal;
 use routing::rules::faulty_part;
 use routing::table::group_count;
 
-// The first byte above 1, or their number.
+// The bytes or-ed: none is higher.
+fn or_bytes(bytes: &[u8]) -> u8
+    ensures { λ r. ⌜ ((k : ℕ) → k < length (now (bytes .entry)) → getD (now (bytes .entry)) k 0 ≤ r) ⌝ }
+{
+    let n = bytes.len();
+    let mut any: u8 = 0;
+    let mut i = 0;
+    while i < n {
+        any = any | bytes[i];
+        i += 1;
+    }
+    any
+}
+
+// The first byte above 1, or their number. One pass over the bytes says whether there is one.
 fn first_above_one(bytes: &[u8]) -> usize
     ensures { λ r. ⌜ r ≡ badByte (now (bytes .entry)) ⌝ }
 {
     let n = bytes.len();
+    if or_bytes(bytes) < 2 {
+        return n;
+    }
     let mut i = 0;
     while i < n {
         if 1 < bytes[i] {
@@ -55,19 +72,19 @@ fn bad_byte(b: Block, state: &[u8], before: &[u8], after: &[u8]) -> usize
 
 // Marks the ports that are their own wires.
 fn mark_wires(b: Block, wires: &[u16], own: &mut [u16])
-    requires { ⌜ (now wires ≡ wiresOf b) × (length (now own) ≡ ports b) ⌝ }
+    requires { ⌜ (now wires ≡ wiresOf b) × (length (now own) ≡ ports b) × Sized b ⌝ }
     ensures { λ r. ⌜ now (own .exit) ≡ wireMarks b ⌝ }
 {
     let n = own.len();
     let mut p = 0;
     while p < n {
-        own[p] = mark(wide(wires[p]), p);
+        own[p] = mark(wires[p], p as u16);
         p += 1;
     }
 }
 
 // The mark of port p, whose wire is w.
-fn mark(w: usize, p: usize) -> u16
+fn mark(w: u16, p: u16) -> u16
     ensures { λ r. ⌜ r ≡ cond (eqb w p) 1 0 ⌝ }
 {
     if w == p { 1 } else { 0 }
@@ -92,7 +109,8 @@ pub fn check_run(
     let n = wires.len();
     fill_wires(b, wires);
     mark_wires(b, wires, own);
-    let row = first_bad_row(list, state.len(), own, marks);
+    let count = count_wires(own);
+    let row = first_bad_row(list, count, state.len(), own, marks);
     if row < n {
         return Answer::Refused(Refusal::Row(row as u32));
     }

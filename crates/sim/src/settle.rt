@@ -2,21 +2,20 @@
 ghost use mathlib.Core.Path.{_≡_};
 ghost use lib.ListN.{length};
 ghost use Rattle.fabric.specs.Block.{ports};
+ghost use Rattle.fabric.specs.Count.{wires};
 ghost use Rattle.equations.specs.Sources.{wiresOf};
-ghost use Rattle.sim.specs.Settling.{settledBy, portValues, wireMarks, Runnable};
+ghost use Rattle.sim.specs.Settling.{settledBy, portValues, Runnable};
 use fabric::Block;
-use netlist::check::count_wires;
 use netlist::row::wide;
 use netlist::run::run;
 
-// Settles the wires' values under a state and lent values: as many rows are run as the block has wires, which `own` marks.
+// Settles the wires' values under a state and lent values: as many rows are run as the block has wires, which is `count`.
 // Rules out: a number of rows that is made up; values of an earlier run that shine through.
-pub fn settle(b: Block, list: &[u16], own: &[u16], state: &[u8], lent: &[u8], values: &mut [u8])
-    requires { ⌜ Runnable b (now list) (now state) (now lent) × (now own ≡ wireMarks b) × (length (now values) ≡ ports b) ⌝ }
+pub fn settle(b: Block, list: &[u16], count: usize, state: &[u8], lent: &[u8], values: &mut [u8])
+    requires { ⌜ Runnable b (now list) (now state) (now lent) × (count ≡ wires b) × (length (now values) ≡ ports b) ⌝ }
     ensures { λ r. ⌜ now (values .exit) ≡ settledBy b (now (list .entry)) (now (state .entry)) (now (lent .entry)) ⌝ }
 {
     lists::clear_bytes(values);
-    let count = count_wires(own);
     run(list, count, state, lent, values);
 }
 

@@ -19,7 +19,7 @@ abbrev μ-loop : tie.MeasureT-loop
 μ-loop wires count₀ w₀ count w = length wires - w
 
 loop-holds : tie.Need-loop-holds Inv-loop μ-loop
-loop-holds c = (omega arith, sym (marked-none (c .args .wires .now)))
+loop-holds c = (omega arith, sym (marked-none (c .before .args .wires .now)))
 
 mul-if1 : tie.Need-mul-if1 Inv-loop μ-loop
 mul-if1 c = search needs
@@ -30,7 +30,7 @@ shared-slice-read-if1 c = search needs
 add-count : tie.Need-add-count Inv-loop μ-loop
 add-count c =
     let at-loop = c .before .before .before in
-    let at-start = at-loop .before in
+    let at-start = at-loop .before .before in
     omega (arith, count-le (listed (at-start .args .wires .now)) (at-loop .loop .w))
 
 add-w : tie.Need-add-w Inv-loop μ-loop
@@ -42,7 +42,7 @@ loop-less c = search needs
 loop-again : tie.Need-loop-again Inv-loop μ-loop
 loop-again c =
     let at-loop = c .before .before .before in
-    let at-start = at-loop .before in (
+    let at-start = at-loop .before .before in (
       omega arith,
       ⊎-elim (λ x. x .1 ∙ ap (λ (k : ℕ). k + 1) (at-loop .loop .inv .1) ∙ marked-more (at-start .args .wires .now) (at-loop .loop .w)
           (listed-true (at-start .args .wires .now) (at-loop .loop .w) (x .0 .taken)))
@@ -50,10 +50,14 @@ loop-again c =
           (listed-false (at-start .args .wires .now) (at-loop .loop .w) (x .0 .left))) (c .if1 .came),
     )
 
+wide-requires : tie.Need-wide-requires Inv-loop μ-loop
+wide-requires c κs = search needs
+
 returns : tie.Need-returns Inv-loop μ-loop
 returns c =
-    let at-start = c .before .before in
-    c .before .loop .inv .1 ∙ ap (markedBelow (at-start .args .wires .now)) (omega arith)
+    let at-loop = c .before .before in
+    let at-start = at-loop .before .before in
+    c .wide .ensures ∙ at-loop .loop .inv .1 ∙ ap (markedBelow (at-start .args .wires .now)) (omega arith)
 
 pub count-wires-spec : {M : Type 1} → statement M
 count-wires-spec =
@@ -68,4 +72,5 @@ count-wires-spec =
     add-w
     loop-less
     loop-again
+    wide-requires
     returns)

@@ -13,13 +13,10 @@ use borrow.Author.Needs.{needs}
 use Rattle.netlist.proofs.check.first_bad_row.Statement.{statement}
 use Rattle.netlist.proofs.check.first_bad_row.Tie as tie
 
-count-wires-requires : tie.Need-count-wires-requires
-count-wires-requires c κs = search needs
-
 first-not-good-requires : tie.Need-first-not-good-requires
 first-not-good-requires c κs =
-    let at-start = c .before .before .before .before .before in (
-      let e = c .before .count-wires .ensures in let l = wire-count-le (at-start .args .list .now) (at-start .args .cells) (at-start .args .wires .now) in
+    let at-start = c .before .before .before .before in (
+      let e = at-start .pre .2 in let l = wire-count-le (at-start .args .list .now) (at-start .args .cells) (at-start .args .wires .now) in
           omega arith,
       omega arith,
     )
@@ -34,21 +31,19 @@ returns : tie.Need-returns
 returns c =
     let at-clear = c .before .before .before in
     let at-first-not-good = at-clear .before .before .before .before in
-    let at-count-wires = at-first-not-good .before .before in
-    let at-start = at-count-wires .before .before .before .before in (
+    let at-start = at-first-not-good .before .before .before .before .before in (
       let q = (at-first-not-good .first-not-good .ensures ∙ ap (λ (k : ℕ). first
-          (notGood (at-start .args .list .now) (at-start .args .cells) (at-start .args .wires .now)) 0 k) (at-count-wires .count-wires .ensures)) in q ∙ first-bad-among
+          (notGood (at-start .args .list .now) (at-start .args .cells) (at-start .args .wires .now)) 0 k) (at-start .pre .2)) in q ∙ first-bad-among
           (at-start .args .list .now) (at-start .args .cells) (at-start .args .wires .now)
-          (let e = at-count-wires .count-wires .ensures in let l = c .if1 .taken in omega arith),
+          (let e = at-start .pre .2 in let l = c .if1 .taken in omega arith),
       (let long : length (at-first-not-good .first-not-good .last .1 .1 .1 .1 .0) ≡ length (at-start .args .marks .now) = omega arith in at-clear .clear .ensures
           ∙ ap zeros long),
     )
 
 first-not-zero-requires : tie.Need-first-not-zero-requires
 first-not-zero-requires c κs =
-    let at-count-wires = c .before .before .before .before .before .before .before .before .before in
-    let at-start = at-count-wires .before .before .before .before in
-    let e = at-count-wires .count-wires .ensures in let l = wire-count-le (at-start .args .list .now) (at-start .args .cells) (at-start .args .wires .now) in
+    let at-start = c .before .before .before .before .before .before .before .before .before .before .before .before in
+    let e = at-start .pre .2 in let l = wire-count-le (at-start .args .list .now) (at-start .args .cells) (at-start .args .wires .now) in
     (omega arith, omega arith)
 
 same-length-2 : tie.Need-same-length-2
@@ -58,13 +53,12 @@ returns-2 : tie.Need-returns-2
 returns-2 c =
     let at-clear = c .before .before .before .before in
     let at-first-not-good = at-clear .before .before .before .before in
-    let at-count-wires = at-first-not-good .before .before in
-    let at-start = at-count-wires .before .before .before .before in (
+    let at-start = at-first-not-good .before .before .before .before .before in (
       let q = (at-first-not-good .first-not-good .ensures ∙ ap (λ (k : ℕ). first
-          (notGood (at-start .args .list .now) (at-start .args .cells) (at-start .args .wires .now)) 0 k) (at-count-wires .count-wires .ensures)) in
+          (notGood (at-start .args .list .now) (at-start .args .cells) (at-start .args .wires .now)) 0 k) (at-start .pre .2)) in
           c .first-not-zero .ensures ∙ ap (λ (k : ℕ). first (λ i. not (zeroTest (rowAt (at-start .args .list .now) i))) k (length (at-start .args .wires .now) - k))
-          (at-count-wires .count-wires .ensures) ∙ first-bad-behind (at-start .args .list .now) (at-start .args .cells) (at-start .args .wires .now)
-          (let e = at-count-wires .count-wires .ensures in let l = c .before .if1 .left in omega arith),
+          (at-start .pre .2) ∙ first-bad-behind (at-start .args .list .now) (at-start .args .cells) (at-start .args .wires .now)
+          (let e = at-start .pre .2 in let l = c .before .if1 .left in omega arith),
       (let long : length (at-first-not-good .first-not-good .last .1 .1 .1 .1 .0) ≡ length (at-start .args .marks .now) = omega arith in at-clear .clear .ensures
           ∙ ap zeros long),
     )
@@ -73,7 +67,6 @@ pub first-bad-row-spec : {M : Type 1} → statement M
 first-bad-row-spec =
     tie.close
     (tie.spec
-    count-wires-requires
     first-not-good-requires
     clear-requires
     same-length

@@ -1,19 +1,37 @@
--- `checked::write_step` meets its contract: both runs have the old state, and clock and values take them as they are. Assumes nothing.
+-- `checked::write_step` meets its contract: the wires are counted once, both runs have the old state, and clock and values take them as they are. Assumes nothing.
 use Prim.Native.Nat.{ℕ}
 use mathlib.Core.List.{List}
 use mathlib.Core.Path.{sym, _∙_, ap, ap₂, subst}
-use Rattle.sim.proofs.SettledLaws.{settled-bits}
+use native.Mathlib.Omega.{arith}
+use lib.ListN.{length}
+use Rattle.fabric.proofs.BlockLaws.{ports-le}
+use Rattle.netlist.specs.Checking.{wireCount}
+use Rattle.sim.proofs.SettledLaws.{marks-length, marks-count, settled-bits}
 use Rattle.sim.specs.Clocking.{nextStates}
 use Rattle.sim.specs.Settling.{portValues, PortBits}
 use borrow.Author.Needs.{needs}
 use Rattle.sim.proofs.checked.write_step.Statement.{statement}
 use Rattle.sim.proofs.checked.write_step.Tie as tie
 
+count-wires-requires : tie.Need-count-wires-requires
+count-wires-requires c κs =
+    let at-start = c .before .before .before .before .before .before .before .before .before .before .before in
+    let B = at-start .args .b in
+    omega (arith, ap length (at-start .pre .1), marks-length B, ports-le B (at-start .pre .0 .size))
+
 settle-requires : tie.Need-settle-requires
-settle-requires c κs = search needs
+settle-requires c κs =
+    let at-count-wires = c .before in
+    let at-start = at-count-wires .before .before .before .before .before .before .before .before .before .before .before .before in
+    let p = at-start .pre in
+    (p .2, at-count-wires .count-wires .ensures ∙ ap wireCount (p .1) ∙ marks-count (at-start .args .b), p .6)
 
 settle-requires-2 : tie.Need-settle-requires-2
-settle-requires-2 c κs = search needs
+settle-requires-2 c κs =
+    let at-count-wires = c .before .before .before .before .before in
+    let at-start = at-count-wires .before .before .before .before .before .before .before .before .before .before .before .before in
+    let p = at-start .pre in
+    (p .3, at-count-wires .count-wires .ensures ∙ ap wireCount (p .1) ∙ marks-count (at-start .args .b), p .7)
 
 write-values-requires : tie.Need-write-values-requires
 write-values-requires c κs = search needs
@@ -22,7 +40,7 @@ clock-requires : tie.Need-clock-requires
 clock-requires c κs =
     let at-settle2 = c .before .before .before .before .before .before .before .before .before .before in
     let at-settle = at-settle2 .before .before .before .before in
-    let at-start = at-settle .before .before .before .before .before .before .before .before .before .before .before .before .before in
+    let at-start = at-settle .before .before .before .before .before .before .before .before .before .before .before .before .before .before in
     let a = at-start .args in (
       at-start .pre .0,
       at-settle .settle .kept .1 .1 .1 .1 .1 .0 ∙ at-start .pre .6,
@@ -50,7 +68,7 @@ returns c =
     let at-write-values = at-clock .before .before .before .before .before .before in
     let at-settle2 = at-write-values .before .before .before .before .before in
     let at-settle = at-settle2 .before .before .before .before in
-    let at-start = at-settle .before .before .before .before .before .before .before .before .before .before .before .before .before in
+    let at-start = at-settle .before .before .before .before .before .before .before .before .before .before .before .before .before .before in
     let a = at-start .args in (
       at-write-values .write-values .ensures ∙ ap (portValues (a .b)) (at-settle .settle .ensures),
       at-clock .clock .ensures
@@ -61,6 +79,7 @@ pub write-step-spec : {M : Type 1} → statement M
 write-step-spec =
     tie.close
     (tie.spec
+    count-wires-requires
     settle-requires
     settle-requires-2
     write-values-requires

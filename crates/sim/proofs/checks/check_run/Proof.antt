@@ -6,7 +6,9 @@ use native.Mathlib.Omega.{arith}
 use Rattle.netlist.specs.Checking.{firstBadRow}
 use Rattle.refusal.specs.declared.Answer.the-variants.{Refused}
 use Rattle.refusal.specs.declared.Refusal.the-variants.{Row, NotABit}
-use Rattle.fabric.proofs.BlockLaws.{tiles-le}
+use lib.ListN.{length}
+use Rattle.fabric.proofs.BlockLaws.{tiles-le, ports-le}
+use Rattle.sim.proofs.SettledLaws.{marks-length}
 use Rattle.sim.proofs.StepLaws.{run-row, run-byte, run-done}
 use Rattle.sim.proofs.ByteLaws.{joined-length}
 use borrow.Author.Needs.{needs}
@@ -19,12 +21,19 @@ fill-wires-requires c κs = search needs
 mark-wires-requires : tie.Need-mark-wires-requires
 mark-wires-requires c κs = search needs
 
+count-wires-requires : tie.Need-count-wires-requires
+count-wires-requires c κs =
+    let at-mark-wires = c .before .before .before in
+    let at-start = at-mark-wires .before .before .before .before .before .before .before .before .before .before .before .before .before .before in
+    let B = at-start .args .b in
+    omega (arith, ap length (at-mark-wires .mark-wires .ensures), marks-length B, ports-le B (at-start .pre .0))
+
 first-bad-row-requires : tie.Need-first-bad-row-requires
 first-bad-row-requires c κs = search needs
 
-cast-t25 : tie.Need-cast-t25
-cast-t25 c =
-    let at-start = c .before .before .before .before .before .before .before .before .before .before .before .before .before .before .before .before .before .before .before .before .before .before in
+cast-t28 : tie.Need-cast-t28
+cast-t28 c =
+    let at-start = c .before .before .before .before .before .before .before .before .before .before .before .before .before .before .before .before .before .before .before .before .before .before .before .before in
     omega (arith, tiles-le (at-start .args .b) (at-start .pre .0), c .if1 .taken)
 
 same-length : tie.Need-same-length
@@ -39,7 +48,7 @@ same-length-3 c = search needs
 returns : tie.Need-returns
 returns c =
     let at-first-bad-row = c .before .before .before in
-    let at-mark-wires = at-first-bad-row .before .before .before .before .before in
+    let at-mark-wires = at-first-bad-row .before .before .before .before .before .before .before in
     let at-fill-wires = at-mark-wires .before .before .before .before .before in
     let at-start = at-fill-wires .before .before .before .before .before .before .before .before .before in
     let a = at-start .args in
@@ -58,9 +67,9 @@ add-if2 c = search needs
 add-if2-2 : tie.Need-add-if2-2
 add-if2-2 c = search needs
 
-cast-t31 : tie.Need-cast-t31
-cast-t31 c =
-    let at-start = c .before .before .before .before .before .before .before .before .before .before .before .before .before .before .before .before .before .before .before .before .before .before .before .before in
+cast-t34 : tie.Need-cast-t34
+cast-t34 c =
+    let at-start = c .before .before .before .before .before .before .before .before .before .before .before .before .before .before .before .before .before .before .before .before .before .before .before .before .before .before in
     omega (arith, tiles-le (at-start .args .b) (at-start .pre .0), c .if2 .taken)
 
 same-length-4 : tie.Need-same-length-4
@@ -77,7 +86,7 @@ returns-2 c =
     let at-bad-byte = c .before in
     let at-if1 = at-bad-byte .before in
     let at-first-bad-row = at-if1 .before .before .before in
-    let at-mark-wires = at-first-bad-row .before .before .before .before .before in
+    let at-mark-wires = at-first-bad-row .before .before .before .before .before .before .before in
     let at-fill-wires = at-mark-wires .before .before .before .before .before in
     let at-start = at-fill-wires .before .before .before .before .before .before .before .before .before in
     let a = at-start .args in
@@ -105,7 +114,7 @@ returns-3 c =
     let at-bad-byte = c .before in
     let at-if1 = at-bad-byte .before in
     let at-first-bad-row = at-if1 .before .before .before in
-    let at-mark-wires = at-first-bad-row .before .before .before .before .before in
+    let at-mark-wires = at-first-bad-row .before .before .before .before .before .before .before in
     let at-fill-wires = at-mark-wires .before .before .before .before .before in
     let at-start = at-fill-wires .before .before .before .before .before .before .before .before .before in
     let a = at-start .args in
@@ -124,8 +133,9 @@ check-run-spec =
     (tie.spec
     fill-wires-requires
     mark-wires-requires
+    count-wires-requires
     first-bad-row-requires
-    cast-t25
+    cast-t28
     same-length
     same-length-2
     same-length-3
@@ -133,7 +143,7 @@ check-run-spec =
     bad-byte-requires
     add-if2
     add-if2-2
-    cast-t31
+    cast-t34
     same-length-4
     same-length-5
     same-length-6

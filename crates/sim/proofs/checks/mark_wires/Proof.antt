@@ -3,6 +3,7 @@ use native.Mathlib.Omega.{arith}
 use lib.ListN.{length, getD}
 use lib.Dec.{eqb}
 use Prim.Native.Nat.{ℕ, _-_}
+use Rattle.fabric.proofs.BlockLaws.{ports-le}
 use mathlib.Core.Bool.{cond}
 use mathlib.Core.Path.{_≡_, refl, _∙_, ap}
 use Rattle.lists.proofs.TableLaws.{Filled, filled-start, filled-step, filled-end}
@@ -22,17 +23,20 @@ abbrev μ-loop : tie.MeasureT-loop
 loop-holds : tie.Need-loop-holds Inv-loop μ-loop
 loop-holds c = (filled-start _ 0 _ _ refl, refl)
 
-mul-wide : tie.Need-mul-wide Inv-loop μ-loop
-mul-wide c = search needs
+mul-mark : tie.Need-mul-mark Inv-loop μ-loop
+mul-mark c = search needs
 
-shared-slice-read-wide : tie.Need-shared-slice-read-wide Inv-loop μ-loop
-shared-slice-read-wide c =
+shared-slice-read-mark : tie.Need-shared-slice-read-mark Inv-loop μ-loop
+shared-slice-read-mark c =
     let at-start = c .before .before .before .before .before in
     let a = at-start .args in
     omega (arith, wires-length (a .b) (a .wires .now) (at-start .pre .0))
 
-wide-requires : tie.Need-wide-requires Inv-loop μ-loop
-wide-requires c κs = search needs
+cast-mark : tie.Need-cast-mark Inv-loop μ-loop
+cast-mark c =
+    let at-loop = c .before .before in
+    let at-start = at-loop .before .before .before in
+    omega (arith, at-loop .loop .inv .1, ports-le (at-start .args .b) (at-start .pre .2))
 
 mark-requires : tie.Need-mark-requires Inv-loop μ-loop
 mark-requires c κs = search needs
@@ -51,9 +55,8 @@ loop-less c = search needs
 
 loop-again : tie.Need-loop-again Inv-loop μ-loop
 loop-again c =
-    let at-wide = c .before in
-    let at-loop = at-wide .before .before .before in (
-      filled-step _ 0 _ _ _ _ (at-loop .loop .inv .0) (omega arith) (c .mark .ensures ∙ ap (λ (w : ℕ). cond (eqb w (at-loop .loop .p)) 1 0) (at-wide .wide .ensures)),
+    let at-loop = c .before .before .before in (
+      filled-step _ 0 _ _ _ _ (at-loop .loop .inv .0) (omega arith) (c .mark .ensures),
       at-loop .loop .inv .1,
     )
 
@@ -78,9 +81,9 @@ mark-wires-spec =
     Inv-loop
     μ-loop
     loop-holds
-    mul-wide
-    shared-slice-read-wide
-    wide-requires
+    mul-mark
+    shared-slice-read-mark
+    cast-mark
     mark-requires
     mul-own
     slice-write-own

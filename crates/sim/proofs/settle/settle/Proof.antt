@@ -1,4 +1,4 @@
--- `settle::settle` meets its contract: a list that passed ground 12 can be run from zeros, as many rows as there are marks. Assumes nothing.
+-- `settle::settle` meets its contract: a list that passed ground 12 can be run from zeros, as many rows as there are wires. Assumes nothing.
 use lib.ListN.{length}
 use Prim.Native.Nat.{ℕ}
 use mathlib.Core.Path.{sym, _∙_, ap, subst}
@@ -6,8 +6,7 @@ use native.Mathlib.Omega.{arith}
 use Rattle.lists.proofs.TableLaws.{zeros-length}
 use Rattle.lists.specs.Tables.{zeros}
 use Rattle.netlist.specs.Running.{RowFits}
-use Rattle.netlist.specs.Checking.{wireCount}
-use Rattle.sim.proofs.SettledLaws.{marks-count, runnable-fits}
+use Rattle.sim.proofs.SettledLaws.{runnable-fits}
 use Rattle.sim.specs.Settling.{settledBy}
 use borrow.Author.Needs.{needs}
 use Rattle.sim.proofs.settle.settle.Statement.{statement}
@@ -16,16 +15,12 @@ use Rattle.sim.proofs.settle.settle.Tie as tie
 clear-bytes-requires : tie.Need-clear-bytes-requires
 clear-bytes-requires c κs = search needs
 
-count-wires-requires : tie.Need-count-wires-requires
-count-wires-requires c κs = search needs
-
 run-requires : tie.Need-run-requires
 run-requires c κs =
-    let at-count-wires = c .before in
-    let at-clear-bytes = at-count-wires .before .before .before in
-    let at-start = at-clear-bytes .before .before .before .before .before .before .before in
+    let at-clear-bytes = c .before .before .before in
+    let at-start = at-clear-bytes .before .before .before .before .before .before in
     let a = at-start .args in
-    let e = (at-count-wires .count-wires .ensures ∙ ap wireCount (at-start .pre .1) ∙ marks-count (a .b)) in
+    let e = at-start .pre .1 in
     let z = (at-clear-bytes .clear-bytes .ensures ∙ ap zeros (at-start .pre .2)) in
     let h = at-start .pre .0 in (
       (λ i l. subst (λ (m : ℕ). RowFits (a .list .now) (length (a .state .now)) (length (a .lent .now)) m i) (sym (ap length z ∙ zeros-length _)) (runnable-fits (a .b) _ _ _ h i (omega arith))),
@@ -39,12 +34,11 @@ returns : tie.Need-returns
 unfolding settledBy
 returns c =
     let at-run = c .before .before in
-    let at-count-wires = at-run .before .before in
-    let at-clear-bytes = at-count-wires .before .before .before in
-    let at-start = at-clear-bytes .before .before .before .before .before .before .before in
+    let at-clear-bytes = at-run .before .before .before .before in
+    let at-start = at-clear-bytes .before .before .before .before .before .before in
     at-run .run .ensures
-    ∙ rw ((at-count-wires .count-wires .ensures ∙ ap wireCount (at-start .pre .1) ∙ marks-count (at-start .args .b)), (at-clear-bytes .clear-bytes .ensures ∙ ap zeros (at-start .pre .2)))
+    ∙ rw (at-start .pre .1, (at-clear-bytes .clear-bytes .ensures ∙ ap zeros (at-start .pre .2)))
 
 pub settle-spec : {M : Type 1} → statement M
 settle-spec =
-    tie.close (tie.spec clear-bytes-requires count-wires-requires run-requires same-length returns)
+    tie.close (tie.spec clear-bytes-requires run-requires same-length returns)

@@ -26,7 +26,7 @@ use Rattle.drivers.specs.declared.follow.Driver.the-variants.{Ring}
 use Rattle.drivers.specs.declared.follow.Trace.{Trace}
 use Rattle.drivers.specs.declared.follow.Trace.the-variants.{End, Again}
 use Rattle.drivers.specs.Following.{Bounded, Leads, Comes, DrivenBy, at-end, in-ring, endDriver, traced, tracedMarks, ringLowest, traceDriver, driverOf}
-use Rattle.drivers.proofs.WalkLaws.{Goes, Gets, goes-gets, gets-goes, gets-gets, gets-linear, ring-back, ring-goes-on, ring-or-end, first-step}
+use Rattle.drivers.proofs.WalkLaws.{Goes, Gets, goes-gets, gets-goes, gets-gets, gets-linear, ring-back, ring-goes-on, ring-or-end, end-unique, first-step}
 use Rattle.drivers.proofs.Walking.{Walked, walk-whole}
 use Rattle.drivers.proofs.LeadLaws.{leads-depends, sources-length, source-ends, sources-bounded, goes-leads, gets-comes, gets-own, ends-source, leads-goes, comes-gets}
 use Rattle.drivers.proofs.StandingLaws.{stands-at, stands-drive}
@@ -72,14 +72,6 @@ ring-unique s {w} {a} {b} p q = le-antisymm (p .least b (both .0)) (q .least a (
         ⊎-elim
         (λ h. let g = ring-back s (p .ring) h in (goes-gets s (p .ring) h, g))
         (λ h. let g = ring-back s (q .ring) h in (g, goes-gets s (q .ring) h)) (gets-linear s (p .came) (q .came))
-
--- two ends of one walk are one
-end-unique : (s : List ℕ) {w a b : ℕ} → Gets s w a → getD s a 0 ≡ 0 → Gets s w b → getD s b 0 ≡ 0 → a ≡ b
-end-unique s {w} {a} {b} ga za gb zb = ⊎-elim (stays za) (λ h. sym (stays zb h)) (gets-linear s ga gb)
-  where
-    stays : {x y : ℕ} → getD s x 0 ≡ 0 → Gets s x y → x ≡ y
-    stays z (inl e) = e
-    stays z (inr g) = let f = first-step s g in let q : suc (f .0) ≡ 0 = sym (f .1) ∙ z in absurd (omega arith)
 
 end-no-ring : (v : ℕ) (d : Drive) (u : ℕ) → endDriver v d ≡ Ring u → ⊥
 end-no-ring v Nothing u e = let z : _≡_ {A = ℕ} 0 1 = cc in omega arith

@@ -17,6 +17,7 @@ use Rattle.netlist.proofs.MarkLaws.{unmarked-zeros}
 use Rattle.drivers.specs.declared.follow.Trace.{Trace}
 use Rattle.drivers.specs.declared.follow.Trace.the-variants.{End, Again}
 use Rattle.drivers.specs.Following.{Bounded, traced, tracedMarks, ringLowest, traceDriver, driverOf}
+use Rattle.drivers.proofs.WalkLaws.{Gets, ring-or-end, end-unique}
 use Rattle.drivers.proofs.Walking.{Walked, Walking, walking-start, walking-step, walking-less, traced-end, traced-again, traced-on, traced-marks-length, walk-whole}
 
 pub record Tracing (s : List ℕ) (start : ℕ) (marks : List ℕ) (u : ℕ) : Type 0 where
@@ -76,3 +77,11 @@ module _ (s : List ℕ) (w : ℕ) where
       ap (λ (x : List ℕ). first (listed x) 0 (length x)) e
       ∙ ap (first (listed (tracedMarks s (suc (length s)) (zeros (length s)) u)) 0)
       (traced-marks-length s (suc (length s)) (zeros (length s)) u ∙ zeros-length (length s))
+
+  -- a wire with no source that the walk gets to is its end
+  pub end-traced : Bounded s → w < length s → (u : ℕ) → Gets s w u → getD s u 0 ≡ 0 → traced s (suc (length s)) (zeros (length s)) w ≡ End u
+  end-traced fits l u g z = go (traced s (suc (length s)) (zeros (length s)) w) (walk-whole s fits w l)
+    where
+      go : (r : Trace) → Walked s w (tracedMarks s (suc (length s)) (zeros (length s)) w) r → r ≡ End u
+      go (End x) h = ap End (end-unique s (h .0) (h .1) g z)
+      go (Again x) h = absurd (ring-or-end s (h .0) (h .1) g z)

@@ -84,3 +84,11 @@ module _ (s : List ℕ) where
       ⊎-elim (λ h. ring-goes-on ring h z)
       (λ h. ⊎-elim (λ (e : _ ≡ u). ring-goes-on ring (inl (sym e)) z)
       (λ g. let f = first-step g in let a : suc (f .0) ≡ 0 = sym (f .1) ∙ z in absurd (omega arith)) h) (gets-linear gu gx)
+
+  -- two ends of one walk are one
+  pub end-unique : {w a b : ℕ} → Gets w a → getD s a 0 ≡ 0 → Gets w b → getD s b 0 ≡ 0 → a ≡ b
+  end-unique ga za gb zb = ⊎-elim (stays za) (λ h. sym (stays zb h)) (gets-linear ga gb)
+    where
+      stays : {x y : ℕ} → getD s x 0 ≡ 0 → Gets x y → x ≡ y
+      stays z (inl e) = e
+      stays z (inr g) = let f = first-step g in let q : suc (f .0) ≡ 0 = sym (f .1) ∙ z in absurd (omega arith)

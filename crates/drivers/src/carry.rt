@@ -18,6 +18,10 @@ use fabric::Block;
 use netlist::row;
 use netlist::row::Row;
 
+const PORTS: u16 = fabric::ports::PORTS_PER_TILE as u16;
+
+const CARRY_IN: u16 = fabric::ports::CARRY_IN as u16;
+
 // Whether what drives a wire is the cout of a cell whose carry is disabled.
 fn is_disabled_carry(b: Block, st: &[u16], d: Drive) -> bool
     requires { ⌜ (length (now st) ≡ settingsLength logicTile * tiles b) × Driven b d ⌝ }
@@ -32,11 +36,14 @@ fn is_disabled_carry(b: Block, st: &[u16], d: Drive) -> bool
     }
 }
 
-// The lowest so far, and wire w.
+// The lowest so far, and wire w. No port before carry_in has a cout's wire.
 fn lower_carry(b: Block, st: &[u16], low: usize, w: u16) -> usize
     requires { ⌜ Sized b × (length (now st) ≡ settingsLength logicTile * tiles b) × (w < ports b) ⌝ }
     ensures { λ r. ⌜ r ≡ lowerCarry b (now (st .entry)) low w ⌝ }
 {
+    if w % PORTS < CARRY_IN {
+        return low;
+    }
     let d = drive_of(b, w as u32);
     if !is_disabled_carry(b, st, d) {
         return low;

@@ -1,16 +1,20 @@
 // Following a driver (document 01, 'Cells'): from a wire to the source of the switch that ends on it, as long as there is one.
 ghost use mathlib.Core.Path.{_≡_};
 ghost use Prim.Native.Nat.{suc, _<_, _≤_};
-ghost use lib.ListN.{length};
+ghost use lib.ListN.{length, getD};
 ghost use Rattle.lists.specs.Search.{first};
 ghost use Rattle.lists.specs.Tables.{zeros};
 ghost use Rattle.fabric.specs.Block.{Sized, ports};
 ghost use Rattle.netlist.specs.Marks.{listed};
+ghost use Rattle.drivers.specs.declared.follow.Trace.the-variants.{End};
 ghost use Rattle.drivers.specs.Following.{Bounded, endDriver, traced, tracedMarks, ringLowest, driverOf};
 use crate::maps::number;
 use equations::drives::Drive;
 use equations::drives::drive_of;
 use fabric::Block;
+
+// How many steps a walk goes without marks.
+const SHORT: usize = 64;
 
 // Where following a driver ends: an open wire; a constant, 0 or 1; a cell; or the lowest wire of a ring.
 pub enum Driver {
@@ -86,10 +90,27 @@ fn end_driver(u: u16, d: Drive) -> Driver
     }
 }
 
-// Where following a wire ends. `sources` has one more than the wire that a wire's switch comes from, 0 where it has none. `marks` is work room,
-// and holds marks afterwards.
-// Rules out: going on through carry_in_mux; the wire where a ring was met, which need not be its lowest.
-pub fn driver_of(b: Block, sources: &[u16], wire: usize, marks: &mut [u16]) -> Driver
+// Where a walk stands after at most `SHORT` steps. If that wire has no source, the walk ends there.
+fn short_walk(sources: &[u16], start: usize) -> usize
+    requires { ⌜ (start < length (now sources)) × Bounded (now sources) ⌝ }
+    ensures within { λ r. ⌜ r < length (now (sources .entry)) ⌝ }
+    ensures end { λ r. ⌜ (getD (now (sources .entry)) r 0 ≡ 0 → traced (now (sources .entry)) (suc (length (now (sources .entry)))) (zeros (length (now (sources .entry)))) start ≡ End r) ⌝ }
+{
+    let mut u = start;
+    let mut k = 0;
+    while k < SHORT {
+        let s = number(sources[u]);
+        if s == 0 {
+            return u;
+        }
+        u = s - 1;
+        k += 1;
+    }
+    u
+}
+
+// Where following a wire ends, by a walk that marks where it was.
+fn marked_driver(b: Block, sources: &[u16], wire: usize, marks: &mut [u16]) -> Driver
     requires { ⌜ Sized b × (length (now sources) ≡ ports b) × Bounded (now sources) × (wire < ports b) × (length (now marks) ≡ ports b) ⌝ }
     ensures { λ r. ⌜ r ≡ driverOf b (now (sources .entry)) wire ⌝ }
 {
@@ -97,4 +118,18 @@ pub fn driver_of(b: Block, sources: &[u16], wire: usize, marks: &mut [u16]) -> D
         Trace::End(u) => end_driver(u, drive_of(b, u as u32)),
         Trace::Again(u) => Driver::Ring(ring_lowest(sources, number(u), marks) as u16),
     }
+}
+
+// Where following a wire ends. `sources` has one more than the wire that a wire's switch comes from, 0 where it has none. `marks` is work room,
+// and holds marks afterwards.
+// Rules out: going on through carry_in_mux; the wire where a ring was met, which need not be its lowest.
+pub fn driver_of(b: Block, sources: &[u16], wire: usize, marks: &mut [u16]) -> Driver
+    requires { ⌜ Sized b × (length (now sources) ≡ ports b) × Bounded (now sources) × (wire < ports b) × (length (now marks) ≡ ports b) ⌝ }
+    ensures { λ r. ⌜ r ≡ driverOf b (now (sources .entry)) wire ⌝ }
+{
+    let u = short_walk(sources, wire);
+    if sources[u] == 0 {
+        return end_driver(u as u16, drive_of(b, u as u32));
+    }
+    marked_driver(b, sources, wire, marks)
 }

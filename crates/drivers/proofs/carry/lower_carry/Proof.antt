@@ -1,5 +1,6 @@
 -- `carry::lower_carry` meets its contract: a return for each case of `lowerCarry`. Assumes nothing.
 use Rattle.drivers.proofs.CarryPass.{lower-carry-other, lower-carry-lower, lower-carry-higher}
+use Rattle.drivers.proofs.CarryPorts.{low-port-no-carry}
 use Rattle.drivers.specs.CarryReads.{isDisabledCarry}
 use Rattle.equations.proofs.RowFromLaws.{drive-driven}
 use Rattle.equations.specs.Routed.{Driven}
@@ -10,28 +11,33 @@ use borrow.Author.Needs.{needs}
 use Rattle.drivers.proofs.carry.lower_carry.Statement.{statement}
 use Rattle.drivers.proofs.carry.lower_carry.Tie as tie
 
+returns : tie.Need-returns
+returns c =
+    let a = c .before .before .args in
+    lower-carry-other (a .b) (a .st .now) (a .low) (a .w) (low-port-no-carry (a .b) (a .st .now) (a .w) (c .if1 .taken))
+
 drive-of-requires : tie.Need-drive-of-requires
 drive-of-requires c κs = search needs
 
 is-disabled-carry-requires : tie.Need-is-disabled-carry-requires
 is-disabled-carry-requires c κs =
-    let at-start = c .before .before in
+    let at-start = c .before .before .before in
     let a = at-start .args in
     let B = a .b in
     let w = a .w in
     let p = at-start .pre in
     (p .1, subst (Driven B) (sym (c .drive-of .ensures)) (drive-driven B w (p .2)))
 
-returns : tie.Need-returns
-returns c =
-    let at-start = c .before .before .before .before in
+returns-2 : tie.Need-returns-2
+returns-2 c =
+    let at-start = c .before .before .before .before .before in
     let a = at-start .args in
     let B = a .b in
     let st = a .st .now in
     let w = a .w in
     let low = a .low in
     let is = c .before .is-disabled-carry .ensures ∙ ap (isDisabledCarry st) (c .before .before .drive-of .ensures) in
-    lower-carry-other B st low w (sym is ∙ not-true _ (c .if1 .taken))
+    lower-carry-other B st low w (sym is ∙ not-true _ (c .if2 .taken))
 
 number-requires : tie.Need-number-requires
 number-requires c κs = search needs
@@ -39,9 +45,9 @@ number-requires c κs = search needs
 number-requires-2 : tie.Need-number-requires-2
 number-requires-2 c κs = search needs
 
-returns-2 : tie.Need-returns-2
-returns-2 c =
-    let at-start = c .before .before .before .before .before .before .before in
+returns-3 : tie.Need-returns-3
+returns-3 c =
+    let at-start = c .before .before .before .before .before .before .before .before in
     let a = at-start .args in
     let B = a .b in
     let st = a .st .now in
@@ -49,11 +55,11 @@ returns-2 c =
     let low = a .low in
     let p = at-start .pre in
     let is = c .before .before .before .before .is-disabled-carry .ensures ∙ ap (isDisabledCarry st) (c .before .before .before .before .before .drive-of .ensures) in
-    c .number2 .ensures ∙ lower-carry-lower B st low w (sym is ∙ not-false _ (c .before .before .before .if1 .left)) (let e = c .before .before .number .ensures in let l = c .before .if2 .taken in omega arith)
+    c .number2 .ensures ∙ lower-carry-lower B st low w (sym is ∙ not-false _ (c .before .before .before .if2 .left)) (let e = c .before .before .number .ensures in let l = c .before .if3 .taken in omega arith)
 
-returns-3 : tie.Need-returns-3
-returns-3 c =
-    let at-start = c .before .before .before .before .before .before in
+returns-4 : tie.Need-returns-4
+returns-4 c =
+    let at-start = c .before .before .before .before .before .before .before in
     let a = at-start .args in
     let B = a .b in
     let st = a .st .now in
@@ -61,16 +67,17 @@ returns-3 c =
     let low = a .low in
     let p = at-start .pre in
     let is = c .before .before .before .is-disabled-carry .ensures ∙ ap (isDisabledCarry st) (c .before .before .before .before .drive-of .ensures) in
-    lower-carry-higher B st low w (sym is ∙ not-false _ (c .before .before .if1 .left)) (let e = c .before .number .ensures in let l = c .if2 .left in omega arith)
+    lower-carry-higher B st low w (sym is ∙ not-false _ (c .before .before .if2 .left)) (let e = c .before .number .ensures in let l = c .if3 .left in omega arith)
 
 pub lower-carry-spec : {M : Type 1} → statement M
 lower-carry-spec =
     tie.close
     (tie.spec
+    returns
     drive-of-requires
     is-disabled-carry-requires
-    returns
+    returns-2
     number-requires
     number-requires-2
-    returns-2
-    returns-3)
+    returns-3
+    returns-4)

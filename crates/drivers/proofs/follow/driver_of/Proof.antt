@@ -1,111 +1,72 @@
--- `follow::driver_of` meets its contract: what stands at the end of the walk, or the lowest wire of the ring that it came to. Assumes nothing.
-use Rattle.drivers.proofs.Tracing.{trace-lt, driver-trace, ring-lowest-le}
-use Rattle.drivers.specs.Following.{endDriver, ringLowest, traceDriver}
-use Rattle.drivers.specs.declared.follow.Driver.the-variants.{Ring}
+-- `follow::driver_of` meets its contract: an end that the short walk meets is the end of the whole walk. Assumes nothing.
+use Rattle.drivers.proofs.Tracing.{driver-trace}
+use Rattle.drivers.specs.Following.{endDriver}
+use Rattle.drivers.specs.declared.follow.Trace.the-variants.{End}
 use Rattle.fabric.proofs.BlockLaws.{ports-le}
 use native.Mathlib.Omega.{arith}
-use mathlib.Core.Logic.{inl, inr}
 use mathlib.Core.Path.{sym, ap, _∙_}
 use borrow.Author.Needs.{needs}
 use Rattle.drivers.proofs.follow.driver_of.Statement.{statement}
 use Rattle.drivers.proofs.follow.driver_of.Tie as tie
 
-walk-requires : tie.Need-walk-requires
-walk-requires c κs =
-    let at-start = c .before .before .before in
-    let a = at-start .args in
-    let n = at-start .pre .1 in
-    let few = ports-le (a .b) (at-start .pre .0) in
-    let l = at-start .pre .3 in
-    let m = at-start .pre .4 in
-    (omega arith, omega arith, at-start .pre .2, m ∙ sym n)
+short-walk-requires : tie.Need-short-walk-requires
+short-walk-requires c κs = search needs
 
-enum-known-u : tie.Need-enum-known-u
-enum-known-u c = search needs
+mul-if1 : tie.Need-mul-if1
+mul-if1 c = search needs
+
+shared-slice-read-if1 : tie.Need-shared-slice-read-if1
+shared-slice-read-if1 c = search needs
+
+cast-end-driver : tie.Need-cast-end-driver
+cast-end-driver c =
+    let at-short-walk = c .before .before in
+    let at-start = at-short-walk .before .before .before in
+    omega (arith, at-short-walk .short-walk .ensures .0, ports-le (at-start .args .b) (at-start .pre .0))
 
 cast-drive-of : tie.Need-cast-drive-of
-cast-drive-of c = search needs
+cast-drive-of c =
+    let at-short-walk = c .before .before in
+    let at-start = at-short-walk .before .before .before in
+    omega (arith, at-short-walk .short-walk .ensures .0, ports-le (at-start .args .b) (at-start .pre .0))
 
 drive-of-requires : tie.Need-drive-of-requires
-drive-of-requires c κs =
-    let at-start = c .before .before .before .before .before .before .before .before .before in
-    let a = at-start .args in
-    let s = a .sources .now in
-    let n = at-start .pre .1 in
-    let few = ports-le (a .b) (at-start .pre .0) in
-    let l = at-start .pre .3 in
-    let m = at-start .pre .4 in
-    (at-start .pre .0, let k = trace-lt s (a .wire) (at-start .pre .2) (omega arith) _ (c .before .before .before .before .before .walk .ensures .0) (c .before .u .given .0 .0) (inl (c .before .u .given .1)) in omega arith)
+drive-of-requires c κs = search needs
 
 end-driver-requires : tie.Need-end-driver-requires
 end-driver-requires c κs = search needs
 
-enum-known-u-2 : tie.Need-enum-known-u-2
-enum-known-u-2 c = search needs
-
-number-requires : tie.Need-number-requires
-number-requires c κs = search needs
-
-ring-lowest-requires : tie.Need-ring-lowest-requires
-ring-lowest-requires c κs =
-    let at-start = c .before .before .before .before .before .before .before .before .before .before .before in
+returns : tie.Need-returns
+returns c =
+    let at-then = c .before .before in
+    let at-short-walk = at-then .before .before in
+    let at-start = at-short-walk .before .before .before in
     let a = at-start .args in
-    let s = a .sources .now in
-    let n = at-start .pre .1 in
-    let few = ports-le (a .b) (at-start .pre .0) in
-    let l = at-start .pre .3 in
-    let m = at-start .pre .4 in
-    (let k = trace-lt s (a .wire) (at-start .pre .2) (omega arith) _ (c .before .before .before .before .before .before .before .walk .ensures .0) (c .before .before .before .u2 .given .0 .0) (inr (c .before .before .before .u2 .given .1)) in let e = c .before .number .ensures in omega arith, omega arith, at-start .pre .2, omega arith)
+    let u = at-short-walk .short-walk .result in
+    c .end-driver .ensures ∙ ap (endDriver u) (c .before .drive-of .ensures)
+    ∙ driver-trace (a .sources .now) (a .wire) (a .b) (End u) (sym (at-short-walk .short-walk .ensures .1 (at-then .if1 .taken)))
 
-cast-t17 : tie.Need-cast-t17
-cast-t17 c =
-    let at-start = c .before .before .before .before .before .before .before .before .before .before .before .before .before .before in
-    let a = at-start .args in
-    let s = a .sources .now in
-    let n = at-start .pre .1 in
-    let few = ports-le (a .b) (at-start .pre .0) in
-    let l = at-start .pre .3 in
-    let m = at-start .pre .4 in
-    let k = ring-lowest-le s (a .wire) (c .before .before .before .before .number .result) in
-    let e = c .before .before .ring-lowest .ensures in
-    omega arith
+marked-driver-requires : tie.Need-marked-driver-requires
+marked-driver-requires c κs = search needs
 
 same-length : tie.Need-same-length
 same-length c = search needs
 
-returns : tie.Need-returns
-returns c =
-    let at-start = c .before .before .before .before .before .before .before .before .before .before .before in
-    let a = at-start .args in
-    let s = a .sources .now in
-    let m = at-start .pre .4 in
-    c .end-driver .ensures ∙ ap (endDriver (c .before .before .before .u .given .0 .0)) (c .before .drive-of .ensures) ∙ ap (traceDriver (a .b) s) (sym (c .before .before .before .u .given .1)) ∙ driver-trace s (a .wire) (a .b) _ (c .before .before .before .before .before .before .before .walk .ensures .0)
-
-same-length-2 : tie.Need-same-length-2
-same-length-2 c = search needs
-
 returns-2 : tie.Need-returns-2
-returns-2 c =
-    let at-start = c .before .before .before .before .before .before .before .before .before .before .before .before .before .before in
-    let a = at-start .args in
-    let s = a .sources .now in
-    let m = at-start .pre .4 in
-    ap Ring (c .before .before .ring-lowest .ensures ∙ ap (ringLowest s) (c .before .before .before .before .number .ensures)) ∙ ap (traceDriver (a .b) s) (sym (c .before .before .before .before .before .before .u2 .given .1)) ∙ driver-trace s (a .wire) (a .b) _ (c .before .before .before .before .before .before .before .before .before .before .walk .ensures .0)
+returns-2 c = search needs
 
 pub driver-of-spec : {M : Type 1} → statement M
 driver-of-spec =
     tie.close
     (tie.spec
-    walk-requires
-    enum-known-u
+    short-walk-requires
+    mul-if1
+    shared-slice-read-if1
+    cast-end-driver
     cast-drive-of
     drive-of-requires
     end-driver-requires
-    enum-known-u-2
-    number-requires
-    ring-lowest-requires
-    cast-t17
-    same-length
     returns
-    same-length-2
+    marked-driver-requires
+    same-length
     returns-2)

@@ -1,5 +1,5 @@
 -- The lowest set digit, which the language's count of trailing zeros gives, and a number without a set digit. Main laws: `trailing-digit`,
--- `trailing-lt`; `drop-is`.
+-- `trailing-below`, `trailing-lt`; `drop-is`.
 use mathlib.Core.Path.{_≡_, refl, sym, ap, _∙_, subst}
 use mathlib.Core.Logic.{⊎-elim}
 use Prim.Native.Nat.{ℕ, zero, suc, _+_, _-_, _*_, _/_, _%_, _^_, _<_, _≤_}
@@ -25,6 +25,19 @@ trailing-digit (suc k) n p h = go (n % 2) refl (λ q. trailing-digit k (n / 2) q
         ∙ sym (shr-shr n 1 (trailingZeros k (n / 2))))
         ∙ rest (omega arith)
     go (suc d) e rest = let q : n / 2 ^ 0 % 2 ≡ 1 = omega arith in q
+
+-- and the digits below it are 0
+pub trailing-below : (k n j : ℕ) → j < trailingZeros k n → digit n j ≡ 0
+unfolding trailingZeros
+trailing-below zero n j h = absurd (omega arith)
+trailing-below (suc k) n j h = go (n % 2) refl j h (trailing-below k (n / 2))
+  where
+    go : (d : ℕ) → n % 2 ≡ d → (i : ℕ) → i < under d (trailingZeros k (n / 2)) → ((m : ℕ) → m < trailingZeros k (n / 2) → digit (n / 2) m ≡ 0)
+        → digit n i ≡ 0
+    go zero e zero l rest = let q : n / 2 ^ 0 % 2 ≡ 0 = omega arith in q
+    go zero e (suc i) l rest =
+        ap (λ (x : ℕ). x % 2) (ap (λ (x : ℕ). n / 2 ^ x) (let q : suc i ≡ 1 + i = omega arith in q) ∙ sym (shr-shr n 1 i)) ∙ rest i (omega arith)
+    go (suc d) e i l rest = absurd (omega arith)
 
 pub trailing-lt : (k n : ℕ) → 0 < n → n < 2 ^ k → trailingZeros k n < k
 trailing-lt k n p h =

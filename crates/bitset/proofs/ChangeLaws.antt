@@ -1,14 +1,14 @@
 -- A number inserted and removed, by a write at each level. Main laws: `inserted`; `removed-leaf`, `removed-middle`, `removed-top`.
-use mathlib.Core.Path.{_≡_, refl, sym, _∙_}
+use mathlib.Core.Path.{_≡_, refl, _∙_}
 use mathlib.Core.Bool.{Bool, true, false}
 use mathlib.Core.List.{List}
 use mathlib.Core.Logic.{_≢_}
-use Prim.Native.Nat.{ℕ, _+_, _*_, _/_, _%_, _<_}
+use Prim.Native.Nat.{ℕ, _+_, _/_, _%_, _<_}
 use native.Mathlib.Omega.{arith}
 use lib.Dec.{eqb}
 use lib.ListN.{length}
 use Rattle.bitset.specs.Bitset.{Bitset, Written, has, word, wordCount, leaves, numbers}
-use Rattle.bitset.proofs.WordLaws.{word-ne, written-length, digit-same, has-same, has-other}
+use Rattle.bitset.proofs.WordLaws.{ne-zero-of-digit, digit-written-same, has-written-same, has-written-other}
 use Rattle.bitset.proofs.LevelLaws.{Pending, pending-of, pending-start, pending-step, pending-end, pending-kept}
 
 -- `after` is a set, in which n is a member if x says so, and all others are as in `words`
@@ -18,17 +18,17 @@ Changed words after n x = Bitset after × ((has after n ≡ x) × ((m : ℕ) →
 -- the digit of n is written v: a change of the members
 module _ {a b : List ℕ} {v : ℕ} (n : ℕ) (s : Bitset a) (l : n < numbers) (e : Written a b (leaves + n / 32) (n % 32) v) where
   leaf-here : has b n ≡ eqb v 1
-  leaf-here = let long = s .long in has-same e (omega arith) n refl refl
+  leaf-here = let long = s .long in has-written-same e (omega arith) n refl refl
 
   leaf-others : (m : ℕ) → m ≢ n → has b m ≡ has a m
-  leaf-others m ne = let long = s .long in has-other e (omega arith) m (λ p q. ne (let z : m ≡ n = omega arith in z))
+  leaf-others m ne = let long = s .long in has-written-other e (omega arith) m (λ p q. ne (let z : m ≡ n = omega arith in z))
 
   leaf-pending : Pending b (leaves + n / 32)
   leaf-pending = pending-start e (omega arith) s (omega arith)
 
 -- a digit above the leaves is written: no change of the members
 upper-kept : {a b : List ℕ} {i k v : ℕ} → Written a b i k v → length a ≡ wordCount → i < leaves → (m : ℕ) → has b m ≡ has a m
-upper-kept e long l m = has-other e (omega arith) m (λ z. absurd (omega arith))
+upper-kept e long l m = has-written-other e (omega arith) m (λ z. absurd (omega arith))
 
 module _ {a b c d : List ℕ} (n : ℕ) (s : Bitset a) (l : n < numbers) (leaf : Written a b (leaves + n / 32) (n % 32) 1)
     (middle : Written b c (1 + n / 32 / 32) (n / 32 % 32) 1) (top : Written c d 0 (n / 32 / 32) 1) where
@@ -36,10 +36,10 @@ module _ {a b c d : List ℕ} (n : ℕ) (s : Bitset a) (l : n < numbers) (leaf :
   inserted =
       let long = s .long in
       let p : Pending b (leaves + n / 32) = leaf-pending n s l leaf in
-      let full : word b (leaves + n / 32) ≢ 0 = word-ne (n % 32) (digit-same leaf (omega arith)) in
+      let full : word b (leaves + n / 32) ≢ 0 = ne-zero-of-digit (n % 32) (digit-written-same leaf (omega arith)) in
       let q : Pending c (1 + n / 32 / 32) = pending-step middle (omega arith) p (omega arith) (omega arith) (λ z. full, λ z. refl) in
       let long-b = p .long in
-      let full-c : word c (1 + n / 32 / 32) ≢ 0 = word-ne (n / 32 % 32) (digit-same middle (omega arith)) in
+      let full-c : word c (1 + n / 32 / 32) ≢ 0 = ne-zero-of-digit (n / 32 % 32) (digit-written-same middle (omega arith)) in
       let kept : (m : ℕ) → has d m ≡ has b m = λ m. upper-kept top (q .long) (omega arith) m ∙ upper-kept middle (p .long) (omega arith) m in (
         pending-end (pending-step top (omega arith) q (omega arith) (omega arith) (λ z. full-c, λ z. refl)),
         (kept n ∙ leaf-here n s l leaf, λ m ne. kept m ∙ leaf-others n s l leaf m ne),

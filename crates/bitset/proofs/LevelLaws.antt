@@ -1,5 +1,5 @@
 -- A digit written in a leaf, then what stands above it, level by level. Main laws: `pending-start`, `pending-step`, `pending-end`; `pending-kept`.
-use mathlib.Core.Path.{_≡_, refl, sym, ap, _∙_, subst}
+use mathlib.Core.Path.{_≡_, sym, ap, _∙_, subst}
 use mathlib.Core.List.{List}
 use mathlib.Core.Logic.{⊎-elim, _≢_, _↔_}
 use Prim.Native.Nat.{ℕ, _+_, _*_, _<_, _≤_}
@@ -8,7 +8,7 @@ use lib.ListN.{length}
 use Rattle.lists.proofs.CaseLaws.{eq-or-ne}
 use Rattle.digits.specs.Digits.{digit}
 use Rattle.bitset.specs.Bitset.{Bitset, Tells, Written, word, wordCount, leaves}
-use Rattle.bitset.proofs.WordLaws.{written-length, word-other, digit-same, digit-other, word-ne-before}
+use Rattle.bitset.proofs.WordLaws.{written-length, word-written-other, digit-written-same, digit-written-other, ne-zero-before}
 
 -- the words of a set, but for the digit that stands for word e
 pub record Pending (words : List ℕ) (e : ℕ) : Type 0 where
@@ -29,12 +29,12 @@ tells-same words after i k d w t = (λ x z. t .0 (sym d ∙ x) (sym w ∙ z), λ
 
 module _ {words after : List ℕ} {i k v : ℕ} (e : Written words after i k v) (long : length words ≡ wordCount) (l : i < wordCount) where
   tells-kept : (j m : ℕ) → 1 + (32 * j + m) ≢ i → (j ≡ i → m ≢ k) → Tells words j m → Tells after j m
-  tells-kept j m out ne t = tells-same words after j m (digit-other e (omega arith) j m ne) (word-other e (1 + (32 * j + m)) out) t
+  tells-kept j m out ne t = tells-same words after j m (digit-written-other e (omega arith) j m ne) (word-written-other e (1 + (32 * j + m)) out) t
 
   tells-new : (v ≡ 1) ↔ (word words (1 + (32 * i + k)) ≢ 0) → Tells after i k
   tells-new agrees =
-      let d : digit (word after i) k ≡ v = digit-same e (omega arith) in
-      let w : word after (1 + (32 * i + k)) ≡ word words (1 + (32 * i + k)) = word-other e (1 + (32 * i + k)) (λ z. absurd (omega arith)) in
+      let d : digit (word after i) k ≡ v = digit-written-same e (omega arith) in
+      let w : word after (1 + (32 * i + k)) ≡ word words (1 + (32 * i + k)) = word-written-other e (1 + (32 * i + k)) (λ z. absurd (omega arith)) in
       (λ a b. agrees .0 (sym d ∙ a) (sym w ∙ b), λ ne. d ∙ agrees .1 (λ b. ne (w ∙ b)))
 
 module _ {words after : List ℕ} {i k v : ℕ} (e : Written words after i k v) (l : i < wordCount) where
@@ -68,8 +68,8 @@ pending-kept {words} {after} {x} {y} {m} e before l p i k li lk here ne full = r
     tells-x : Tells after i k
     tells-x =
         let long = before .long in
-        let d : digit (word after i) k ≡ digit (word words i) k = digit-other e (omega arith) i k (λ z. absurd (omega arith)) in
-        let old : word words x ≢ 0 = word-ne-before e (omega arith) full in
+        let d : digit (word after i) k ≡ digit (word words i) k = digit-written-other e (omega arith) i k (λ z. absurd (omega arith)) in
+        let old : word words x ≢ 0 = ne-zero-before e (omega arith) full in
         let t = before .tells i k li lk (λ z. ne (here ∙ z)) in (
           λ a b. full (ap (word after) here ∙ b),
           λ b. d ∙ t .1 (λ z. old (ap (word words) here ∙ z)),

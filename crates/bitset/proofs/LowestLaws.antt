@@ -1,10 +1,9 @@
--- The lowest set digit of each level leads to the lowest member. Main laws: `lowest-is`, `lowest-none`; `middle-full`, `leaf-full`: the words on the way are
--- not 0.
-use mathlib.Core.Path.{_≡_, refl, sym, ap, _∙_, subst}
-use mathlib.Core.Bool.{Bool, true, false}
+-- The lowest set digit of each level leads to the lowest member. Main laws: `lowest-is`, `lowest-none`; `full-of-set`: the words on the way are not 0.
+use mathlib.Core.Path.{_≡_, sym, ap, _∙_}
+use mathlib.Core.Bool.{true, false}
 use mathlib.Core.List.{List}
 use mathlib.Core.Logic.{⊎-elim, _≢_}
-use Prim.Native.Nat.{ℕ, _+_, _-_, _*_, _/_, _%_, _<_, _≤_}
+use Prim.Native.Nat.{ℕ, _+_, _*_, _/_, _%_, _<_, _≤_}
 use native.Mathlib.Omega.{arith}
 use lib.Dec.{eqb}
 use Rattle.lists.specs.Search.{first}
@@ -55,7 +54,7 @@ lowest-none {words} s z =
 
 -- the word x that a set digit stands for is not 0
 pub full-of-set : {words : List ℕ} {i k x : ℕ} → Bitset words → LowestDigit (word words i) k → i < leaves → x ≡ 1 + (32 * i + k) → word words x ≢ 0
-full-of-set {words} {i} {k} {x} s d l e z = s .tells i k l (d .within) .0 (d .set) (ap (word words) (sym e) ∙ z)
+full-of-set {words} {i} {k} {x} s d l e z = s .tells i k l (d .within) .0 (d .one) (ap (word words) (sym e) ∙ z)
 
 module _ {words : List ℕ} {v k j : ℕ} (s : Bitset words) (top : LowestDigit (word words 0) v) (middle : LowestDigit (word words (1 + v)) k)
     (leaf : LowestDigit (word words (leaves + (32 * v + k))) j) where
@@ -65,7 +64,7 @@ module _ {words : List ℕ} {v k j : ℕ} (s : Bitset words) (top : LowestDigit 
       let few = leaf .within in
       let at-word : (32 * (32 * v + k) + j) / 32 ≡ 32 * v + k = omega arith in
       let at-digit : (32 * (32 * v + k) + j) % 32 ≡ j = omega arith in
-      rw (at-word, at-digit) (ap (λ (x : ℕ). eqb x 1) (leaf .set))
+      rw (at-word, at-digit) (ap (λ (x : ℕ). eqb x 1) (leaf .one))
 
   pub lowest-is : 32 * (32 * v + k) + j ≡ first (has words) 0 numbers
   lowest-is =

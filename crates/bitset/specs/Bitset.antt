@@ -8,6 +8,7 @@ use mathlib.Core.Logic.{_≢_, _↔_}
 use lib.ListN.{length, getD, set}
 use Rattle.digits.specs.Digits.{digit, isSet, setDigit}
 
+-- how many words a set has
 abbrev pub wordCount : ℕ
 wordCount = 1057
 
@@ -32,10 +33,10 @@ pub record Written (words after : List ℕ) (i k v : ℕ) : Type 0 where
   pub bit : v < 2
   pub made : after ≡ set words i (setDigit (word words i) k v)
 
--- digit k is the lowest of a word that is set
+-- digit k is the lowest set digit of a word
 pub record LowestDigit (value k : ℕ) : Type 0 where
   pub within : k < 32
-  pub set : digit value k ≡ 1
+  pub one : digit value k ≡ 1
   pub below : (j : ℕ) → j < k → digit value j ≡ 0
 
 -- digit k of word i is 1 exactly if the word that it stands for is not 0

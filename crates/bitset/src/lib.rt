@@ -50,6 +50,7 @@ fn lower(words: &mut [u32; WORDS], i: usize, k: usize)
 }
 
 // n becomes a member.
+// Rules out: touching another number; a member that lowest does not see.
 pub fn insert(words: &mut [u32; WORDS], n: usize)
     requires { ⌜ Bitset (now words) × (n < numbers) ⌝ }
     ensures kept { λ r. ⌜ Bitset (now (words .exit)) ⌝ }
@@ -64,6 +65,7 @@ pub fn insert(words: &mut [u32; WORDS], n: usize)
 }
 
 // n is no member any more. It need not have been one.
+// Rules out: touching another number; leading lowest to a word that has become 0.
 pub fn remove(words: &mut [u32; WORDS], n: usize)
     requires { ⌜ Bitset (now words) × (n < numbers) ⌝ }
     ensures kept { λ r. ⌜ Bitset (now (words .exit)) ⌝ }
@@ -92,6 +94,7 @@ fn lowest_digit(word: u32) -> usize
 }
 
 // The lowest member; where there is none, NUMBERS.
+// Rules out: a higher member; a number that is none.
 pub fn lowest(words: &[u32; WORDS]) -> usize
     requires { ⌜ Bitset (now words) ⌝ }
     ensures { λ r. ⌜ r ≡ first (has (now (words .entry))) 0 numbers ⌝ }

@@ -14,7 +14,7 @@ returns c =
     let word = c .args .word in
     let some : 0 < word = omega arith in record {
       within = trailing-lt 32 word some (omega arith);
-      set = trailing-digit 32 word some (omega arith);
+      one = trailing-digit 32 word some (omega arith);
       below = trailing-below 32 word;
     }
 

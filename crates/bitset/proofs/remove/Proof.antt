@@ -48,11 +48,13 @@ returns-2 c =
     let at-clear = at-middle .before .before in
     let at-leaf = at-clear .before .before in
     let at-start = at-leaf .before .before in
-    removed-middle (at-start .args .n) (at-start .pre .0) (at-start .pre .1) (at-leaf .lower .ensures) (at-clear .if1 .left) (at-middle .lower2 .ensures) (c .if2 .taken)
+    removed-middle (at-start .args .n) (at-start .pre .0) (at-start .pre .1) (at-leaf .lower .ensures) (at-clear .if1 .left)
+    (at-middle .lower2 .ensures) (c .if2 .taken)
 
 lower-requires-3 : tie.Need-lower-requires-3
 lower-requires-3 c κs = search needs
 
+-- all three are written
 returns-3 : tie.Need-returns-3
 returns-3 c =
     let at-clear-2 = c .before .before in
@@ -60,7 +62,8 @@ returns-3 c =
     let at-clear = at-middle .before .before in
     let at-leaf = at-clear .before .before in
     let at-start = at-leaf .before .before in
-    removed-top (at-start .args .n) (at-start .pre .0) (at-start .pre .1) (at-leaf .lower .ensures) (at-clear .if1 .left) (at-middle .lower2 .ensures) (at-clear-2 .if2 .left) (c .lower3 .ensures)
+    removed-top (at-start .args .n) (at-start .pre .0) (at-start .pre .1) (at-leaf .lower .ensures) (at-clear .if1 .left)
+    (at-middle .lower2 .ensures) (at-clear-2 .if2 .left) (c .lower3 .ensures)
 
 pub remove-spec : {M : Type 1} → statement M
 remove-spec =

@@ -1,13 +1,15 @@
 -- What a row that was read says of the graph: whether it is a wire's, and what it reads.
-use mathlib.Core.Path.{_≡_, sym, ap, _∙_}
+use mathlib.Core.Path.{_≡_, sym, ap, subst, _∙_}
 use mathlib.Core.Bool.{true, false}
 use mathlib.Core.Logic.{_≢_}
 use mathlib.Core.List.{List}
 use Prim.Native.Nat.{ℕ, _<_}
 use native.Mathlib.Omega.{arith}
 use borrow.Author.Tests.{eq-eqb, ne-eqb}
+use lib.ListN.{getD}
 use Rattle.netlist.specs.Graph.{Reads}
 use Rattle.netlist.specs.Rows.{rowAt, operandOf, arityOf, graphOf}
+use Rattle.netlist.specs.Waiting.{Stuck}
 use Rattle.netlist.specs.declared.row.Row.{Row}
 
 module _ (rows : List ℕ) (w : ℕ) (row : Row) (is : row ≡ rowAt rows w) where
@@ -23,3 +25,16 @@ module _ (rows : List ℕ) (w : ℕ) (row : Row) (is : row ≡ rowAt rows w) whe
 
     pub row-reads : (j d : ℕ) → j < count → d ≡ operandOf row j → Reads (graphOf rows) w d
     row-reads j d l e = (j, (let q = row-arity in omega arith), ap (λ (r : Row). operandOf r j) (sym is) ∙ sym e)
+
+    -- where a row's wire is stuck
+    pub row-stuck : (m : List ℕ) (j d : ℕ) → j < count → d ≡ operandOf row j → ((k : ℕ) → k < j → getD m (operandOf row k) 0 ≡ 1) → getD m d 0 ≢ 1
+        → Stuck (graphOf rows) m w d
+    row-stuck m j d l e before new =
+        let q = row-arity in
+        record {
+          place = j;
+          within = omega arith;
+          here = ap (λ (r : Row). operandOf r j) (sym is) ∙ sym e;
+          before = λ k lk. subst (λ (x : Row). getD m (operandOf x k) 0 ≡ 1) is (before k lk);
+          new = new;
+        }

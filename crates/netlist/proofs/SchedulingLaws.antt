@@ -13,7 +13,7 @@ use Rattle.lists.proofs.SearchLaws.{first-le, first-true, first-before}
 use Rattle.netlist.specs.Graph.{Graph, DependsOn, Closed}
 use Rattle.netlist.specs.Marks.{listed}
 use Rattle.netlist.specs.Order.{order, orderMarks, AllListed}
-use Rattle.netlist.specs.Rows.{rowLength, Inside, rowsOf, graphOf}
+use Rattle.netlist.specs.Rows.{rowLength, rowAt, zeroRow, Inside, rowsOf, graphOf}
 use Rattle.netlist.specs.Scheduling.{Answers, rowInOrder, listOf}
 use Rattle.netlist.specs.declared.schedule.Scheduled.{Scheduled}
 use Rattle.netlist.specs.declared.schedule.Scheduled.the-variants.{Listed, Loop}
@@ -30,8 +30,8 @@ answers-unique g n (Loop v) (Loop w) p q = ap Loop (lowest-loop-unique g n v w (
 
 -- ---- r is the first wire that is left over, or n
 
-module _ (g : Graph) (n r : ℕ) (m : List ℕ) (cl : Closed g n) (is : m ≡ orderMarks g n) (long : length m ≡ n)
-    (at : r ≡ first (λ w. g .wire w && not (listed m w)) 0 (length m)) where
+module _ (g : Graph) (n r many : ℕ) (m : List ℕ) (cl : Closed g n) (is : m ≡ orderMarks g n) (long : many ≡ n)
+    (at : r ≡ first (λ w. g .wire w && not (listed m w)) 0 many) where
   abbrev over : ℕ → Bool
   over w = g .wire w && not (listed (orderMarks g n) w)
 
@@ -53,6 +53,17 @@ module _ (g : Graph) (n r : ℕ) (m : List ℕ) (cl : Closed g n) (is : m ≡ or
       let l : r < n = omega arith in
       let t : over r ≡ true = rw q (first-true over 0 n (omega arith)) in
       stuck-loop g n (orderMarks g n) cl (order-ended g n .1) r l (and-left (g .wire r) _ t) (not-true _ (and-right (g .wire r) _ t))
+
+-- ---- the rows of a list, from the wires in order
+
+module _ (rows wires : List ℕ) (count k : ℕ) where
+  pub row-in-order-at : k < count → rowInOrder rows wires count k ≡ rowAt rows (getD wires k 0)
+  unfolding rowInOrder
+  row-in-order-at l = rw (lt-ltb _ _ l)
+
+  pub row-in-order-past : count ≤ k → rowInOrder rows wires count k ≡ zeroRow
+  unfolding rowInOrder
+  row-in-order-past l = rw (le-ltb _ _ l)
 
 -- ---- the order, with whatever stands behind it in the queue
 

@@ -1,57 +1,82 @@
 -- The loop that searches the next wire: what holds each time that it looks at one (`Searching`), and what the search gives.
-use mathlib.Core.Path.{_≡_, refl, _∙_}
+use mathlib.Core.Path.{_≡_, refl, sym, _∙_}
 use mathlib.Core.Bool.{true, false}
 use mathlib.Core.Logic.{_≢_}
 use mathlib.Core.List.{List}
 use Prim.Native.Nat.{ℕ, _+_, _<_, _≤_}
 use native.Mathlib.Omega.{arith}
-use borrow.Author.Count.{below-more}
-use lib.ListN.{length, getD, set, length-set}
-use lib.Seq.{getD-set-same}
-use Rattle.netlist.specs.Graph.{Graph, Reads}
+use lib.ListN.{getD, set}
+use Rattle.netlist.specs.Graph.{Graph}
 use Rattle.netlist.specs.Order.{ready, next}
-use Rattle.netlist.specs.Waiting.{onlyListed, Unready, waits}
+use Rattle.netlist.specs.Waiting.{onlyListed, Stuck, Idle, Watched}
+use Rattle.netlist.specs.Due.{dueFrom, dueWith, Early, Taken, Resting, Found}
+use Rattle.netlist.specs.declared.order.Look.{Look}
 use Rattle.netlist.proofs.ReadyLaws.{ready-true, next-at, next-end}
-use Rattle.netlist.proofs.WaitingLaws.{only-listed-true, only-listed-false, only-listed-wait, unready-false, unready-wait}
+use Rattle.netlist.proofs.WaitingLaws.{only-listed-true, only-listed-false, only-listed-wait}
+use Rattle.netlist.proofs.WatchLaws.{watched-idle, watched-ext, watched-drop, watched-wait}
+use Rattle.netlist.proofs.DueLaws.{due-here, due-other}
 
 module _ (g : Graph) (n : ℕ) (m₀ : List ℕ) where
-  -- none below w is ready, and the marks were m₀
-  pub record Searching (m : List ℕ) (w : ℕ) : Type 0 where
-    pub upto : w ≤ n
-    pub long : length m ≡ n
+  -- a wire was taken to be looked at, none below it is due, and the marks were m₀
+  pub record Searching (m links woken : List ℕ) (look : Look) : Type 0 where
+    pub watched : Watched g n m links (dueWith woken look)
     pub kept : onlyListed m ≡ onlyListed m₀
-    pub lower : (k : ℕ) → k < w → Unready g m k
+    pub early : Early n woken (look .from)
+    pub upto : look .wire ≤ n
+    pub lower : (k : ℕ) → k < n → k ≤ look .wire → dueFrom woken (look .from) k ≡ false
 
-  pub searching-start : (from : ℕ) → from ≤ n → length m₀ ≡ n → ((k : ℕ) → k < from → Unready g m₀ k) → Searching m₀ from
-  searching-start from l e low = record { upto = l; long = e; kept = refl; lower = low }
+  pub searching-take : (m links woken₀ : List ℕ) (from : ℕ) → Watched g n m links (dueFrom woken₀ from) → onlyListed m ≡ onlyListed m₀
+      → (woken : List ℕ) (look : Look) → Taken n woken₀ from woken look → Searching m links woken look
+  searching-take m links woken₀ from w kept woken look t = record {
+    watched = watched-ext g n m links (dueFrom woken₀ from) w (dueWith woken look) (λ k l. t .same k);
+    kept = kept;
+    early = t .early;
+    upto = t .upto;
+    lower = t .lower;
+  }
 
-  module _ (m : List ℕ) (w : ℕ) (h : Searching m w) where
-    pub searching-skip : w < n → Unready g m w → Searching m (w + 1)
-    searching-skip l u = record { upto = omega arith; long = h .long; kept = h .kept; lower = below-more (Unready g m) w (h .lower) u }
+  module _ (m links woken : List ℕ) (look : Look) (h : Searching m links woken look) where
+    module _ (l : look .wire < n) where
+      here : dueWith woken look (look .wire) ≡ true
+      here = due-here woken look (look .wire) refl
 
-    -- w reads d, which is not listed and remembers it by v
-    pub searching-wait : w < n → (d v : ℕ) → Reads g w d → d < n → getD m d 0 ≢ 1
-        → (2 ≤ v) × (v ≤ w + 2) × (2 ≤ getD m d 0 → v ≤ getD m d 0) → Searching (set m d v) (w + 1)
-    searching-wait l d v r below old new =
-        let e = h .long in
-        let low = new .0 in
-        let high = new .1 in
-        let at : getD (set m d v) d 0 ≡ v = getD-set-same m d v 0 (omega arith) in
-        record {
-          upto = omega arith;
-          long = length-set m d v ∙ h .long;
-          kept = only-listed-wait m d v old (λ q. absurd (omega arith)) ∙ h .kept;
-          lower = below-more (Unready g (set m d v)) w (λ k lk. unready-wait g m d v (omega arith) old low (new .2) k (h .lower k lk))
-              (waits d r (omega arith) (omega arith));
-        }
+      gone : dueFrom woken (look .from) (look .wire) ≡ false
+      gone = h .lower (look .wire) l (omega arith)
 
-    unready : (k : ℕ) → k < w → ready g (onlyListed m₀) k ≡ false
-    unready k l = rw (← h .kept) (unready-false g m k (h .lower k l))
+      others : (k : ℕ) → k < n → k ≢ look .wire → dueWith woken look k ≡ dueFrom woken (look .from) k
+      others k lk ne = due-other woken look k ne
 
-    pub searching-hit : w < n → g .wire w ≡ true → getD m w 0 ≢ 1 → ((j : ℕ) → j < g .arity w → getD m (g .operand w j) 0 ≡ 1) → w ≡ next g n (onlyListed m₀)
+      -- the wire is idle, and another is taken
+      pub searching-idle : Idle g n m links (look .wire) → (woken' : List ℕ) (look' : Look) → Taken n woken (look .from) woken' look' → Searching m links woken' look'
+      searching-idle i =
+          searching-take m links woken (look .from)
+          (watched-drop g n m links (dueWith woken look) (h .watched) (dueFrom woken (look .from)) (look .wire) here gone others i) (h .kept)
+
+      -- the wire waits for d, where it is stuck, and another is taken
+      pub searching-wait : (d : ℕ) → d < n → Stuck g m (look .wire) d → (woken' : List ℕ) (look' : Look) → Taken n woken (look .from) woken' look'
+          → Searching (set m d (look .wire + 2)) (set links (look .wire) (getD m d 0)) woken' look'
+      searching-wait d ld s =
+          searching-take (set m d (look .wire + 2)) (set links (look .wire) (getD m d 0)) woken (look .from)
+          (watched-wait g n m links (dueWith woken look) (h .watched) (dueFrom woken (look .from)) (look .wire) here gone others d l ld s)
+          (only-listed-wait m d (look .wire + 2) (s .new) (λ q. absurd (omega arith)) ∙ h .kept)
+
+    unready : (k : ℕ) → k < n → k < look .wire → ready g (onlyListed m₀) k ≡ false
+    unready k lk l =
+        rw (← h .kept)
+        (watched-idle g n m links (dueWith woken look) (h .watched) k lk
+        (due-other woken look k (λ q. absurd (omega arith)) ∙ h .lower k lk (omega arith)))
+
+    found : look .wire ≡ next g n (onlyListed m₀) → Found g n m₀ m links woken look
+    found e = record { is-next = e; kept = h .kept; watched = h .watched; early = h .early }
+
+    -- the wire is ready
+    pub searching-hit : look .wire < n → g .wire (look .wire) ≡ true → getD m (look .wire) 0 ≢ 1
+        → ((j : ℕ) → j < g .arity (look .wire) → getD m (g .operand (look .wire) j) 0 ≡ 1) → Found g n m₀ m links woken look
     searching-hit l k new all =
-        next-at g n (onlyListed m₀) w l unready
-        (rw (← h .kept) (ready-true g (onlyListed m) w k (only-listed-false m w new) (λ j lj. only-listed-true m _ (all j lj))))
+        found
+        (next-at g n (onlyListed m₀) (look .wire) l (λ k lk. unready k (omega arith) lk)
+        (rw (← h .kept) (ready-true g (onlyListed m) (look .wire) k (only-listed-false m (look .wire) new) (λ j lj. only-listed-true m _ (all j lj)))))
 
-    pub searching-end : n ≤ w → w ≡ next g n (onlyListed m₀)
-    searching-end l = next-end g n (onlyListed m₀) w (h .upto) l unready
+    -- none is left
+    pub searching-end : n ≤ look .wire → Found g n m₀ m links woken look
+    searching-end l = found (next-end g n (onlyListed m₀) (look .wire) (h .upto) l (λ k lk. let u = h .upto in unready k (omega arith) lk))

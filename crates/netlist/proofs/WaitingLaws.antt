@@ -1,24 +1,23 @@
--- What the marks remember while the order is made: `onlyListed` after a mark is set, and why wires stay unready (`Unready`).
--- Main laws: `only-listed-list`, `only-listed-wait`; `unready-false`, `unready-wait`, `unready-list`.
-use mathlib.Core.Path.{_≡_, refl, sym, ap, _∙_}
+-- Who waits while the order is made: `onlyListed` after a mark is set, chains, and where a wire is stuck.
+-- Main laws: `only-listed-list`, `only-listed-wait`; `chain-unique`, `chain-set`; `stuck-unique`, `stuck-false`.
+use mathlib.Core.Path.{_≡_, refl, sym, ap, ap₂, _∙_}
 use mathlib.Core.Bool.{true, false, cond}
-use mathlib.Core.Logic.{⊎-elim, _≢_}
+use mathlib.Core.Logic.{inl, inr, ⊎-elim, _≢_}
 use mathlib.Core.List.{List, [], _∷_}
-use Prim.Native.Nat.{ℕ, zero, suc, _+_, _<_, _≤_}
+use Prim.Native.Nat.{ℕ, zero, suc, _<_, _≤_}
 use native.Mathlib.Omega.{arith}
-use borrow.Author.Count.{below-more}
 use borrow.Author.Tests.{eq-eqb, ne-eqb}
 use lib.Dec.{eqb}
-use lib.ListN.{length, getD, set, length-set, length-map, List·getD-map}
-use lib.Seq.{getD-set-same, getD-set-other, map-set-same, ext-getD}
+use lib.ListN.{length, getD, set, length-map, List·getD-map}
+use lib.Seq.{getD-set-same, getD-set-other, map-set-same}
 use Rattle.lists.specs.Tables.{zeros}
-use Rattle.lists.proofs.CaseLaws.{eq-or-ne}
+use Rattle.lists.proofs.CaseLaws.{eq-or-ne, lt-or-le}
 use Rattle.netlist.specs.Graph.{Graph}
 use Rattle.netlist.specs.Marks.{listed}
 use Rattle.netlist.specs.Order.{ready}
-use Rattle.netlist.specs.Waiting.{onlyListed, Unready, no-wire, done, waits}
+use Rattle.netlist.specs.Waiting.{onlyListed, Among, Chain, Stuck}
 use Rattle.netlist.proofs.MarkLaws.{listed-true, listed-false}
-use Rattle.netlist.proofs.ReadyLaws.{ready-no-wire, ready-listed, ready-waiting}
+use Rattle.netlist.proofs.ReadyLaws.{ready-waiting}
 
 -- ---- onlyListed
 
@@ -42,13 +41,6 @@ module _ (m : List ℕ) where
   unfolding onlyListed
   only-listed-wait d v old new = map-set-same (λ (x : ℕ). cond (eqb x 1) 1 0) m d v 0 (rw (ne-eqb _ _ old, ne-eqb _ _ new))
 
-  -- with no wire that waits the marks are plain
-  pub only-listed-plain : ((w : ℕ) → w < length m → getD m w 0 ≢ 1 → getD m w 0 ≡ 0) → m ≡ onlyListed m
-  only-listed-plain plain =
-      ext-getD 0 m (onlyListed m) (sym only-listed-length)
-      (λ w l. ⊎-elim (λ (e : getD m w 0 ≡ 1). e ∙ sym (only-listed-at w ∙ rw (eq-eqb _ _ e)))
-      (λ (ne : getD m w 0 ≢ 1). plain w l ne ∙ sym (only-listed-at w ∙ rw (ne-eqb _ _ ne))) (eq-or-ne (getD m w 0) 1))
-
 pub only-listed-list : (m : List ℕ) (w : ℕ) → onlyListed (set m w 1) ≡ set (onlyListed m) w 1
 unfolding onlyListed
 only-listed-list [] w = refl
@@ -60,60 +52,60 @@ unfolding onlyListed
 only-listed-zeros zero = refl
 only-listed-zeros (suc n) = ap (λ (t : List ℕ). 0 ∷ t) (only-listed-zeros n)
 
--- ---- the loop that forgets who waits: those below w wait no more
+-- ---- Chain
 
-pub record Forgetting (m₀ m : List ℕ) (w : ℕ) : Type 0 where
-  pub long : length m ≡ length m₀
-  pub kept : onlyListed m ≡ onlyListed m₀
-  pub plain : (k : ℕ) → k < w → getD m k 0 ≢ 1 → getD m k 0 ≡ 0
+pub chain-unique : (links : List ℕ) (mark : ℕ) (ks js : List ℕ) → Chain links mark ks → Chain links mark js → ks ≡ js
+chain-unique links mark [] [] a b = refl
+chain-unique links mark [] (j ∷ js) a b = absurd (let e = b .0 in omega arith)
+chain-unique links mark (k ∷ ks) [] a b = absurd (let e = a .0 in omega arith)
+chain-unique links mark (k ∷ ks) (j ∷ js) a b =
+    let e : k ≡ j = let p = a .0 in let q = b .0 in omega arith in
+    ap₂ _∷_ e (chain-unique links (getD links k 0) ks js (a .1 .1) (rw e (b .1 .1)))
 
-pub forgetting-start : (m : List ℕ) → Forgetting m m 0
-forgetting-start m = record { long = refl; kept = refl; plain = λ k l. absurd (omega arith) }
+-- a link elsewhere changes
+pub chain-set : (links : List ℕ) (w v mark : ℕ) (ks : List ℕ) → (Among w ks → ⊥) → Chain links mark ks → Chain (set links w v) mark ks
+chain-set links w v mark [] out c = c
+chain-set links w v mark (k ∷ ks) out c =
+    let e : getD (set links w v) k 0 ≡ getD links k 0 = getD-set-other links w k v 0 (λ q. out (inl (sym q))) in
+    (c .0, (c .1 .0, rw e (chain-set links w v (getD links k 0) ks (λ a. out (inr a)) (c .1 .1))))
 
-module _ (m₀ m : List ℕ) (w : ℕ) (h : Forgetting m₀ m w) where
-  pub forgetting-skip : getD m w 0 ≡ 1 → Forgetting m₀ m (w + 1)
-  forgetting-skip e = record { long = h .long; kept = h .kept; plain = below-more (λ k. getD m k 0 ≢ 1 → getD m k 0 ≡ 0) w (h .plain) (λ ne. absurd (ne e)) }
+-- ---- Stuck
 
-  pub forgetting-step : w < length m → getD m w 0 ≢ 1 → Forgetting m₀ (set m w 0) (w + 1)
-  forgetting-step l ne = record {
-    long = length-set m w 0 ∙ h .long;
-    kept = only-listed-wait m w 0 ne (λ q. absurd (omega arith)) ∙ h .kept;
-    plain =
-        below-more (λ k. getD (set m w 0) k 0 ≢ 1 → getD (set m w 0) k 0 ≡ 0) w
-        (λ k lk no.
-        let e : getD (set m w 0) k 0 ≡ getD m k 0 = getD-set-other m w k 0 0 (λ q. absurd (omega arith)) in
-        e ∙ h .plain k lk (λ q. no (e ∙ q)))
-        (λ no. getD-set-same m w 0 0 l);
+module _ (g : Graph) (m : List ℕ) (k : ℕ) where
+  pub stuck-false : (d : ℕ) → Stuck g m k d → ready g (onlyListed m) k ≡ false
+  stuck-false d s = ready-waiting g (onlyListed m) k (s .place) (s .within) (rw (s .here) (only-listed-false m d (s .new)))
+
+  earlier : (d e : ℕ) (s : Stuck g m k d) (t : Stuck g m k e) → s .place < t .place → ⊥
+  earlier d e s t l = s .new (rw (← s .here) (t .before (s .place) l))
+
+  pub stuck-unique : (d e : ℕ) → Stuck g m k d → Stuck g m k e → d ≡ e
+  stuck-unique d e s t =
+      ⊎-elim (λ (l : s .place < t .place). absurd (earlier d e s t l))
+      (λ (l : t .place ≤ s .place).
+      ⊎-elim (λ (q : t .place < s .place). absurd (earlier e d t s q))
+      (λ (q : s .place ≤ t .place). let p : s .place ≡ t .place = omega arith in sym (s .here) ∙ ap (g .operand k) p ∙ t .here) (lt-or-le (t .place) (s .place)))
+      (lt-or-le (s .place) (t .place))
+
+  -- a wire that is not listed may remember anything
+  pub stuck-wait : (d e v : ℕ) → d < length m → getD m d 0 ≢ 1 → v ≢ 1 → Stuck g m k e → Stuck g (set m d v) k e
+  stuck-wait d e v l old new s = record {
+    place = s .place;
+    within = s .within;
+    here = s .here;
+    before = λ j lj. getD-set-other m d (g .operand k j) v 0 (λ q. old (rw (← q) (s .before j lj))) ∙ s .before j lj;
+    new = λ one.
+        ⊎-elim (λ (q : e ≡ d). new (sym (getD-set-same m d v 0 l) ∙ (rw q at one)))
+        (λ (ne : e ≢ d). s .new (sym (getD-set-other m d e v 0 ne) ∙ one)) (eq-or-ne e d);
   }
 
-  pub forgetting-end : length m ≤ w → m ≡ onlyListed m₀
-  forgetting-end l = only-listed-plain m (λ k lk. h .plain k (omega arith)) ∙ h .kept
-
--- ---- Unready
-
-module _ (g : Graph) (m : List ℕ) where
-  pub unready-false : (w : ℕ) → Unready g m w → ready g (onlyListed m) w ≡ false
-  unready-false w (no-wire k) = ready-no-wire g (onlyListed m) w k
-  unready-false w (done e) = ready-listed g (onlyListed m) w (only-listed-true m w e)
-  unready-false w (waits d r a b) = ready-waiting g (onlyListed m) w (r .0) (r .1) (rw (r .2) (only-listed-false m d (λ e. absurd (omega arith))))
-
-  -- a wire that is not listed remembers v, of 2 and more, and no more than before
-  pub unready-wait : (d v : ℕ) → d < length m → getD m d 0 ≢ 1 → 2 ≤ v → (2 ≤ getD m d 0 → v ≤ getD m d 0) → (w : ℕ) → Unready g m w → Unready g (set m d v) w
-  unready-wait d v l old low high w (no-wire k) = no-wire k
-  unready-wait d v l old low high w (done e) = done (getD-set-other m d w v 0 (λ (q : w ≡ d). old (rw (← q) e)) ∙ e)
-  unready-wait d v l old low high w (waits x r a b) =
-      ⊎-elim
-      (λ (q : x ≡ d).
-      let e : getD (set m d v) x 0 ≡ v = rw q (getD-set-same m d v 0 l) in
-      let h : v ≤ getD m x 0 = rw q (high (rw q at a)) in
-      waits x r (omega arith) (omega arith))
-      (λ (ne : x ≢ d). let e = getD-set-other m d x v 0 ne in waits x r (omega arith) (omega arith)) (eq-or-ne x d)
-
-  -- w is listed: below all that waited for it, the same wires wait
-  pub unready-list : (w : ℕ) → w < length m → getD m w 0 ≢ 1 → (k : ℕ) → (2 ≤ getD m w 0 → k + 2 < getD m w 0) → Unready g m k → Unready g (set m w 1) k
-  unready-list w l old k low (no-wire h) = no-wire h
-  unready-list w l old k low (done e) = done (getD-set-other m w k 1 0 (λ (q : k ≡ w). old (rw (← q) e)) ∙ e)
-  unready-list w l old k low (waits x r a b) =
-      let ne : x ≢ w = λ q. absurd (let h : k + 2 < getD m x 0 = rw q (low (rw q at a)) in omega arith) in
-      let e = getD-set-other m w x 1 0 ne in
-      waits x r (omega arith) (omega arith)
+  -- another wire is listed
+  pub stuck-list : (w e : ℕ) → w < length m → e ≢ w → Stuck g m k e → Stuck g (set m w 1) k e
+  stuck-list w e l ne s = record {
+    place = s .place;
+    within = s .within;
+    here = s .here;
+    before = λ j lj.
+        ⊎-elim (λ (q : g .operand k j ≡ w). rw q (getD-set-same m w 1 0 l))
+        (λ other. getD-set-other m w (g .operand k j) 1 0 other ∙ s .before j lj) (eq-or-ne (g .operand k j) w);
+    new = λ one. s .new (sym (getD-set-other m w e 1 0 ne) ∙ one);
+  }

@@ -2,7 +2,8 @@
 pub mod Graph  -- Graph, Reads, DependsOn, Closed, LowestLoop: what is read, with no word on what it computes
 pub mod Marks  -- listed, marksAfter, unmarked: which wires are listed, how many are not
 pub mod Order  -- ready, next, order: the lowest wire that is not listed and waits for none
-pub mod Waiting  -- onlyListed, Unready: what the marks remember while the order is made
+pub mod Waiting  -- Stuck, Chain, Idle, Watched: who waits for whom while the order is made; onlyListed
+pub mod Due  -- Resting, Taken, Found, Woken: which wires are due to be looked at, and how that changes
 pub mod Equations  -- Solves, Local, runOrder: what the wires' values have to meet
 pub mod Kinds  -- the seven kinds of rows
 pub mod Rows  -- rowAt, operandOf, arityOf, graphOf, rowsOf: a row as a record, and a list as its rows

@@ -1,47 +1,69 @@
-// The order of the rows: always the lowest wire that is not listed and waits for none.
+// The order of the rows: always the lowest wire that is not listed and waits for none. A wire that is not ready waits for one that it reads,
+// and is looked at again only when that one is listed.
 ghost use mathlib.Core.Path.{_≡_};
-ghost use Prim.Native.Nat.{ℕ, _+_, _*_, _^_, _<_, _≤_};
+ghost use Prim.Native.Nat.{_*_, _^_, _≤_};
 ghost use mathlib.Core.List.{_++_};
-ghost use mathlib.Core.Logic.{_≢_};
 ghost use lib.ListN.{length, drop};
 ghost use Rattle.netlist.specs.Graph.{Closed};
-ghost use Rattle.netlist.specs.Order.{next, order, orderMarks};
+ghost use Rattle.netlist.specs.Order.{order, orderMarks};
 ghost use Rattle.netlist.specs.Rows.{rowLength, graphOf};
-ghost use Rattle.netlist.specs.Waiting.{onlyListed, Unready};
+ghost use Rattle.netlist.specs.Waiting.{onlyListed};
+ghost use Rattle.netlist.specs.Due.{Early, Taken, Resting, Found, Asleep, Woken};
 use crate::row::arity;
 use crate::row::operand;
 use crate::row::row_at;
 use crate::row::wide;
+use bitset::NUMBERS;
+use bitset::WORDS;
 
-// The mark of a wire that is not listed, once w is seen waiting for it.
-fn waiting_mark(mark: u16, w: usize) -> u16
-    requires { ⌜ (mark ≢ 1) × (w + 2 < 2 ^ 16) ⌝ }
-    ensures { λ r. ⌜ (2 ≤ r) × (r ≤ w + 2) × (2 ≤ mark → r ≤ mark) ⌝ }
-{
-    let own = (w + 2) as u16;
-    if mark == 0 {
-        return own;
-    }
-    if own < mark {
-        return own;
-    }
-    mark
+// The wire to look at, and the number from which on none was looked at.
+pub struct Look {
+    pub wire: usize,
+    pub from: usize,
 }
 
-// The lowest wire that is not listed and reads only wires that are, or the number of indices. The search starts where nothing
-// lower is ready, remembers who waits for whom, and is left from its inner loop at the first wire whose operands are all listed.
+// Takes the lowest wire that is due to be looked at, or n where none is.
+// Rules out: going on from `from` while a wire below it is due.
+fn take(woken: &mut [u32; WORDS], from: usize, n: usize) -> Look
+    requires { ⌜ Early n (now woken) from × (n ≤ 2 ^ 15) ⌝ }
+    ensures { λ r. ⌜ Taken n (now (woken .entry)) from (now (woken .exit)) r ⌝ }
+{
+    let w = bitset::lowest(woken);
+    if w < NUMBERS {
+        bitset::remove(woken, w);
+        return Look {
+            wire: w,
+            from: from,
+        };
+    }
+    if from == n {
+        return Look { wire: n, from: n };
+    }
+    Look {
+        wire: from,
+        from: from + 1,
+    }
+}
+
+// The lowest wire that is not listed and reads only wires that are, or the number of indices. The search goes through the wires that are due
+// and is left from its inner loop at the first whose operands are all listed; any other waits for its first operand that is not.
 // Rules out: a wire that reads one not listed; a later one where a lower is ready.
-pub fn next_ready(rows: &[u16], marks: &mut [u16], from: usize) -> usize
+pub fn next_ready(
+    rows: &[u16],
+    marks: &mut [u16],
+    links: &mut [u16],
+    woken: &mut [u32; WORDS],
+    from: usize,
+) -> Look
     requires { ⌜ length (now rows) ≡ rowLength * length (now marks) ⌝ }
     requires { ⌜ Closed (graphOf (now rows)) (length (now marks)) × (length (now marks) ≤ 2 ^ 15) ⌝ }
-    requires { ⌜ (from ≤ length (now marks)) × ((k : ℕ) → k < from → Unready (graphOf (now rows)) (now marks) k) ⌝ }
-    ensures next { λ r. ⌜ r ≡ next (graphOf (now (rows .entry))) (length (now (marks .entry))) (onlyListed (now (marks .entry))) ⌝ }
-    ensures listed { λ r. ⌜ onlyListed (now (marks .exit)) ≡ onlyListed (now (marks .entry)) ⌝ }
-    ensures lower { λ r. ⌜ ((k : ℕ) → k < r → Unready (graphOf (now (rows .entry))) (now (marks .exit)) k) ⌝ }
+    requires { ⌜ Resting (graphOf (now rows)) (length (now marks)) (now marks) (now links) (now woken) from ⌝ }
+    ensures { λ r. ⌜ Found (graphOf (now (rows .entry))) (length (now (marks .entry))) (now (marks .entry)) (now (marks .exit)) (now (links .exit)) (now (woken .exit)) r ⌝ }
 {
     let n = marks.len();
-    let mut w = from;
-    'search: while w < n {
+    let mut look = take(woken, from, n);
+    'search: while look.wire < n {
+        let w = look.wire;
         if marks[w] != 1 {
             let row = row_at(rows, w);
             if row.kind != 0 {
@@ -53,69 +75,60 @@ pub fn next_ready(rows: &[u16], marks: &mut [u16], from: usize) -> usize
                     }
                     let d = wide(operand(row, j));
                     if marks[d] != 1 {
-                        marks[d] = waiting_mark(marks[d], w);
+                        links[w] = marks[d];
+                        marks[d] = (w + 2) as u16;
                         break;
                     }
                     j += 1;
                 }
             }
         }
-        w += 1;
+        look = take(woken, look.from, n);
     }
-    w
+    look
 }
 
-// Where the search goes on once w is listed: behind it, or at the lowest wire that waited for it, as the mark of w has it, if that is lower.
-fn resume(mark: u16, w: usize) -> usize
-    requires { ⌜ w < 2 ^ 15 ⌝ }
-    ensures { λ r. ⌜ (r ≤ w + 1) × (2 ≤ mark → r + 2 ≤ mark) ⌝ }
+// The wires of a chain are due again.
+// Rules out: leaving the last one asleep.
+fn wake(links: &[u16], woken: &mut [u32; WORDS], mark: u16)
+    requires { ⌜ Asleep (now links) mark (now woken) ⌝ }
+    ensures { λ r. ⌜ Woken (now (links .entry)) mark (now (woken .entry)) (now (woken .exit)) ⌝ }
 {
-    let waiting = wide(mark);
-    if waiting < 2 {
-        return w + 1;
-    }
-    if w + 3 < waiting {
-        return w + 1;
-    }
-    waiting - 2
-}
-
-// Forgets who waits.
-fn keep_listed(marks: &mut [u16])
-    ensures { λ r. ⌜ now (marks .exit) ≡ onlyListed (now (marks .entry)) ⌝ }
-{
-    let mut w = 0;
-    while w < marks.len() {
-        if marks[w] != 1 {
-            marks[w] = 0;
-        }
-        w += 1;
+    let mut k = wide(mark);
+    while 1 < k {
+        let w = k - 2;
+        bitset::insert(woken, w);
+        k = wide(links[w]);
     }
 }
 
-// Writes the wires to `out` in the order, and says how many there are. `marks` ends with a 1 for each of them.
-pub fn list_wires(rows: &[u16], marks: &mut [u16], out: &mut [u16]) -> usize
+// Writes the wires to `out` in the order, and says how many there are. `marks` ends with a 1 for each of them and no other 1; what `links` holds
+// does not matter.
+pub fn list_wires(rows: &[u16], marks: &mut [u16], links: &mut [u16], out: &mut [u16]) -> usize
     requires { ⌜ length (now rows) ≡ rowLength * length (now marks) ⌝ }
     requires { ⌜ Closed (graphOf (now rows)) (length (now marks)) ⌝ }
-    requires { ⌜ (length (now marks) ≤ length (now out)) × (length (now marks) ≤ 2 ^ 15) ⌝ }
+    requires { ⌜ (length (now links) ≡ length (now marks)) × (length (now marks) ≤ length (now out)) × (length (now marks) ≤ 2 ^ 15) ⌝ }
     ensures count { λ r. ⌜ r ≡ length (order (graphOf (now (rows .entry))) (length (now (marks .entry)))) ⌝ }
     ensures out { λ r. ⌜ now (out .exit) ≡ order (graphOf (now (rows .entry))) (length (now (marks .entry))) ++ drop r (now (out .entry)) ⌝ }
-    ensures marks { λ r. ⌜ now (marks .exit) ≡ orderMarks (graphOf (now (rows .entry))) (length (now (marks .entry))) ⌝ }
+    ensures marks { λ r. ⌜ onlyListed (now (marks .exit)) ≡ orderMarks (graphOf (now (rows .entry))) (length (now (marks .entry))) ⌝ }
 {
     let n = marks.len();
     lists::clear(marks);
+    let mut woken = bitset::empty();
     let mut count = 0;
     let mut from = 0;
     loop {
-        let w = next_ready(rows, marks, from);
+        let look = next_ready(rows, marks, links, &mut woken, from);
+        let w = look.wire;
         if w == n {
             break;
         }
-        from = resume(marks[w], w);
+        from = look.from;
+        let mark = marks[w];
         marks[w] = 1;
+        wake(links, &mut woken, mark);
         out[count] = w as u16;
         count += 1;
     }
-    keep_listed(marks);
     count
 }

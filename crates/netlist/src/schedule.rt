@@ -8,9 +8,9 @@ ghost use Rattle.netlist.specs.Graph.{Closed};
 ghost use Rattle.netlist.specs.Marks.{listed};
 ghost use Rattle.netlist.specs.Rows.{rowLength, rowsOf, Inside, graphOf};
 ghost use Rattle.netlist.specs.Scheduling.{Answers, Queued, rowInOrder};
+ghost use Rattle.netlist.specs.Waiting.{onlyListed};
 use crate::loops::lowest_loop;
 use crate::order::list_wires;
-use crate::row::Row;
 use crate::row::row_at;
 use crate::row::wide;
 use crate::row::write_row;
@@ -25,11 +25,11 @@ pub enum Scheduled {
 // The lowest wire that is not listed, or the number of indices.
 fn first_unlisted(rows: &[u16], marks: &[u16]) -> usize
     requires { ⌜ length (now rows) ≡ rowLength * length (now marks) ⌝ }
-    ensures { λ r. ⌜ r ≡ first (λ w. graphOf (now (rows .entry)) .wire w && not (listed (now (marks .entry)) w)) 0 (length (now (marks .entry))) ⌝ }
+    ensures { λ r. ⌜ r ≡ first (λ w. graphOf (now (rows .entry)) .wire w && not (listed (onlyListed (now (marks .entry))) w)) 0 (length (now (marks .entry))) ⌝ }
 {
     let mut w = 0;
     while w < marks.len() {
-        if marks[w] == 0 {
+        if marks[w] != 1 {
             let row = row_at(rows, w);
             if row.kind != 0 {
                 return w;
@@ -40,28 +40,20 @@ fn first_unlisted(rows: &[u16], marks: &[u16]) -> usize
     w
 }
 
-// Row k of the list.
-fn row_in_order(rows: &[u16], wires: &[u16], count: usize, k: usize) -> Row
-    requires { ⌜ count ≤ length (now wires) ⌝ }
-    requires { ⌜ ((i : ℕ) → i < count → Inside (now rows) (getD (now wires) i 0)) ⌝ }
-    ensures { λ r. ⌜ r ≡ rowInOrder (now (rows .entry)) (now (wires .entry)) count k ⌝ }
-{
-    if k < count {
-        return row_at(rows, wide(wires[k]));
-    }
-    zero_row()
-}
-
 // Writes the rows of the first `count` wires, and zeros behind them, n rows in all.
 pub fn write_list(rows: &[u16], wires: &[u16], count: usize, n: usize, list: &mut [u16])
-    requires { ⌜ (count ≤ length (now wires)) × (length (now list) ≡ rowLength * n) ⌝ }
+    requires { ⌜ (count ≤ length (now wires)) × (count ≤ n) × (length (now list) ≡ rowLength * n) ⌝ }
     requires { ⌜ ((i : ℕ) → i < count → Inside (now rows) (getD (now wires) i 0)) ⌝ }
     ensures { λ r. ⌜ now (list .exit) ≡ rowsOf (rowInOrder (now (rows .entry)) (now (wires .entry)) count) n ⌝ }
 {
     let mut k = 0;
-    while k < n {
-        let row = row_in_order(rows, wires, count, k);
+    while k < count {
+        let row = row_at(rows, wide(wires[k]));
         write_row(list, k, row);
+        k += 1;
+    }
+    while k < n {
+        write_row(list, k, zero_row());
         k += 1;
     }
 }
@@ -69,15 +61,15 @@ pub fn write_list(rows: &[u16], wires: &[u16], count: usize, n: usize, list: &mu
 // The order of a block's rows, left at the front of `queue`, or the lowest wire that depends on itself. `write_list` then writes the
 // list, so that a caller can make more checks before it touches its output.
 // Rules out: a loop's place taken as the first wire that never becomes ready; a wire left over.
-pub fn schedule(rows: &[u16], marks: &mut [u16], queue: &mut [u16]) -> Scheduled
+pub fn schedule(rows: &[u16], marks: &mut [u16], queue: &mut [u16], links: &mut [u16]) -> Scheduled
     requires { ⌜ length (now rows) ≡ rowLength * length (now marks) ⌝ }
     requires { ⌜ Closed (graphOf (now rows)) (length (now marks)) ⌝ }
-    requires { ⌜ (length (now marks) ≤ length (now queue)) × (length (now marks) ≤ 2 ^ 15) ⌝ }
+    requires { ⌜ (length (now links) ≡ length (now marks)) × (length (now marks) ≤ length (now queue)) × (length (now marks) ≤ 2 ^ 15) ⌝ }
     ensures answer { λ r. ⌜ Answers (graphOf (now (rows .entry))) (length (now (marks .entry))) r ⌝ }
     ensures queue { λ r. ⌜ Queued (graphOf (now (rows .entry))) (length (now (marks .entry))) (now (queue .exit)) r ⌝ }
 {
     let n = marks.len();
-    let count = list_wires(rows, marks, queue);
+    let count = list_wires(rows, marks, links, queue);
     let waiting = first_unlisted(rows, marks);
     if waiting == n {
         return Scheduled::Listed(count);

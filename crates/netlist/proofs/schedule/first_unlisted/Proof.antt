@@ -1,9 +1,10 @@
 -- `schedule::first_unlisted` meets its contract. Invariant: the search from w on is the whole search. Measure: the indices left. Assumes nothing.
 use borrow.Author.Needs.{needs}
 use Rattle.netlist.proofs.GraphLaws.{row-wire-true, row-wire-false}
-use Rattle.netlist.proofs.MarkLaws.{listed-true, listed-false}
+use Rattle.netlist.proofs.WaitingLaws.{only-listed-true, only-listed-false}
 use Rattle.netlist.specs.Rows.{graphOf}
 use Rattle.netlist.specs.Marks.{listed}
+use Rattle.netlist.specs.Waiting.{onlyListed}
 use Rattle.lists.proofs.SearchLaws.{first-turn-hit, first-turn-skip, first-turn-end}
 use Rattle.lists.proofs.CaseLaws.{and-true, and-false-left, and-false-right}
 use Rattle.lists.specs.Search.{first}
@@ -17,7 +18,7 @@ use Rattle.netlist.proofs.schedule.first_unlisted.Statement.{statement}
 use Rattle.netlist.proofs.schedule.first_unlisted.Tie as tie
 
 abbrev Inv-loop : tie.InvT-loop
-Inv-loop rows marks w₀ w = first (λ k. graphOf rows .wire k && not (listed marks k)) w (length marks - w) ≡ first (λ k. graphOf rows .wire k && not (listed marks k)) 0 (length marks)
+Inv-loop rows marks w₀ w = first (λ k. graphOf rows .wire k && not (listed (onlyListed marks) k)) w (length marks - w) ≡ first (λ k. graphOf rows .wire k && not (listed (onlyListed marks) k)) 0 (length marks)
 
 abbrev μ-loop : tie.MeasureT-loop
 μ-loop rows marks w₀ w = length marks - w
@@ -43,7 +44,7 @@ returns c =
     let at-start = at-loop .before .before .before in
     first-turn-hit _ _ _ _ (at-loop .loop .inv) (at-test .loop-test .taken)
     (and-true (row-wire-true _ _ _ (at-row-at .row-at .ensures) (c .if2 .taken))
-    (rw (listed-false (at-start .args .marks .now) (at-loop .loop .w) (at-if1 .if1 .taken))))
+    (rw (only-listed-false (at-start .args .marks .now) (at-loop .loop .w) (at-if1 .if1 .taken))))
 
 add-w : tie.Need-add-w Inv-loop μ-loop
 add-w c = search needs
@@ -57,9 +58,9 @@ loop-again c =
     let at-loop = at-test .before in
     let at-start = at-loop .before .before .before in
     first-turn-skip _ _ _ _ (at-loop .loop .inv) (at-test .loop-test .taken)
-    (⊎-elim (λ x. and-false-left (graphOf (at-start .args .rows .now) .wire (at-loop .loop .w)) (not (listed (at-start .args .marks .now) (at-loop .loop .w)))
+    (⊎-elim (λ x. and-false-left (graphOf (at-start .args .rows .now) .wire (at-loop .loop .w)) (not (listed (onlyListed (at-start .args .marks .now)) (at-loop .loop .w)))
     (row-wire-false _ _ _ (x .1 .ensures) (x .3 .left))) (λ x. and-false-right (graphOf (at-start .args .rows .now) .wire (at-loop .loop .w))
-    (not (listed (at-start .args .marks .now) (at-loop .loop .w))) (rw (listed-true (at-start .args .marks .now) (at-loop .loop .w) (x .left)))) (c .if1 .came))
+    (not (listed (onlyListed (at-start .args .marks .now)) (at-loop .loop .w))) (rw (only-listed-true (at-start .args .marks .now) (at-loop .loop .w) (x .left)))) (c .if1 .came))
 
 returns-2 : tie.Need-returns-2 Inv-loop μ-loop
 returns-2 c = first-turn-end _ _ _ _ (c .before .loop .inv) (c .loop-test .left)

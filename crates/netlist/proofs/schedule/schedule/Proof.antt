@@ -7,11 +7,14 @@ use Rattle.netlist.specs.Rows.{graphOf}
 use native.Mathlib.Omega.{arith}
 use lib.ListN.{length}
 use Prim.Native.Nat.{ℕ}
-use mathlib.Core.List.{List}
-use mathlib.Core.Path.{_≡_, refl, sym, ap, subst, _∙_}
+use mathlib.Core.Path.{_≡_, sym, subst}
 use borrow.Author.Needs.{needs}
 use Rattle.netlist.proofs.schedule.schedule.Statement.{statement}
 use Rattle.netlist.proofs.schedule.schedule.Tie as tie
+
+-- the marks are as many as before
+long : (c : tie.After-list-wires) → length (c .list-wires .last .1 .0) ≡ length (c .before .before .before .before .before .before .before .before .args .marks .now)
+long c = omega arith
 
 list-wires-requires : tie.Need-list-wires-requires
 list-wires-requires c κs = search needs
@@ -25,20 +28,48 @@ same-length c = search needs
 same-length-2 : tie.Need-same-length-2
 same-length-2 c = search needs
 
-returns : tie.Need-returns
-returns c = let long : length (c .before .before .before .before .before .before .before .list-wires .last .1 .0) ≡ (length (c .before .before .before .before .before .before .before .before .before .before .before .before .before .args .marks .now)) = omega arith in ((c .before .before .before .before .before .before .before .list-wires .ensures .0, none-left (graphOf (c .before .before .before .before .before .before .before .before .before .before .before .before .before .args .rows .now)) (length (c .before .before .before .before .before .before .before .before .before .before .before .before .before .args .marks .now)) (c .before .first-unlisted .result) (c .before .before .before .before .before .before .before .list-wires .last .1 .0) (c .before .before .before .before .before .before .before .before .before .before .before .before .before .pre .1 .0) (c .before .before .before .before .before .before .before .list-wires .ensures .1 .1) long (c .before .first-unlisted .ensures) (c .if1 .taken)), (_, c .before .before .before .before .before .before .before .list-wires .ensures .1 .0))
-
-lowest-loop-requires : tie.Need-lowest-loop-requires
-lowest-loop-requires c κs = let long : length (c .before .before .before .before .before .before .before .before .before .list-wires .last .1 .0) ≡ (length (c .before .before .before .before .before .before .before .before .before .before .before .before .before .before .before .args .marks .now)) = omega arith in (omega arith, (subst (λ (k : ℕ). Closed (graphOf (c .before .before .before .before .before .before .before .before .before .before .before .before .before .before .before .args .rows .now)) k) (sym long) (c .before .before .before .before .before .before .before .before .before .before .before .before .before .before .before .pre .1 .0), omega arith))
-
 same-length-3 : tie.Need-same-length-3
 same-length-3 c = search needs
+
+-- all are listed
+returns : tie.Need-returns
+returns c =
+    let at-first-unlisted = c .before in
+    let at-list-wires = c .before .before .before .before .before .before .before .before .before in
+    let at-start = at-list-wires .before .before .before .before .before .before .before .before in
+    let listed = at-list-wires .list-wires .ensures in (
+      (listed .0, none-left _ _ _ _ _ (at-start .pre .1 .0) (listed .1 .1) (long at-list-wires) (at-first-unlisted .first-unlisted .ensures) (c .if1 .taken)),
+      (_, listed .1 .0),
+    )
+
+lowest-loop-requires : tie.Need-lowest-loop-requires
+lowest-loop-requires c κs =
+    let at-list-wires = c .before .before .before .before .before .before .before .before .before .before .before in
+    let at-start = at-list-wires .before .before .before .before .before .before .before .before in
+    let e = long at-list-wires in
+    (omega arith, (subst (λ (k : ℕ). Closed (graphOf (at-start .args .rows .now)) k) (sym e) (at-start .pre .1 .0), omega arith))
 
 same-length-4 : tie.Need-same-length-4
 same-length-4 c = search needs
 
+same-length-5 : tie.Need-same-length-5
+same-length-5 c = search needs
+
+same-length-6 : tie.Need-same-length-6
+same-length-6 c = search needs
+
+-- one is left over
 returns-2 : tie.Need-returns-2
-returns-2 c = let long : length (c .before .before .before .before .before .before .before .before .before .before .before .before .before .before .list-wires .last .1 .0) ≡ (length (c .before .before .before .before .before .before .before .before .before .before .before .before .before .before .before .before .before .before .before .before .args .marks .now)) = omega arith in let low = subst (λ (k : ℕ). LowestLoop (graphOf (c .before .before .before .before .before .before .before .before .before .before .before .before .before .before .before .before .before .before .before .before .args .rows .now)) k (c .before .before .before .before .lowest-loop .result)) long (c .before .before .before .before .lowest-loop .ensures) in ((lowest-loop-lt (graphOf (c .before .before .before .before .before .before .before .before .before .before .before .before .before .before .before .before .before .before .before .before .args .rows .now)) (length (c .before .before .before .before .before .before .before .before .before .before .before .before .before .before .before .before .before .before .before .before .args .marks .now)) (c .before .before .before .before .lowest-loop .result) low (one-left (graphOf (c .before .before .before .before .before .before .before .before .before .before .before .before .before .before .before .before .before .before .before .before .args .rows .now)) (length (c .before .before .before .before .before .before .before .before .before .before .before .before .before .before .before .before .before .before .before .before .args .marks .now)) (c .before .before .before .before .before .before .before .before .first-unlisted .result) (c .before .before .before .before .before .before .before .before .before .before .before .before .before .before .list-wires .last .1 .0) (c .before .before .before .before .before .before .before .before .before .before .before .before .before .before .before .before .before .before .before .before .pre .1 .0) (c .before .before .before .before .before .before .before .before .before .before .before .before .before .before .list-wires .ensures .1 .1) long (c .before .before .before .before .before .before .before .before .first-unlisted .ensures) (c .before .before .before .before .before .before .before .if1 .left)), low), tt)
+returns-2 c =
+    let at-lowest-loop = c .before .before .before .before in
+    let at-if1 = at-lowest-loop .before .before .before in
+    let at-first-unlisted = at-if1 .before in
+    let at-list-wires = at-if1 .before .before .before .before .before .before .before .before .before in
+    let at-start = at-list-wires .before .before .before .before .before .before .before .before in
+    let e = long at-list-wires in
+    let low = subst (λ (k : ℕ). LowestLoop (graphOf (at-start .args .rows .now)) k (at-lowest-loop .lowest-loop .result)) e (at-lowest-loop .lowest-loop .ensures) in
+    let loop = one-left _ _ _ _ _ (at-start .pre .1 .0) (at-list-wires .list-wires .ensures .1 .1) e (at-first-unlisted .first-unlisted .ensures) (at-if1 .if1 .left) in
+    ((lowest-loop-lt _ _ _ low loop, low), tt)
 
 pub schedule-spec : {M : Type 1} → statement M
 schedule-spec =
@@ -48,8 +79,10 @@ schedule-spec =
     first-unlisted-requires
     same-length
     same-length-2
+    same-length-3
     returns
     lowest-loop-requires
-    same-length-3
     same-length-4
+    same-length-5
+    same-length-6
     returns-2)

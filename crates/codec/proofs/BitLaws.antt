@@ -128,6 +128,10 @@ empty-clear bits n e p =
 pub position-within : {p n : ℕ} → p < 864 → n ≡ tileBytes → p / unit < n
 position-within h e = omega arith
 
+-- the bits of byte i
+pub bit-of-byte : (bits : List ℕ) (i k : ℕ) → k < unit → bitAt bits (unit * i + k) ≡ digit (getD bits i 0) k
+bit-of-byte bits i k l = ap (λ (x : ℕ). bitAt bits (x + k)) (let e : unit * i ≡ i * unit = omega arith in e) ∙ bit-in-number unit (omega arith) bits i k l
+
 -- a bit written over itself
 pub set-bit-same : (bits : List ℕ) (p v : ℕ) → bitAt bits p ≡ v → setBit bits p v ≡ bits
 unfolding bitIn setBitIn setDigit

@@ -10,11 +10,11 @@ use borrow.Author.Tests.{eq-eqb, lt-ltb, eqb-true}
 use Rattle.lists.proofs.CaseLaws.{cases, clash, lt-or-le, eq-or-ne, and-left, and-right, and-true}
 use Rattle.lists.proofs.SearchLaws.{first-le, first-true, first-before, first-none}
 use Rattle.routing.specs.LogicTile.{logicTile, carryInSet}
-use Rattle.routing.specs.Table.{maxPositions, fieldAt, groupCount, widthOf, positionAt}
+use Rattle.routing.specs.Table.{maxPassives, maxPositions, fieldAt, passiveCount, passiveAt, groupCount, widthOf, positionAt}
 use Rattle.routing.specs.Rules.{TableRules}
-use Rattle.routing.specs.Slots.{claims, owner, Once, slotsOf, slotAt, fieldSlots, groupSlots, groupSlot, slotCount}
+use Rattle.routing.specs.Slots.{claims, owner, Once, slotsOf, slotAt, slotUsed, fieldSlots, passiveSlots, groupSlots, groupSlot, slotCount}
 use Rattle.routing.proofs.OwnerLaws.{claims-used, claims-at, claims-it, claims-not, owner-is}
-use Rattle.routing.proofs.SlotLaws.{slot-at-field, slot-used-field, slot-at-group, slot-used-group}
+use Rattle.routing.proofs.SlotLaws.{slot-at-field, slot-used-field, slot-at-passive, slot-used-passive, slot-at-group, slot-used-group}
 use Rattle.routing.proofs.LogicTileLaws.{logic-tile-once}
 use Rattle.routing.proofs.TableOnceLaws.{table-once}
 use Rattle.routing.proofs.ClaimLaws.{claimed-exact}
@@ -43,18 +43,26 @@ module _ (table : List ℕ) (T : TableRules logicTile table) where
   once : Once (slotsOf logicTile table)
   once = table-once logicTile table logic-tile-once T
 
-  pub carry-owner : owner (slotsOf logicTile table) (fieldAt table carryInSet) ≡ fieldSlots logicTile + carryInSet
-  carry-owner =
-      subst (λ (p : ℕ). owner (slotsOf logicTile table) p ≡ fieldSlots logicTile + carryInSet) (slot-at-field logicTile table carryInSet (omega arith))
-      (owner-is (slotsOf logicTile table) once (fieldSlots logicTile + carryInSet) (omega arith) (slot-used-field logicTile table carryInSet (omega arith)))
+  -- a used slot owns its position
+  slot-owner : (s p : ℕ) → s < slotCount logicTile → slotUsed logicTile table s ≡ true → slotAt logicTile table s ≡ p → owner (slotsOf logicTile table) p ≡ s
+  slot-owner s p h u e = subst (λ (x : ℕ). owner (slotsOf logicTile table) x ≡ s) e (owner-is (slotsOf logicTile table) once s h u)
+
+  pub field-owner : (f : ℕ) → f < 3 → owner (slotsOf logicTile table) (fieldAt table f) ≡ fieldSlots logicTile + f
+  field-owner f h =
+      slot-owner (fieldSlots logicTile + f) (fieldAt table f) (omega arith) (slot-used-field logicTile table f h) (slot-at-field logicTile table f h)
+
+  pub passive-owner : (j : ℕ) → j < passiveCount logicTile table → owner (slotsOf logicTile table) (passiveAt logicTile table j) ≡ passiveSlots logicTile + j
+  passive-owner j h =
+      let few : j < maxPassives = omega (arith, T .passives .few) in
+      slot-owner (passiveSlots logicTile + j) (passiveAt logicTile table j) (omega arith)
+      (slot-used-passive logicTile table j few ∙ lt-ltb j (passiveCount logicTile table) h) (slot-at-passive logicTile table j few)
 
   pub group-owner : (g k : ℕ) → g < groupCount logicTile table → k < widthOf logicTile table g
       → owner (slotsOf logicTile table) (positionAt logicTile table g k) ≡ groupSlot logicTile g + k
   group-owner g k h l =
       let few : k < maxPositions = omega (arith, T .groups g h .few-positions) in
-      subst (λ (p : ℕ). owner (slotsOf logicTile table) p ≡ groupSlot logicTile g + k) (slot-at-group logicTile table g k few)
-      (owner-is (slotsOf logicTile table) once (groupSlot logicTile g + k) (omega (arith, T .few-groups))
-      (slot-used-group logicTile table g k few h ∙ lt-ltb k (widthOf logicTile table g) l))
+      slot-owner (groupSlot logicTile g + k) (positionAt logicTile table g k) (omega (arith, T .few-groups))
+      (slot-used-group logicTile table g k few h ∙ lt-ltb k (widthOf logicTile table g) l) (slot-at-group logicTile table g k few)
 
 -- ---- a position
 
@@ -73,7 +81,7 @@ module _ (table bits : List ℕ) (T : TableRules logicTile table) where
       ∙ ap (λ (x : ℕ). isUnlisted (readGroup logicTile table bits x)) (let e : maxPositions * g / maxPositions ≡ g = omega arith in e)
       ∙ unlisted-exact table bits g (T .groups g h) .1 (n, m)
   fault-of p (stray q h n e) = fault-stray table bits p (unclaimed-owner table T p n) ∙ eq-eqb _ 1 e
-  fault-of p (carry-pair q) = fault-carry table bits (fieldAt table carryInSet) (carry-owner table T) ∙ carry-exact .1 q
+  fault-of p (carry-pair q) = fault-carry table bits (fieldAt table carryInSet) (field-owner table T carryInSet (omega arith)) ∙ carry-exact .1 q
 
   of-fault : (p : ℕ) → p < 864 → faultAt table bits p ≡ true → Faulty table bits p
   of-fault p h f = ⊎-elim owned free (lt-or-le mine (slotCount logicTile))

@@ -13,7 +13,9 @@ pub mod DecodeLaws  -- decode-field, .. decode-flags: the decoding, kind by kind
 pub mod FaultLaws  -- fault-..: a position at fault, by what claims it; map-..: by the ownership map
 pub mod ListedLaws  -- unlisted-exact: a group's pattern is zero, listed, or neither
 pub mod FaultyLaws  -- fault-exact, tile-fault-exact, tile-fault-lowest: ground 4 is what specs/Reading.antt says
-pub mod QuietLaws  -- quiet-fault: a tile whose set bits are all in order can be decoded
+pub mod TakingLaws  -- learned-set, taken-..: the set bits of a tile taken one after another
+pub mod Passing  -- passed-turn, taken-turn: the loops over them
+pub mod TakenLaws  -- taken-right, taken-fault: a tile all of whose set bits are taken is read and has no fault
 pub mod SettingsBack  -- settings-back: settings written and read back; encode-decodable
 pub mod BitsBack  -- bits-back: decodable bits read and written back
 pub mod ReadingLaws  -- decode-reads, reads-unique: the decoding is what the bits read to; settings-fit-exact: ground 9 is what it says

@@ -1,16 +1,14 @@
--- Ground 4 for one tile, computed: the lowest position at fault; and what is known of a set bit that is none of its causes.
-use Prim.Native.Nat.{ℕ, _+_, _-_, _/_, _%_, _<_}
-use mathlib.Core.Path.{_≡_}
+-- Ground 4 for one tile, computed: the lowest position at fault.
+use Prim.Native.Nat.{ℕ, _+_, _-_, _/_, _%_}
 use mathlib.Core.Bool.{Bool, true, false, cond, _&&_}
 use mathlib.Core.List.{List}
-use lib.Count.{trailingZeros}
 use lib.Dec.{eqb, ltb}
 use Rattle.lists.specs.Search.{first}
 use Rattle.routing.specs.LogicTile.{logicTile, carryInSet, carryChain}
 use Rattle.routing.specs.Table.{maxPositions, fieldAt}
-use Rattle.routing.specs.Slots.{slotsOf, owner, fieldSlots, groupSlots, groupSlot, slotCount}
+use Rattle.routing.specs.Slots.{slotsOf, owner, fieldSlots, groupSlots, slotCount}
 use Rattle.codec.specs.Bits.{isSetAt}
-use Rattle.codec.specs.Groups.{groupPattern, readGroup}
+use Rattle.codec.specs.Groups.{readGroup}
 use Rattle.codec.specs.declared.groups.GroupRead.{GroupRead}
 use Rattle.codec.specs.declared.groups.GroupRead.the-variants.{Setting, Unlisted}
 
@@ -38,11 +36,3 @@ module _ (table bits : List ℕ) where
   -- the lowest position at fault; 864 where there is none
   abbrev pub tileFault : ℕ
   tileFault = first faultAt 0 864
-
-  -- what the bit at p belongs to is in order: something claims it, it is not the carry pair's, and a group whose lowest set bit it is has a
-  -- listed pattern
-  pub record Quiet (p : ℕ) : Type 0 where
-    pub claimed : owner (slotsOf logicTile table) p < slotCount logicTile
-    pub carry : owner (slotsOf logicTile table) p ≡ fieldSlots logicTile + carryInSet → carryPair ≡ false
-    pub group : (g k : ℕ) → owner (slotsOf logicTile table) p ≡ groupSlot logicTile g + k → k < maxPositions
-        → trailingZeros 16 (groupPattern logicTile table bits g) ≡ k → isUnlisted (readGroup logicTile table bits g) ≡ false

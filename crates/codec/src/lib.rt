@@ -8,5 +8,6 @@ pub mod bits;
 pub mod cells;
 pub mod fault;
 pub mod groups;
+pub mod reading;
 pub mod settings;
 pub mod tile;

@@ -22,8 +22,8 @@ use crate::cells::decode_cells;
 use crate::cells::put_cells;
 use crate::cells::write_cells;
 use crate::fault::is_fault_at;
-use crate::fault::is_quiet;
 use crate::groups::write_group;
+use crate::reading::try_decode;
 use crate::settings::GROUPS_FROM;
 use crate::settings::PASSIVES_FROM;
 use crate::settings::SETTINGS_LENGTH;
@@ -33,14 +33,11 @@ use crate::settings::setting_at;
 
 const POSITIONS: usize = 864;
 
-// The lowest position at fault; 864 where the tile can be decoded, which is soon known of most. `own` is the ownership map of the table.
+// The lowest position at fault; 864 where the tile can be decoded. `own` is the ownership map of the table.
 pub fn tile_fault(table: &[u16], own: &[u16], bits: &[u8]) -> usize
     requires { ⌜ (TableRules logicTile (now table)) × (Owned 864 (slotsOf logicTile (now table)) (slotCount logicTile) (now own)) × (length (now bits) ≡ tileBytes) ⌝ }
     ensures { λ r. ⌜ r ≡ tileFault (now (table .entry)) (now (bits .entry)) ⌝ }
 {
-    if is_quiet(table, own, bits) {
-        return POSITIONS;
-    }
     let mut p = 0;
     while p < POSITIONS {
         if is_fault_at(table, own, bits, p) {
@@ -79,6 +76,24 @@ pub fn decode_tile(table: &[u16], bits: &[u8], settings: &mut [u16])
     }
     let cells = decode_cells(bits);
     put_cells(settings, cells);
+}
+
+// The lowest position at fault; where there is none, 864 with the settings read. Most tiles are read in one pass (`try_decode`), and only where
+// that fails are all positions looked at.
+pub fn read_tile(table: &[u16], own: &[u16], bits: &[u8], settings: &mut [u16]) -> usize
+    requires { ⌜ (TableRules logicTile (now table)) × (Owned 864 (slotsOf logicTile (now table)) (slotCount logicTile) (now own)) × (length (now bits) ≡ tileBytes) × (length (now settings) ≡ settingsLength logicTile) ⌝ }
+    ensures fault { λ r. ⌜ r ≡ tileFault (now (table .entry)) (now (bits .entry)) ⌝ }
+    ensures settings { λ r. ⌜ (r ≡ 864 → now (settings .exit) ≡ decode (now (table .entry)) (now (bits .entry))) ⌝ }
+{
+    if try_decode(table, own, bits, settings) {
+        return POSITIONS;
+    }
+    let fault = tile_fault(table, own, bits);
+    if fault < POSITIONS {
+        return fault;
+    }
+    decode_tile(table, bits, settings);
+    fault
 }
 
 // The fields written to bits that hold the cells.

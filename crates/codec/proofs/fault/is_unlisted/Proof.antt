@@ -1,27 +1,28 @@
--- `is_unlisted` meets its contract: the pattern that the bits have is not listed. Assumes nothing.
-use mathlib.Core.Bool.{not}
-use mathlib.Core.Path.{ap, _∙_}
-use Prim.Native.Nat.{ℕ}
+-- `is_unlisted` meets its contract: the two cases of the answer. Assumes nothing.
+use mathlib.Core.Path.{sym, ap, _∙_}
 use borrow.Author.Needs.{needs}
-use Rattle.lists.proofs.CaseLaws.{not-not}
-use Rattle.routing.specs.LogicTile.{logicTile}
-use Rattle.codec.specs.Groups.{settingOfPattern}
 use Rattle.codec.specs.Fault.{isUnlisted}
 use Rattle.codec.proofs.fault.is_unlisted.Statement.{statement}
 use Rattle.codec.proofs.fault.is_unlisted.Tie as tie
 
-read-pattern-requires : tie.Need-read-pattern-requires
-read-pattern-requires c κs = search needs
+read-group-requires : tie.Need-read-group-requires
+read-group-requires c κs = search needs
 
-is-listed-requires : tie.Need-is-listed-requires
-is-listed-requires c κs = search needs
+enum-told : tie.Need-enum-told
+enum-told c = search needs
+
+enum-told-2 : tie.Need-enum-told-2
+enum-told-2 c = search needs
 
 returns : tie.Need-returns
 returns c =
-    let at-start = c .before .before .before .before in
-    let at-read-pattern = c .before in
-    ap not (c .is-listed .ensures) ∙ not-not _ ∙ ap (λ (x : ℕ). isUnlisted
-    (settingOfPattern logicTile (at-start .args .table .now) (at-start .args .g) x)) (at-read-pattern .read-pattern .ensures)
+    let at-read-group = c .before .before in
+    sym (ap isUnlisted (sym (at-read-group .read-group .ensures) ∙ c .enum-told .given .1))
+
+returns-2 : tie.Need-returns-2
+returns-2 c =
+    let at-read-group = c .before .before in
+    sym (ap isUnlisted (sym (at-read-group .read-group .ensures) ∙ c .enum-told2 .given .1))
 
 pub is-unlisted-spec : {M : Type 1} → statement M
-is-unlisted-spec = tie.close (tie.spec read-pattern-requires is-listed-requires returns)
+is-unlisted-spec = tie.close (tie.spec read-group-requires enum-told enum-told-2 returns returns-2)

@@ -1,11 +1,11 @@
--- `tile_fault` meets its contract: 864 where all set bits are in order, else a search. Invariant: the search from p on gives what the search from 0 gives.
--- Measure: the positions left. Assumes nothing.
+-- `tile_fault` meets its contract. Invariant: the search from p on gives what the search from 0 gives. Measure: the positions left.
+-- Assumes nothing.
 use mathlib.Core.Path.{_≡_, refl, sym, _∙_}
 use Prim.Native.Nat.{_-_, _≤_}
 use native.Mathlib.Omega.{arith}
 use borrow.Author.Needs.{needs}
-use Rattle.lists.specs.Search.{first}
 use Rattle.lists.proofs.SearchLaws.{first-turn-hit, first-turn-skip, first-turn-end}
+use Rattle.lists.specs.Search.{first}
 use Rattle.codec.specs.Fault.{faultAt}
 use Rattle.codec.proofs.tile.tile_fault.Statement.{statement}
 use Rattle.codec.proofs.tile.tile_fault.Tie as tie
@@ -16,25 +16,16 @@ Inv-loop table own bits p₀ p = (p ≤ 864) × (first (faultAt table bits) p (8
 abbrev μ-loop : tie.MeasureT-loop
 μ-loop table own bits p₀ p = 864 - p
 
-is-quiet-requires : tie.Need-is-quiet-requires Inv-loop μ-loop
-is-quiet-requires c κs = search needs
-
-returns : tie.Need-returns Inv-loop μ-loop
-returns c =
-    let at-is-quiet = c .before in
-    sym (at-is-quiet .is-quiet .ensures (c .if1 .taken))
-
 loop-holds : tie.Need-loop-holds Inv-loop μ-loop
 loop-holds c = (omega arith, refl)
 
 is-fault-at-requires : tie.Need-is-fault-at-requires Inv-loop μ-loop
 is-fault-at-requires c κs = search needs
 
-returns-2 : tie.Need-returns-2 Inv-loop μ-loop
-returns-2 c =
+returns : tie.Need-returns Inv-loop μ-loop
+returns c =
     let at-loop = c .before .before .before in
-    let at-is-fault-at = c .before in
-    first-turn-hit _ _ _ _ (at-loop .loop .inv .1) (omega arith) (sym (at-is-fault-at .is-fault-at .ensures) ∙ c .if2 .taken)
+    first-turn-hit _ _ _ _ (at-loop .loop .inv .1) (omega arith) (sym (c .before .is-fault-at .ensures) ∙ c .if1 .taken)
 
 add-p : tie.Need-add-p Inv-loop μ-loop
 add-p c = search needs
@@ -45,13 +36,10 @@ loop-less c = search needs
 loop-again : tie.Need-loop-again Inv-loop μ-loop
 loop-again c =
     let at-loop = c .before .before .before in
-    let at-is-fault-at = c .before in
-    (omega arith, first-turn-skip _ _ _ _ (at-loop .loop .inv .1) (omega arith) (sym (at-is-fault-at .is-fault-at .ensures) ∙ c .if2 .left))
+    (omega arith, first-turn-skip _ _ _ _ (at-loop .loop .inv .1) (omega arith) (sym (c .before .is-fault-at .ensures) ∙ c .if1 .left))
 
-returns-3 : tie.Need-returns-3 Inv-loop μ-loop
-returns-3 c =
-    let at-loop = c .before in
-    first-turn-end _ _ _ _ (at-loop .loop .inv .1) (omega arith)
+returns-2 : tie.Need-returns-2 Inv-loop μ-loop
+returns-2 c = first-turn-end _ _ _ _ (c .before .loop .inv .1) (omega arith)
 
 pub tile-fault-spec : {M : Type 1} → statement M
 tile-fault-spec =
@@ -59,12 +47,10 @@ tile-fault-spec =
     (tie.spec
     Inv-loop
     μ-loop
-    is-quiet-requires
-    returns
     loop-holds
     is-fault-at-requires
-    returns-2
+    returns
     add-p
     loop-less
     loop-again
-    returns-3)
+    returns-2)

@@ -3,10 +3,11 @@
 use mathlib.Core.Path.{_≡_, sym, subst}
 use mathlib.Core.Bool.{true, false, not}
 use mathlib.Core.List.{List}
-use Prim.Native.Nat.{ℕ, _*_, _<_}
+use Prim.Native.Nat.{ℕ, _*_, _<_, _≤_}
 use native.Mathlib.Omega.{arith}
 use borrow.Author.Tests.{ltb-true, ltb-false, le-ltb, not-true, not-false}
-use lib.ListN.{length}
+use lib.ListN.{length, take}
+use lib.Seq.{length-take-le}
 use Rattle.lists.proofs.CaseLaws.{clash}
 use Rattle.lists.proofs.SearchLaws.{first-le, first-true, first-before}
 use Rattle.lists.proofs.PartLaws.{part-length, joined-length, part-joined}
@@ -27,7 +28,7 @@ use Rattle.codec.proofs.TileRunLaws.{slot-value-lt}
 use Rattle.codec.proofs.FaultyLaws.{tile-fault-exact, tile-fault-lowest}
 use Rattle.codec.proofs.ReadingLaws.{decode-reads, settings-fit-exact}
 use Rattle.codec.proofs.SettingsBack.{settings-back, encode-decodable}
-use Rattle.config.specs.Blocks.{bitsAt, settingsAt, undecodableAt, undecodableTile, decodedAt, decoded, bitlessAt, bitlessTile, encodedAt, encoded}
+use Rattle.config.specs.Blocks.{bitsAt, settingsAt, roomLength, undecodableAt, undecodableTile, decodedAt, decoded, bitlessAt, bitlessTile, encodedAt, encoded}
 use Rattle.config.specs.Facts.{LowestUndecodable, LowestBitless, TilesRead}
 
 -- the bits, and the settings, of a tile have a tile's length
@@ -37,6 +38,10 @@ bits-at-length bits n t e h = part-length tileBytes t n bits e (omega arith)
 pub settings-at-length : (settings : List ℕ) (n t : ℕ) → length settings ≡ settingsLength logicTile * n → t < n
     → length (settingsAt settings t) ≡ settingsLength logicTile
 settings-at-length settings n t e h = part-length (settingsLength logicTile) t n settings e (omega arith)
+
+-- the front of the room that reading decodes into, as long as the settings of n tiles
+pub front-length : (n k : ℕ) (room : List ℕ) → n ≤ 64 → k ≡ settingsLength logicTile * n → length room ≡ roomLength → length (take k room) ≡ k
+front-length n k room few e long = length-take-le k room (omega arith)
 
 -- ---- bits to settings
 

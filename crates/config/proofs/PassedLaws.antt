@@ -46,7 +46,7 @@ checks-cases true true true false part last P a b c d e = d refl refl refl refl
 checks-cases true true true true part last P a b c d e = e refl refl refl refl
 
 -- a no is not a yes
-refused-not-done : {A : Type 0} {r : Refusal} → Refused r ≡ Done → A
+pub refused-not-done : {A : Type 0} {r : Refusal} → Refused r ≡ Done → A
 refused-not-done e = let z : _≡_ {A = ℕ} 0 1 = cc in absurd (omega arith)
 
 -- a yes has passed every test

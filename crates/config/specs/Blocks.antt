@@ -1,5 +1,5 @@
 -- A block's bits and settings: those of its tiles, one after another, by the tiles' index.
-use Prim.Native.Nat.{ℕ}
+use Prim.Native.Nat.{ℕ, _*_}
 use mathlib.Core.Bool.{Bool, not}
 use mathlib.Core.List.{List}
 use lib.Dec.{ltb}
@@ -19,6 +19,10 @@ bitsAt bits t = part tileBytes t bits
 
 abbrev pub settingsAt : List ℕ → ℕ → List ℕ
 settingsAt settings t = part (settingsLength logicTile) t settings
+
+-- the settings of the largest block, 64 tiles
+abbrev pub roomLength : ℕ
+roomLength = settingsLength logicTile * 64
 
 module _ (table : List ℕ) where
   -- tile t cannot be decoded

@@ -15,16 +15,21 @@ use codec::bits::TILE_BYTES;
 use codec::settings::SETTINGS_LENGTH;
 use routing::table::POSITIONS;
 
-// The lowest tile that cannot be decoded; n where all can.
-pub fn undecodable_tile(table: &[u16], own: &[u16], bits: &[u8], n: usize) -> usize
-    requires { ⌜ (n ≤ 64) × TableRules logicTile (now table) × TableOwned logicTile (now table) (slotCount logicTile) (now own) × (length (now bits) ≡ tileBytes * n) ⌝ }
-    ensures { λ r. ⌜ r ≡ undecodableTile (now (table .entry)) (now (bits .entry)) n ⌝ }
+// The lowest tile that cannot be decoded; where all n can, n with their settings.
+pub fn read_block(table: &[u16], own: &[u16], bits: &[u8], settings: &mut [u16], n: usize) -> usize
+    requires { ⌜ (n ≤ 64) × TableRules logicTile (now table) × TableOwned logicTile (now table) (slotCount logicTile) (now own) × (length (now bits) ≡ tileBytes * n) × (length (now settings) ≡ settingsLength logicTile * n) ⌝ }
+    ensures tile { λ r. ⌜ r ≡ undecodableTile (now (table .entry)) (now (bits .entry)) n ⌝ }
+    ensures settings { λ r. ⌜ (r ≡ n → now (settings .exit) ≡ decoded (now (table .entry)) (now (bits .entry)) n) ⌝ }
 {
     let mut t = 0;
     while t < n {
         let from = TILE_BYTES * t;
         let to = from + TILE_BYTES;
-        if codec::tile::tile_fault(table, own, &bits[from..to]) < POSITIONS {
+        let start = SETTINGS_LENGTH * t;
+        let end = start + SETTINGS_LENGTH;
+        if codec::tile::read_tile(table, own, &bits[from..to], &mut settings[start..end])
+            < POSITIONS
+        {
             return t;
         }
         t += 1;

@@ -1,6 +1,10 @@
 // The checks of the entry points, in their orders. They are given the length of an output and not the output, so they cannot write it.
 ghost use mathlib.Core.Path.{_≡_};
 ghost use Prim.Native.Nat.{_≤_};
+ghost use lib.ListN.{length, take};
+ghost use Rattle.refusal.specs.declared.Answer.the-variants.{Done};
+ghost use Rattle.fabric.specs.Block.{block, tiles};
+ghost use Rattle.config.specs.Blocks.{roomLength, decoded};
 ghost use Rattle.config.specs.Entry.{lengthsOk, readAnswer, writeAnswer};
 use codec::bits::TILE_BYTES;
 use codec::settings::SETTINGS_LENGTH;
@@ -24,8 +28,18 @@ fn lengths_ok(n: usize, table: usize, bits: usize, settings: usize) -> bool
     settings == SETTINGS_LENGTH * n
 }
 
-pub fn read_checks(w: u32, h: u32, table: &[u16], bits: &[u8], settings: usize) -> Answer
-    ensures { λ r. ⌜ r ≡ readAnswer w h (now (table .entry)) (now (bits .entry)) settings ⌝ }
+// On a yes the front of the room, as long as the output, holds the settings.
+pub fn read_checks(
+    w: u32,
+    h: u32,
+    table: &[u16],
+    bits: &[u8],
+    settings: usize,
+    room: &mut [u16],
+) -> Answer
+    requires { ⌜ length (now room) ≡ roomLength ⌝ }
+    ensures answer { λ r. ⌜ r ≡ readAnswer w h (now (table .entry)) (now (bits .entry)) settings ⌝ }
+    ensures room { λ r. ⌜ (r ≡ Done → take settings (now (room .exit)) ≡ decoded (now (table .entry)) (now (bits .entry)) (tiles (block w h))) ⌝ }
 {
     if !fabric::is_sized(Block { w, h }) {
         return Answer::Refused(Refusal::Size);
@@ -40,7 +54,7 @@ pub fn read_checks(w: u32, h: u32, table: &[u16], bits: &[u8], settings: usize) 
     if part != parts {
         return Answer::Refused(Refusal::Table(part as u32));
     }
-    let t = crate::blocks::undecodable_tile(table, &own, bits, n);
+    let t = crate::blocks::read_block(table, &own, bits, &mut room[..settings], n);
     if t < n {
         return Answer::Refused(Refusal::Undecodable(t as u32));
     }

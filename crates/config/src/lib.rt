@@ -18,6 +18,7 @@ use refusal::Refusal;
 
 pub mod blocks;
 mod checks;
+mod room;
 
 // How many bits of a tile are set, or why that is not said.
 pub enum BitCount {
@@ -33,11 +34,12 @@ pub fn read(w: u32, h: u32, table: &[u16], bits: &[u8], settings: &mut [u16]) ->
     ensures says { λ r. ⌜ ReadSays w h (now (table .entry)) (now (bits .entry)) (now (settings .entry)) (now (settings .exit)) r ⌝ }
 {
     let len = settings.len();
-    let can_read = checks::read_checks(w, h, table, bits, len);
+    let mut room = room::settings_room();
+    let can_read = checks::read_checks(w, h, table, bits, len, &mut room);
     let Answer::Done = can_read else {
         return can_read;
     };
-    blocks::decode_block(table, bits, settings, (h * w) as usize);
+    room::copy(&room[..len], settings);
     Answer::Done
 }
 

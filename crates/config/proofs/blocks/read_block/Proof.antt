@@ -1,0 +1,164 @@
+-- `config::blocks::read_block` meets its contract. Invariant: the search from t on finds what the search from 0 finds, and the first t parts of the
+-- settings are those that were decoded. Measure: the tiles that are left. Assumes nothing.
+use mathlib.Core.Path.{_≡_, refl, sym, ap, _∙_}
+use Prim.Native.Nat.{ℕ, _+_, _-_, _*_, _≤_}
+use native.Mathlib.Nat.{sub-zero}
+use native.Mathlib.Omega.{arith}
+use borrow.Author.Needs.{needs}
+use borrow.Author.Tests.{lt-ltb, le-ltb}
+use lib.ListN.{length, take, drop}
+use Rattle.lists.proofs.PartLaws.{part-size, part-code-length, put-length, joined-step, joined-end}
+use Rattle.lists.proofs.SearchLaws.{first-le, first-turn-hit, first-turn-skip, first-turn-end}
+use Rattle.lists.specs.Parts.{joined}
+use Rattle.lists.specs.Search.{first}
+use Rattle.routing.specs.LogicTile.{logicTile}
+use Rattle.codec.specs.Bits.{tileBytes}
+use Rattle.codec.specs.Decode.{decode}
+use Rattle.codec.specs.Fault.{faultAt, tileFault}
+use Rattle.codec.specs.Settings.{settingsLength}
+use Rattle.config.specs.Blocks.{undecodableAt, decodedAt}
+use Rattle.config.proofs.blocks.read_block.Statement.{statement}
+use Rattle.config.proofs.blocks.read_block.Tie as tie
+
+abbrev Inv-loop : tie.InvT-loop
+Inv-loop table own bits settings₀ n t₀ settings t =
+    (t ≤ n) × (first (undecodableAt table bits) t (n - t) ≡ first (undecodableAt table bits) 0 n) × (length settings ≡ settingsLength logicTile * n) × (take (settingsLength logicTile * t) settings ≡ joined (decodedAt table bits) t)
+
+abbrev μ-loop : tie.MeasureT-loop
+μ-loop table own bits settings₀ n t₀ settings t = n - t
+
+loop-holds : tie.Need-loop-holds Inv-loop μ-loop
+unfolding joined
+loop-holds c =
+    let at-start = c .before .before .before .before in
+    (omega arith, simp sub-zero, at-start .pre .4, refl)
+
+mul-from : tie.Need-mul-from Inv-loop μ-loop
+mul-from c = search needs
+
+add-to : tie.Need-add-to Inv-loop μ-loop
+add-to c = search needs
+
+mul-start : tie.Need-mul-start Inv-loop μ-loop
+mul-start c = search needs
+
+add-end : tie.Need-add-end Inv-loop μ-loop
+add-end c = search needs
+
+sub-read-tile : tie.Need-sub-read-tile Inv-loop μ-loop
+sub-read-tile c = search needs
+
+part-read-tile-start : tie.Need-part-read-tile-start Inv-loop μ-loop
+part-read-tile-start c = search needs
+
+part-read-tile-end : tie.Need-part-read-tile-end Inv-loop μ-loop
+part-read-tile-end c = search needs
+
+mul-read-tile : tie.Need-mul-read-tile Inv-loop μ-loop
+mul-read-tile c = search needs
+
+sub-read-tile-2 : tie.Need-sub-read-tile-2 Inv-loop μ-loop
+sub-read-tile-2 c = search needs
+
+part-read-tile-start-2 : tie.Need-part-read-tile-start-2 Inv-loop μ-loop
+part-read-tile-start-2 c = search needs
+
+part-read-tile-end-2 : tie.Need-part-read-tile-end-2 Inv-loop μ-loop
+part-read-tile-end-2 c = search needs
+
+read-tile-requires : tie.Need-read-tile-requires Inv-loop μ-loop
+read-tile-requires c κs =
+    let at-loop = c .before .before .before in
+    let at-start = at-loop .before .before .before .before .before in
+    let args = at-start .args in
+    let t = at-loop .loop .t in
+    (at-start .pre .1, at-start .pre .2, part-code-length tileBytes t (args .n) (args .bits .now) (at-start .pre .3) (omega arith), part-code-length (settingsLength logicTile) t (args .n) (at-loop .loop .settings) (at-loop .loop .inv .2) (omega arith))
+
+same-length : tie.Need-same-length Inv-loop μ-loop
+same-length c =
+    let at-read-tile = c .before .before .before in
+    let at-loop = at-read-tile .before .before .before .before in
+    let at-start = at-loop .before .before .before .before .before in
+    let args = at-start .args in
+    let t = at-loop .loop .t in
+    let settings = at-loop .loop .settings in
+    let long = at-read-tile .read-tile .kept .1 .1 .1 .0 ∙ part-code-length (settingsLength logicTile) t (args .n) settings (at-loop .loop .inv .2) (omega arith) in
+    put-length (settingsLength logicTile) t settings (at-read-tile .read-tile .last .1 .1 .1 .0) (omega arith) long ∙ at-loop .loop .inv .2 ∙ sym (at-start .pre .4)
+
+-- tile t is the lowest
+returns : tie.Need-returns Inv-loop μ-loop
+unfolding undecodableAt
+returns c =
+    let at-read-tile = c .before .before .before in
+    let at-loop = at-read-tile .before .before .before .before in
+    let at-start = at-loop .before .before .before .before .before in
+    let args = at-start .args in
+    let t = at-loop .loop .t in
+    let fault = at-read-tile .read-tile .ensures .0 ∙ ap (λ (x : ℕ). tileFault (args .table .now) (take x (drop (tileBytes * t) (args .bits .now)))) (part-size tileBytes t) in
+    (first-turn-hit _ _ _ _ (at-loop .loop .inv .1) (omega arith) (lt-ltb _ (logicTile .positions) (rw fault at (c .if1 .taken))), λ e. absurd (omega arith))
+
+add-t : tie.Need-add-t Inv-loop μ-loop
+add-t c = search needs
+
+loop-less : tie.Need-loop-less Inv-loop μ-loop
+loop-less c = search needs
+
+loop-again : tie.Need-loop-again Inv-loop μ-loop
+unfolding undecodableAt decodedAt
+loop-again c =
+    let at-read-tile = c .before .before .before in
+    let at-loop = at-read-tile .before .before .before .before in
+    let at-start = at-loop .before .before .before .before .before in
+    let args = at-start .args in
+    let t = at-loop .loop .t in
+    let table = args .table .now in
+    let bits = args .bits .now in
+    let settings = at-loop .loop .settings in
+    let part = at-read-tile .read-tile .last .1 .1 .1 .0 in
+    let long = at-read-tile .read-tile .kept .1 .1 .1 .0 ∙ part-code-length (settingsLength logicTile) t (args .n) settings (at-loop .loop .inv .2) (omega arith) in
+    let fault = at-read-tile .read-tile .ensures .0 ∙ ap (λ (x : ℕ). tileFault table (take x (drop (tileBytes * t) bits))) (part-size tileBytes t) in
+    let none = rw fault at (c .if1 .left) in
+    let read = at-read-tile .read-tile .ensures .1 (omega (arith, fault, first-le (faultAt table (take tileBytes (drop (tileBytes * t) bits))) 0 864)) ∙ ap (λ (x : ℕ). decode table (take x (drop (tileBytes * t) bits))) (part-size tileBytes t) in
+    (omega arith, first-turn-skip _ _ _ _ (at-loop .loop .inv .1) (omega arith) (le-ltb _ (logicTile .positions) none), put-length (settingsLength logicTile) t settings part (omega arith) long ∙ at-loop .loop .inv .2, joined-step (settingsLength logicTile) (decodedAt table bits) t settings part (omega arith) long (at-loop .loop .inv .3) read (settingsLength logicTile * (t + 1)) (omega arith))
+
+same-length-2 : tie.Need-same-length-2 Inv-loop μ-loop
+same-length-2 c =
+    let at-loop = c .before in
+    let at-start = at-loop .before .before .before .before .before in
+    at-loop .loop .inv .2 ∙ sym (at-start .pre .4)
+
+-- there is none
+returns-2 : tie.Need-returns-2 Inv-loop μ-loop
+returns-2 c =
+    let at-loop = c .before in
+    let at-start = at-loop .before .before .before .before .before in
+    let args = at-start .args in
+    let t = at-loop .loop .t in
+    (first-turn-end _ _ _ _ (at-loop .loop .inv .1) (omega arith), λ e. joined-end (decodedAt (args .table .now) (args .bits .now)) t _ (settingsLength logicTile * t) (at-loop .loop .settings) (at-loop .loop .inv .3) e (omega arith))
+
+pub read-block-spec : {M : Type 1} → statement M
+read-block-spec =
+    tie.close
+    (tie.spec
+    Inv-loop
+    μ-loop
+    loop-holds
+    mul-from
+    add-to
+    mul-start
+    add-end
+    sub-read-tile
+    part-read-tile-start
+    part-read-tile-end
+    mul-read-tile
+    sub-read-tile-2
+    part-read-tile-start-2
+    part-read-tile-end-2
+    read-tile-requires
+    same-length
+    returns
+    add-t
+    loop-less
+    loop-again
+    same-length-2
+    returns-2)

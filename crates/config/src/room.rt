@@ -1,0 +1,25 @@
+// Room for the settings of the largest block, 8 by 8: reading decodes into it, for a block may turn out to have none when its last tile is met.
+ghost use mathlib.Core.Path.{_≡_};
+ghost use lib.ListN.{length};
+ghost use Rattle.config.specs.Blocks.{roomLength};
+
+const SETTINGS: usize = 38080;
+
+// Room of zeros. The promise gives the length alone, which is what lending a part of it asks for.
+pub fn settings_room() -> [u16; SETTINGS]
+    ensures { λ r. ⌜ roomLength ≡ length r ⌝ }
+{
+    [0; SETTINGS]
+}
+
+// The same numbers in a slice of the same length.
+pub fn copy(from: &[u16], to: &mut [u16])
+    requires { ⌜ length (now from) ≡ length (now to) ⌝ }
+    ensures { λ r. ⌜ now (to .exit) ≡ now (from .entry) ⌝ }
+{
+    let mut i = 0;
+    while i < to.len() {
+        to[i] = from[i];
+        i += 1;
+    }
+}

@@ -10,7 +10,7 @@ pub mod WireRowLaws  -- row-is, own-exact, rows-named: the list of rows, row by 
 pub mod RowReasons  -- why: the row of each wire, with the reason for it. row-switch, row-port, row-cell: the row that a sentence gives
 pub mod SwitchLaws  -- driver-ends, driver-none, driver-is: the switch that drives a wire. cell-free: none ends where a cell does
 pub mod DriveLaws  -- drive-wire: a wire's drive is that of each of its ports. join-drive: each join keeps it
-pub mod RoleLaws  -- role-all: what a port's drive says of the port
-pub mod PortKindLaws  -- open and constant ports; ports that no switch may end on
+pub mod RoleLaws  -- role-all: what a port's drive says of the port. span-drive, input-drive: the drives of spans and inputs
+pub mod PortKindLaws  -- open and constant ports; ports that a switch may end on, and those that none may
 pub mod DriveAtLaws  -- the arms of `drive_at`
 pub mod RowFromLaws  -- wires-at: a port's wire from the list of wires. The cases of `row_of`

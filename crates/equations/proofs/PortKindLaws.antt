@@ -1,13 +1,13 @@
--- Ports by what the equations say of them: open ports, constant ports, and ports that no switch may end on (`no-destination`). Main laws: `open-zero`,
--- `open-cen` (no open port is a constant one), `open-lt`, `zero-lt` (both are ports of a tile).
+-- Ports by what the equations say of them: open ports, constant ports, and ports that a switch may end on (`destination`) or not
+-- (`no-destination`). Main laws: `open-zero`, `open-cen` (no open port is a constant one), `open-lt`, `zero-lt` (both are ports of a tile).
 use Prim.Native.Nat.{ℕ, _+_, _-_, _≤_, _<_}
 use mathlib.Core.Path.{_≡_, subst}
-use mathlib.Core.Bool.{false}
+use mathlib.Core.Bool.{true, false}
 use mathlib.Core.Logic.{_⊎_, inl, inr}
 use native.Mathlib.Omega.{arith}
 use native.Mathlib.Nat.{zero-add}
 use lib.Dec.{leb}
-use borrow.Author.Tests.{le-ltb, lt-leb}
+use borrow.Author.Tests.{lt-ltb, le-ltb, lt-leb}
 use Rattle.lists.proofs.CaseLaws.{and-false-right}
 use Rattle.fabric.specs.Block.{portsPerTile}
 use Rattle.fabric.specs.PortIndex.{cen}
@@ -20,13 +20,17 @@ span-open q h = subst OpenPort (zero-add q) (span-port q h)
 pub neigh-open : (q : ℕ) → 412 ≤ q → q < 476 → OpenPort q
 neigh-open q h g = let e : 412 + (q - 412) ≡ q = omega arith in subst OpenPort e (neigh-op-port (q - 412) (omega arith))
 
+pub destination : (q : ℕ) → q < 404 → isDestination q ≡ true
+unfolding isDestination
+destination q h = rw (lt-ltb q 404 h)
+
 pub no-destination : (q : ℕ) → 404 ≤ q → (q < 476) ⊎ (478 < q) → isDestination q ≡ false
 unfolding isDestination
 no-destination q h (inl l) = rw (le-ltb q 404 h, lt-leb 476 q l)
 no-destination q h (inr l) = rw (le-ltb q 404 h) (and-false-right (leb 476 q) _ (lt-leb q 478 l))
 
 -- an open port is no constant one, and both are ports of a tile
-open-low : {q : ℕ} → OpenPort q → 336 ≤ q → q < 404 → ⊥
+pub open-low : {q : ℕ} → OpenPort q → 336 ≤ q → q < 404 → ⊥
 open-low (span-port k h) a b = omega arith
 open-low (neigh-op-port k h) a b = omega arith
 open-low (glb-netwk-port k h) a b = omega arith

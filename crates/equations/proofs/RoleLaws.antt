@@ -1,4 +1,5 @@
--- What a port's drive says of the port. Main law: `role-all`, from a case for each kind of port in `role-at`.
+-- What a port's drive says of the port. Main law: `role-all`, from a case for each kind of port in `role-at`. Of it follow the drives that are known from the
+-- port's place in its tile: `span-drive`, `input-drive`.
 use Prim.Native.Nat.{ℕ, zero, suc, _+_, _*_, _/_, _%_, _≤_, _<_}
 use mathlib.Core.Path.{_≡_, refl, sym, _∙_, subst}
 use mathlib.Core.Bool.{Bool, true, false, cond, _&&_}
@@ -12,7 +13,7 @@ use Rattle.fabric.specs.declared.Block.{Block}
 use Rattle.fabric.specs.declared.ports.Port.{Port}
 use Rattle.fabric.specs.declared.ports.Port.the-variants.{Sp4HL, Sp4HR, Sp4VT, Sp4VB, Sp4RVB, Sp12HL, Sp12HR, Sp12VT, Sp12VB, Local, Glb2Local, In, Out, NeighOp, Clk, Cen, SR, GlbNetwk, CarryIn, CarryInMux, Cout, Lout, Ltin}
 use Rattle.fabric.specs.Block.{port, ports, portOf, portsPerTile, tiles}
-use Rattle.fabric.specs.PortIndex.{outPort, coutPort, loutPort, carryIn, carryInMux, ltin, cen, outputAt}
+use Rattle.fabric.specs.PortIndex.{localPort, outPort, coutPort, loutPort, carryIn, carryInMux, ltin, cen, outputAt}
 use Rattle.fabric.specs.Ports.{portAt}
 use Rattle.fabric.specs.PortNames.{indexOf, Neighbour, Within}
 use Rattle.fabric.specs.Joins.{carry-chain, lut-cascade}
@@ -27,7 +28,7 @@ use Rattle.equations.specs.declared.drives.Drive.{Drive}
 use Rattle.equations.specs.declared.drives.Drive.the-variants.{Nothing, Low, High, CellOut, CellLout, CellCout, CarryMux}
 use Rattle.equations.specs.Equations.{ZeroPort, in-port, clk-port, s-r-port, local-port, glb2local-port, OpenPort, glb-netwk-port, carry-in-port, ltin-port}
 use Rattle.equations.specs.Drives.{outputDrive, belowDrive, driveAt, driveOf}
-use Rattle.equations.proofs.PortKindLaws.{span-open, neigh-open, no-destination}
+use Rattle.equations.proofs.PortKindLaws.{span-open, neigh-open, destination, no-destination, open-low, open-zero, open-cen}
 
 -- ---- what a drive says
 
@@ -167,3 +168,31 @@ module _ (B : Block) where
       let hq : p % portsPerTile < portsPerTile = omega arith in
       subst (λ (r : ℕ). Role B r q (driveAt B x y (portAt q))) (port-place B p h)
       (rw (port-at-back q hq) at (role-at x (tile-column-lt B p h) y (tile-row-lt B p h) (portAt q) (port-at-within q hq)))
+
+  -- ---- the drives that are known from the port's place in its tile
+
+  module _ (p : ℕ) (h : p < ports B) where
+    pub span-drive : p % portsPerTile < localPort 0 → Nothing ≡ driveOf B p
+    span-drive l = go (driveOf B p) (role-all p h)
+      where
+        go : (d : Drive) → Role B p (p % portsPerTile) d → Nothing ≡ d
+        go Nothing r = refl
+        go Low r = absurd (open-zero (span-open _ l) r)
+        go High r = absurd (open-cen (span-open _ l) r)
+        go (CellOut T i) r = clash (destination _ (omega arith)) (r .no-end)
+        go (CellLout T i) r = clash (destination _ (omega arith)) (r .no-end)
+        go (CellCout T i) r = clash (destination _ (omega arith)) (r .no-end)
+        go (CarryMux T) r = clash (destination _ (omega arith)) (r .no-end)
+
+    -- local, glb2local and in
+    pub input-drive : localPort 0 ≤ p % portsPerTile → p % portsPerTile < outPort 0 → Low ≡ driveOf B p
+    input-drive g l = go (driveOf B p) (role-all p h)
+      where
+        go : (d : Drive) → Role B p (p % portsPerTile) d → Low ≡ d
+        go Nothing r = absurd (open-low r g l)
+        go Low r = refl
+        go High r = absurd (omega arith)
+        go (CellOut T i) r = clash (destination _ l) (r .no-end)
+        go (CellLout T i) r = clash (destination _ l) (r .no-end)
+        go (CellCout T i) r = clash (destination _ l) (r .no-end)
+        go (CarryMux T) r = clash (destination _ l) (r .no-end)

@@ -6,6 +6,8 @@ ghost use Rattle.fabric.specs.PortNames.{Within};
 ghost use Rattle.equations.specs.declared.drives.Drive.the-variants.{CellLout, CellCout};
 ghost use Rattle.equations.specs.Drives.{outputDrive, belowDrive, driveAt, driveOf};
 use fabric::Block;
+use fabric::ports::LOCAL;
+use fabric::ports::OUT;
 use fabric::ports::PORTS_PER_TILE;
 use fabric::ports::Port;
 use fabric::ports::port_at;
@@ -92,11 +94,20 @@ fn drive_at(b: Block, x: u32, y: u32, port: Port) -> Drive
     }
 }
 
-// What drives the wire of port p of a block.
+// What drives the wire of port p of a block. Most ports are spans, locals and inputs, whose drive is known by their place in the tile.
 pub fn drive_of(b: Block, p: u32) -> Drive
     requires { ⌜ Sized b × (p < ports b) ⌝ }
     ensures { λ r. ⌜ r ≡ driveOf b p ⌝ }
 {
+    let q = p % PORTS_PER_TILE;
+    // the spans
+    if q < LOCAL {
+        return Drive::Nothing;
+    }
+    // local, glb2local and in
+    if q < OUT {
+        return Drive::Low;
+    }
     let tile = p / PORTS_PER_TILE;
-    drive_at(b, tile % b.w, tile / b.w, port_at(p % PORTS_PER_TILE))
+    drive_at(b, tile % b.w, tile / b.w, port_at(q))
 }

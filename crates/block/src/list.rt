@@ -134,10 +134,9 @@ pub fn list_bits(
     if part != parts {
         return Built::Refused(Refusal::Table(part as u32));
     }
-    let tile = config::blocks::undecodable_tile(table, &own, bits, n);
+    let tile = config::blocks::read_block(table, &own, bits, settings, n);
     if tile < n {
         return Built::Refused(Refusal::Undecodable(tile as u32));
     }
-    config::blocks::decode_block(table, bits, settings, n);
     list_settings(b, table, settings, list, wires, sources, rows, marks, queue)
 }

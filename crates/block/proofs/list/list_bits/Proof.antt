@@ -7,7 +7,7 @@ use Rattle.equations.specs.Routed.{Routed}
 use Rattle.routing.proofs.TableCheckLaws.{table-exact}
 use Rattle.routing.specs.TableCheck.{breaks, faultyPart, partCount}
 use Rattle.routing.specs.LogicTile.{logicTile}
-use Rattle.config.specs.Blocks.{undecodableTile}
+use Rattle.config.specs.Blocks.{undecodableAt, undecodableTile}
 use Rattle.fabric.proofs.BlockLaws.{tiles-le}
 use Rattle.fabric.specs.Block.{tiles}
 use Rattle.refusal.specs.Memory.{output}
@@ -61,12 +61,12 @@ returns c =
     let table = at-start .args .table .now in
     (bits-table B table (at-start .args .bits .now) _ (at-check-table .check-table .ensures .0) (λ e. c .if1 .taken (e ∙ sym (ap (λ (x : ℕ). 2 + x) (at-group-count .group-count .ensures)))), refl)
 
-slice-aggregate-undecodable-tile : tie.Need-slice-aggregate-undecodable-tile
-slice-aggregate-undecodable-tile c = search needs
+slice-aggregate-read-block : tie.Need-slice-aggregate-read-block
+slice-aggregate-read-block c = search needs
 
-undecodable-tile-requires : tie.Need-undecodable-tile-requires
-undecodable-tile-requires c κs =
-    let at-if1 = c .before in
+read-block-requires : tie.Need-read-block-requires
+read-block-requires c κs =
+    let at-if1 = c .before .before in
     let at-group-count = at-if1 .before in
     let at-check-table = at-group-count .before .before in
     let at-start = at-check-table .before .before .before .before .before .before .before .before .before .before .before .before in
@@ -75,18 +75,21 @@ undecodable-tile-requires c κs =
     let passes = eq-eqb (faultyPart logicTile table) (partCount logicTile table) (sym (at-check-table .check-table .ensures .0) ∙ at-if1 .if1 .left ∙ ap (λ (x : ℕ). 2 + x) (at-group-count .group-count .ensures)) in
     let rules = table-exact logicTile table (at-start .pre .0 .1) .0 passes in
     let few = tiles-le B (at-start .pre .0 .0) in
-    (few, rules, at-check-table .check-table .ensures .1 passes, at-start .pre .0 .2)
+    (few, rules, at-check-table .check-table .ensures .1 passes, at-start .pre .0 .2, at-start .pre .0 .3)
 
-cast-t25 : tie.Need-cast-t25
-cast-t25 c =
-    let at-start = c .before .before .before .before .before .before .before .before .before .before .before .before .before .before .before .before .before .before in
+cast-t27 : tie.Need-cast-t27
+cast-t27 c =
+    let at-start = c .before .before .before .before .before .before .before .before .before .before .before .before .before .before .before .before .before .before .before .before .before in
     omega (arith, tiles-le (at-start .args .b) (at-start .pre .0 .0))
+
+same-length : tie.Need-same-length
+same-length c = search needs
 
 -- a tile cannot be decoded
 returns-2 : tie.Need-returns-2
 returns-2 c =
-    let at-undecodable-tile = c .before in
-    let at-if1 = at-undecodable-tile .before .before in
+    let at-read-block = c .before .before .before in
+    let at-if1 = at-read-block .before .before .before in
     let at-group-count = at-if1 .before in
     let at-check-table = at-group-count .before .before in
     let at-start = at-check-table .before .before .before .before .before .before .before .before .before .before .before .before in
@@ -94,29 +97,13 @@ returns-2 c =
     let B = at-start .args .b in
     let bits = at-start .args .bits .now in
     let passes = eq-eqb (faultyPart logicTile table) (partCount logicTile table) (sym (at-check-table .check-table .ensures .0) ∙ at-if1 .if1 .left ∙ ap (λ (x : ℕ). 2 + x) (at-group-count .group-count .ensures)) in
-    let rules = table-exact logicTile table (at-start .pre .0 .1) .0 passes in
-    let few = tiles-le B (at-start .pre .0 .0) in
-    (bits-undecodable B table bits passes _ (at-undecodable-tile .undecodable-tile .ensures) (c .if2 .taken), refl)
-
-decode-block-requires : tie.Need-decode-block-requires
-decode-block-requires c κs =
-    let at-if1 = c .before .before .before .before in
-    let at-group-count = at-if1 .before in
-    let at-check-table = at-group-count .before .before in
-    let at-start = at-check-table .before .before .before .before .before .before .before .before .before .before .before .before in
-    let table = at-start .args .table .now in
-    let B = at-start .args .b in
-    let passes = eq-eqb (faultyPart logicTile table) (partCount logicTile table) (sym (at-check-table .check-table .ensures .0) ∙ at-if1 .if1 .left ∙ ap (λ (x : ℕ). 2 + x) (at-group-count .group-count .ensures)) in
-    let rules = table-exact logicTile table (at-start .pre .0 .1) .0 passes in
-    let few = tiles-le B (at-start .pre .0 .0) in
-    (few, rules, at-start .pre .0 .2, at-start .pre .0 .3)
+    (bits-undecodable B table bits passes _ (at-read-block .read-block .ensures .0) (c .if2 .taken), refl)
 
 list-settings-requires : tie.Need-list-settings-requires
 list-settings-requires c κs =
-    let at-decode-block = c .before .before .before .before .before .before .before .before .before in
-    let at-if2 = at-decode-block .before .before in
-    let at-undecodable-tile = at-if2 .before in
-    let at-if1 = at-undecodable-tile .before .before in
+    let at-if2 = c .before .before .before .before .before .before .before in
+    let at-read-block = at-if2 .before .before .before in
+    let at-if1 = at-read-block .before .before .before in
     let at-group-count = at-if1 .before in
     let at-check-table = at-group-count .before .before in
     let at-start = at-check-table .before .before .before .before .before .before .before .before .before .before .before .before in
@@ -125,12 +112,9 @@ list-settings-requires c κs =
     let bits = at-start .args .bits .now in
     let passes = eq-eqb (faultyPart logicTile table) (partCount logicTile table) (sym (at-check-table .check-table .ensures .0) ∙ at-if1 .if1 .left ∙ ap (λ (x : ℕ). 2 + x) (at-group-count .group-count .ensures)) in
     let rules = table-exact logicTile table (at-start .pre .0 .1) .0 passes in
-    let few = tiles-le B (at-start .pre .0 .0) in
-    let pass : tiles B ≤ undecodableTile table bits (tiles B) = omega (arith, at-undecodable-tile .undecodable-tile .ensures, at-if2 .if2 .left) in
-    (subst (λ (s : List ℕ). Routed B table s) (sym (at-decode-block .decode-block .ensures)) (routed-of-read B table bits (at-start .pre .0 .0) rules pass), at-start .pre .1)
-
-same-length : tie.Need-same-length
-same-length c = search needs
+    let pass : tiles B ≤ undecodableTile table bits (tiles B) = omega (arith, at-read-block .read-block .ensures .0, at-if2 .if2 .left) in
+    let read = at-read-block .read-block .ensures .1 (omega (arith, at-read-block .read-block .ensures .0, first-le (undecodableAt table bits) 0 (tiles B))) in
+    (subst (λ (s : List ℕ). Routed B table s) (sym read) (routed-of-read B table bits (at-start .pre .0 .0) rules pass), at-start .pre .1)
 
 same-length-2 : tie.Need-same-length-2
 same-length-2 c = search needs
@@ -150,14 +134,16 @@ same-length-6 c = search needs
 same-length-7 : tie.Need-same-length-7
 same-length-7 c = search needs
 
+same-length-8 : tie.Need-same-length-8
+same-length-8 c = search needs
+
 -- the answer for the settings that were read
 returns-3 : tie.Need-returns-3
 returns-3 c =
     let at-list-settings = c .before .before .before .before .before .before .before .before .before .before .before .before in
-    let at-decode-block = at-list-settings .before .before .before .before .before .before .before .before .before .before in
-    let at-if2 = at-decode-block .before .before in
-    let at-undecodable-tile = at-if2 .before in
-    let at-if1 = at-undecodable-tile .before .before in
+    let at-if2 = at-list-settings .before .before .before .before .before .before .before .before in
+    let at-read-block = at-if2 .before .before .before in
+    let at-if1 = at-read-block .before .before .before in
     let at-group-count = at-if1 .before in
     let at-check-table = at-group-count .before .before in
     let at-start = at-check-table .before .before .before .before .before .before .before .before .before .before .before .before in
@@ -166,10 +152,9 @@ returns-3 c =
     let bits = at-start .args .bits .now in
     let list = at-start .args .list .now in
     let passes = eq-eqb (faultyPart logicTile table) (partCount logicTile table) (sym (at-check-table .check-table .ensures .0) ∙ at-if1 .if1 .left ∙ ap (λ (x : ℕ). 2 + x) (at-group-count .group-count .ensures)) in
-    let rules = table-exact logicTile table (at-start .pre .0 .1) .0 passes in
-    let few = tiles-le B (at-start .pre .0 .0) in
-    let pass : tiles B ≤ undecodableTile table bits (tiles B) = omega (arith, at-undecodable-tile .undecodable-tile .ensures, at-if2 .if2 .left) in
-    (at-list-settings .list-settings .ensures .0 ∙ ap (listAnswer B table) (at-decode-block .decode-block .ensures) ∙ bits-list B table bits passes pass, at-list-settings .list-settings .ensures .1 ∙ ap (λ (s : List ℕ). output (builtNumber (at-list-settings .list-settings .result)) list (blockList B table s)) (at-decode-block .decode-block .ensures))
+    let pass : tiles B ≤ undecodableTile table bits (tiles B) = omega (arith, at-read-block .read-block .ensures .0, at-if2 .if2 .left) in
+    let read = at-read-block .read-block .ensures .1 (omega (arith, at-read-block .read-block .ensures .0, first-le (undecodableAt table bits) 0 (tiles B))) in
+    (at-list-settings .list-settings .ensures .0 ∙ ap (listAnswer B table) read ∙ bits-list B table bits passes pass, at-list-settings .list-settings .ensures .1 ∙ ap (λ (s : List ℕ). output (builtNumber (at-list-settings .list-settings .result)) list (blockList B table s)) read)
 
 pub list-bits-spec : {M : Type 1} → statement M
 list-bits-spec =
@@ -183,17 +168,17 @@ list-bits-spec =
     add-parts
     cast-t21
     returns
-    slice-aggregate-undecodable-tile
-    undecodable-tile-requires
-    cast-t25
-    returns-2
-    decode-block-requires
-    list-settings-requires
+    slice-aggregate-read-block
+    read-block-requires
+    cast-t27
     same-length
+    returns-2
+    list-settings-requires
     same-length-2
     same-length-3
     same-length-4
     same-length-5
     same-length-6
     same-length-7
+    same-length-8
     returns-3)

@@ -22,13 +22,14 @@ use netlist::schedule::Scheduled;
 use refusal::Refusal;
 use routing::table::POSITIONS;
 
-// Grounds 7 and 8 of a block that passed those before, from its rows, and the list.
+// Grounds 7 and 8 of a block that passed those before, from its rows, and the list. The clocks are looked at first, so that the room of the sources
+// serves the schedule; a loop still comes before them.
 fn list_rows(
     b: Block,
     table: &[u16],
     st: &[u16],
     wires: &[u16],
-    sources: &[u16],
+    sources: &mut [u16],
     rows: &[u16],
     list: &mut [u16],
     marks: &mut [u16],
@@ -42,11 +43,11 @@ fn list_rows(
 {
     let n = wires.len();
     let tiles = (b.h * b.w) as usize;
-    let s = netlist::schedule::schedule(rows, marks, queue);
+    let clocked = drivers::clocks::clocked_tile(b, st, wires, sources, marks);
+    let s = netlist::schedule::schedule(rows, marks, queue, sources);
     match s {
         Scheduled::Loop(wire) => Built::Refused(Refusal::Loop(wire as u32)),
         Scheduled::Listed(count) => {
-            let clocked = drivers::clocks::clocked_tile(b, st, wires, sources, marks);
             if clocked < tiles {
                 return Built::Refused(Refusal::CellClock(clocked as u32));
             }
@@ -62,7 +63,7 @@ fn list_sources(
     table: &[u16],
     st: &[u16],
     wires: &[u16],
-    sources: &[u16],
+    sources: &mut [u16],
     list: &mut [u16],
     rows: &mut [u16],
     marks: &mut [u16],

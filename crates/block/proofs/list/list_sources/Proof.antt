@@ -14,7 +14,7 @@ write-rows-requires c κs = search needs
 carry-read-wire-requires : tie.Need-carry-read-wire-requires
 carry-read-wire-requires c κs =
     let at-write-rows = c .before .before .before in
-    let at-start = at-write-rows .before .before .before .before .before .before .before .before .before .before in
+    let at-start = at-write-rows .before .before .before .before .before .before .before .before .before .before .before in
     let B = at-start .args .b in
     let table = at-start .args .table .now in
     let st = at-start .args .st .now in
@@ -23,20 +23,23 @@ carry-read-wire-requires c κs =
     let room = at-start .pre .1 .1 in
     (at-start .pre .0 .0, written)
 
-cast-t18 : tie.Need-cast-t18
-cast-t18 c =
-    let at-start = c .before .before .before .before .before .before .before .before .before .before .before .before .before .before .before in
+cast-t20 : tie.Need-cast-t20
+cast-t20 c =
+    let at-start = c .before .before .before .before .before .before .before .before .before .before .before .before .before .before .before .before in
     let room = at-start .pre .1 .1 in
     omega (arith, tiles-le (at-start .args .b) (at-start .pre .0 .0 .size), room .wires-long)
 
 same-length : tie.Need-same-length
 same-length c = search needs
 
+same-length-2 : tie.Need-same-length-2
+same-length-2 c = search needs
+
 -- a disabled carry is read
 returns : tie.Need-returns
 returns c =
     let at-carry-read-wire = c .before in
-    let at-start = at-carry-read-wire .before .before .before .before .before .before .before .before .before .before .before .before .before .before in
+    let at-start = at-carry-read-wire .before .before .before .before .before .before .before .before .before .before .before .before .before .before .before in
     let B = at-start .args .b in
     let table = at-start .args .table .now in
     let room = at-start .pre .1 .1 in
@@ -44,9 +47,9 @@ returns c =
 
 list-rows-requires : tie.Need-list-rows-requires
 list-rows-requires c κs =
-    let at-carry-read-wire = c .before .before .before .before .before in
+    let at-carry-read-wire = c .before .before .before .before .before .before in
     let at-write-rows = at-carry-read-wire .before .before .before .before in
-    let at-start = at-write-rows .before .before .before .before .before .before .before .before .before .before in
+    let at-start = at-write-rows .before .before .before .before .before .before .before .before .before .before .before in
     let B = at-start .args .b in
     let table = at-start .args .table .now in
     let st = at-start .args .st .now in
@@ -54,9 +57,6 @@ list-rows-requires c κs =
     let written = rows-written B table st sources _ (at-start .pre .1 .0 .1) (at-write-rows .write-rows .ensures) in
     let room = at-start .pre .1 .1 in
     ((at-start .pre .0 .0, at-start .pre .0 .1, omega (arith, at-carry-read-wire .carry-read-wire .ensures, room .wires-long)), ((at-start .pre .1 .0 .0, at-start .pre .1 .0 .1, written), record { list-long = room .list-long; wires-long = room .wires-long; sources-long = room .sources-long; rows-long = omega (arith, room .rows-long); marks-long = room .marks-long; queue-long = room .queue-long }))
-
-same-length-2 : tie.Need-same-length-2
-same-length-2 c = search needs
 
 same-length-3 : tie.Need-same-length-3
 same-length-3 c = search needs
@@ -67,6 +67,12 @@ same-length-4 c = search needs
 same-length-5 : tie.Need-same-length-5
 same-length-5 c = search needs
 
+same-length-6 : tie.Need-same-length-6
+same-length-6 c = search needs
+
+same-length-7 : tie.Need-same-length-7
+same-length-7 c = search needs
+
 returns-2 : tie.Need-returns-2
 returns-2 c = search needs
 
@@ -76,12 +82,14 @@ list-sources-spec =
     (tie.spec
     write-rows-requires
     carry-read-wire-requires
-    cast-t18
+    cast-t20
     same-length
+    same-length-2
     returns
     list-rows-requires
-    same-length-2
     same-length-3
     same-length-4
     same-length-5
+    same-length-6
+    same-length-7
     returns-2)

@@ -1,7 +1,7 @@
 -- The nine ports that show one output: the tile's own out and its neighbours' names. Main laws: `output-same`, `output-reach`.
 use Prim.Native.Nat.{ℕ, zero, suc, _+_, _-_, _≤_, _<_, min}
-use mathlib.Core.Path.{_≡_}
-use mathlib.Core.Bool.{true, _&&_, and-eq-true-iff}
+use mathlib.Core.Path.{_≡_, sym, _∙_}
+use mathlib.Core.Bool.{Bool, true, false, _&&_, and-eq-true-iff}
 use mathlib.Core.Logic.{_⊎_, inl, inr}
 use native.Mathlib.Omega.{arith}
 use native.Mathlib.Nat.{mul-le-mul-right, eq-or-lt-of-le}
@@ -93,3 +93,14 @@ module _ (B : Block) (i : ℕ) (hi : i < 8) where
           let v = and-eq-true-iff (leb 1 (x + dx)) (leb (x + dx) (B .w)) .0 (u .0) in
           let w = and-eq-true-iff (leb 1 (y + dy)) (leb (y + dy) (B .h)) .0 (u .1) in
           first-reach dx dy x y hdx hdy hx hy (leb-true _ _ (v .0)) (leb-true _ _ (v .1)) (leb-true _ _ (w .0)) (leb-true _ _ (w .1))
+
+-- ---- for the code that finds it, from the parts that it finds
+
+module _ (B : Block) (x y dx dy i : ℕ) where
+  pub output-wire-inside : {t : Bool} {u v m n q r : ℕ} → t ≡ inside B (x + dx) (y + dy) → t ≡ true → u ≡ x + dx - 2 → v ≡ y + dy - 2
+      → m ≡ min (x + dx) 2 → n ≡ min (y + dy) 2 → q ≡ outputAt m n i → r ≡ port B u v q → r ≡ outputWire B x y dx dy i
+  output-wire-inside is t eu ev em en eq er = rw (sym is ∙ t) (cc)
+
+  pub output-wire-outside : {t : Bool} {q r : ℕ} → t ≡ inside B (x + dx) (y + dy) → t ≡ false → q ≡ outputAt dx dy i → r ≡ port B x y q
+      → r ≡ outputWire B x y dx dy i
+  output-wire-outside is t eq er = rw (sym is ∙ t) (cc)

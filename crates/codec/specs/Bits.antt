@@ -1,11 +1,11 @@
 -- The bits of a tile in their lent form. Only this file, `src/bits.rt` and their laws know the form, and `bitsOf` (Encode.antt), which makes it.
-use Prim.Native.Nat.{ℕ, zero, suc, _/_, _%_, _<_, _^_}
+use Prim.Native.Nat.{ℕ, zero, suc, _+_, _/_, _%_, _<_, _^_}
 use mathlib.Core.Bool.{Bool}
 use mathlib.Core.List.{List}
 use lib.Dec.{eqb}
 use lib.ListN.{getD, set}
 use Rattle.lists.specs.Search.{all, count}
-use Rattle.digits.specs.Digits.{digit, setDigit}
+use Rattle.digits.specs.Digits.{digit, setDigit, fromDigits}
 
 -- how many positions stand in one lent number, and how many numbers a tile is: "A tile is 108 bytes"
 abbrev pub unit : ℕ
@@ -32,6 +32,10 @@ setBit bits p v = setBitIn unit bits p v
 unfoldable pub setBits : List ℕ → (ℕ → ℕ) → ℕ → ℕ → List ℕ
 setBits bits at v zero = bits
 setBits bits at v (suc n) = setBit (setBits bits at v n) (at n) (digit v n)
+
+-- the ten bits from position p on as one number, the first with weight 1
+abbrev pub tenFrom : List ℕ → ℕ → ℕ
+tenFrom bits p = fromDigits (λ (k : ℕ). bitAt bits (p + k)) 10
 
 -- each lent number has `unit` digits
 abbrev pub Bytes : List ℕ → Type 0

@@ -1,8 +1,8 @@
 // The bits of a tile, by position. Only this file knows in which form they are lent (specs/Bits.antt).
 ghost use mathlib.Core.Path.{_≡_};
-ghost use Prim.Native.Nat.{_/_, _<_};
+ghost use Prim.Native.Nat.{_+_, _/_, _%_, _<_, _≤_};
 ghost use lib.ListN.{length};
-ghost use Rattle.codec.specs.Bits.{unit, tileBytes, bitAt, setBit, isEmpty, bitCount};
+ghost use Rattle.codec.specs.Bits.{unit, tileBytes, bitAt, setBit, tenFrom, isEmpty, bitCount};
 
 pub const TILE_BYTES: usize = 108;
 
@@ -15,6 +15,22 @@ pub fn read_bit(bits: &[u8], p: usize) -> u8
     ensures { λ r. ⌜ r ≡ bitAt (now (bits .entry)) p ⌝ }
 {
     digits::digit_of(bits[p / UNIT], (p % UNIT) as u32)
+}
+
+// The weights of the first digit past a lent number, and past ten digits.
+const PAST_UNIT: u32 = 256;
+
+pub const PAST_TEN: u32 = 1024;
+
+// The ten bits from position p on as one number, the first with weight 1, where two lent numbers hold them: read at once, not one by one.
+// Rules out: a byte left out; the bits of p + 1 on.
+pub fn read_ten(bits: &[u8], p: usize) -> u32
+    requires { ⌜ (p % unit ≤ 6) × (p / unit + 1 < length (now bits)) ⌝ }
+    ensures { λ r. ⌜ r ≡ tenFrom (now (bits .entry)) p ⌝ }
+{
+    let i = p / UNIT;
+    let two = bits[i] as u32 + PAST_UNIT * (bits[i + 1] as u32);
+    (two >> (p % UNIT)) % PAST_TEN
 }
 
 // A bit written to position p.

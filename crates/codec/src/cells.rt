@@ -8,7 +8,8 @@ ghost use Rattle.routing.specs.LogicTile.{logicTile, cellPosition};
 ghost use Rattle.codec.specs.Bits.{tileBytes, setBits};
 ghost use Rattle.codec.specs.Settings.{settingsLength};
 ghost use Rattle.codec.specs.Cells.{cellBitIn, valueIn, cellsIn, cellSettings, writeCells, putCells, sameCell, firstDifference};
-use crate::bits::read_bit;
+use crate::bits::PAST_TEN;
+use crate::bits::read_ten;
 use crate::bits::write_bit;
 use cell::logic::Cell;
 
@@ -17,16 +18,30 @@ pub const CELLS_FROM: usize = 579;
 
 const BITS_PER_CELL: usize = 20;
 
-// A cell's 20 bits as one number: its table, and its flags with weight 65,536.
+// A cell has two rows of a tile, 108 positions. Its logic cell bits 0 to 9 stand side by side in the first, 10 to 19 in the second.
+const CELL_POSITIONS: usize = 108;
+
+const FIRST_TEN: usize = 36;
+
+const SECOND_TEN: usize = 90;
+
+// A cell's 20 bits as one number: its table, and its flags with weight 65,536. An empty cell takes no time.
 pub fn read_value(bits: &[u8], i: usize) -> u32
     requires { ⌜ (length (now bits) ≡ tileBytes) × (i < 8) ⌝ }
     ensures { λ r. ⌜ r ≡ valueIn (now (bits .entry)) i ⌝ }
 {
+    let p = CELL_POSITIONS * i;
+    let first = read_ten(bits, p + FIRST_TEN);
+    let second = read_ten(bits, p + SECOND_TEN);
+    let both = first + PAST_TEN * second;
+    if both == 0 {
+        return 0;
+    }
     let mut value: u32 = 0;
     let mut j = 0;
     while j < BITS_PER_CELL {
-        let p = routing::cells::cell_position(i, j);
-        value += (read_bit(bits, p) as u32) << j;
+        let k = routing::cells::lc_bit(j);
+        value += ((both >> k) & 1) << j;
         j += 1;
     }
     value

@@ -4,7 +4,7 @@ use mathlib.Core.Path.{_≡_, refl, sym, ap, _∙_, subst}
 use mathlib.Core.Logic.{⊎-elim, _≢_}
 use Prim.Native.Nat.{ℕ, zero, suc, _+_, _-_, _*_, _/_, _%_, _^_, _<_, _≤_}
 use native.Mathlib.Omega.{arith}
-use native.Mathlib.Nat.{mod-lt, mod-eq-of-lt, eq-or-lt-of-le, lt-of-lt-of-le, mul-le-mul-right, one-mul}
+use native.Mathlib.Nat.{mod-lt, mod-eq-of-lt, eq-or-lt-of-le, lt-of-lt-of-le, mul-le-mul-right, one-mul, add-comm, mul-comm}
 use lib.Pow.{pow-pos, pow-mono, pow-add, high, low, mod-pow-add, field, mod-mod-pow, shr-shr, shr-lt}
 use lib.Arith.{digits-lt}
 use Rattle.lists.proofs.CaseLaws.{lt-or-le}
@@ -31,6 +31,18 @@ digit-at q k hr = ap (λ (x : ℕ). x % 2) (high q k hr)
 
 pub digit-above : (q k i : ℕ) {r : ℕ} → r < 2 ^ k → digit (q * 2 ^ k + r) (k + i) ≡ digit q i
 digit-above q k i {r} hr = ap (λ (x : ℕ). x % 2) (sym (shr-shr (q * 2 ^ k + r) k i) ∙ ap (λ (x : ℕ). x / 2 ^ i) (high q k hr))
+
+-- f has the digits of a number in two parts where it has those of both
+pub digit-join : (f : ℕ → ℕ) (r q k n : ℕ) → r < 2 ^ k → ((j : ℕ) → j < k → digit r j ≡ f j) → ((j : ℕ) → j < n → digit q j ≡ f (k + j))
+    → (j : ℕ) → j < k + n → digit (r + 2 ^ k * q) j ≡ f j
+digit-join f r q k n hr low high j h =
+    ap (λ (x : ℕ). digit x j) (add-comm r (2 ^ k * q) ∙ ap (λ (x : ℕ). x + r) (mul-comm (2 ^ k) q))
+    ∙ ⊎-elim (λ (l : j < k). digit-below q k j hr l ∙ low j l) above (lt-or-le j k)
+  where
+    above : k ≤ j → digit (q * 2 ^ k + r) j ≡ f j
+    above l =
+        let e : j ≡ k + (j - k) = omega arith in
+        ap (digit (q * 2 ^ k + r)) e ∙ digit-above q k (j - k) hr ∙ high (j - k) (omega arith) ∙ ap f (sym e)
 
 module _ (n k v : ℕ) (hv : v < 2) where
   pub digit-set-same : digit (setDigit n k v) k ≡ v
@@ -91,6 +103,12 @@ pub from-digits-mod : (v n : ℕ) → fromDigits (digit v) n ≡ v % 2 ^ n
 unfolding fromDigits
 from-digits-mod v zero = omega arith
 from-digits-mod v (suc n) = let r : fromDigits (digit v) n ≡ v % 2 ^ n = from-digits-mod v n in rw r (sym (mod-pow-add v 1 n) ∙ ap (λ (x : ℕ). v % 2 ^ x) (omega arith))
+
+-- the n digits from s on are a shift and a remainder
+pub from-digits-shift : (v s n : ℕ) → fromDigits (λ (k : ℕ). digit v (s + k)) n ≡ v / 2 ^ s % 2 ^ n
+from-digits-shift v s n =
+    from-digits-ext (λ (k : ℕ). digit v (s + k)) (digit (v / 2 ^ s)) n (λ k l. ap (λ (x : ℕ). x % 2) (sym (shr-shr v s k)))
+    ∙ from-digits-mod (v / 2 ^ s) n
 
 -- all the digits are the number
 pub from-digits-all : (v n : ℕ) → v < 2 ^ n → fromDigits (digit v) n ≡ v

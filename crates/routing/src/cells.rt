@@ -20,7 +20,7 @@ const LAST_LC_BITS: u64 = 672472770913;
 const FIRST: usize = 12;
 
 // The logic cell bit that a cell's bit j is.
-fn lc_bit(j: usize) -> usize
+pub fn lc_bit(j: usize) -> usize
     requires { ⌜ j < bitsPerCell ⌝ }
     ensures { λ r. ⌜ r ≡ getD lcBits j 0 ⌝ }
 {

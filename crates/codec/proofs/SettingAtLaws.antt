@@ -1,11 +1,14 @@
--- What is read to each setting: one law for each way through `settingAt`, `setting-field`, .. `setting-flags`. Assumes nothing.
+-- What is read to each setting: one law for each way through `settingAt`, `setting-field`, .. `setting-flags`; `setting-single`: by the slot. Assumes nothing.
 use mathlib.Core.Path.{_≡_, ap, _∙_}
+use mathlib.Core.Bool.{true}
 use mathlib.Core.List.{List}
 use Prim.Native.Nat.{ℕ, _+_, _-_, _*_, _/_, _%_, _^_, _<_, _≤_}
 use native.Mathlib.Omega.{arith}
 use borrow.Author.Tests.{lt-ltb, le-ltb}
 use Rattle.routing.specs.LogicTile.{logicTile}
 use Rattle.routing.specs.Table.{maxGroups, fieldAt, passiveCount, passiveAt, groupCount}
+use Rattle.routing.specs.Slots.{slotAt, slotUsed, fieldSlots, groupSlots}
+use Rattle.routing.proofs.SlotLaws.{slot-cases, slot-at-field, slot-at-passive}
 use Rattle.codec.specs.Bits.{bitAt}
 use Rattle.codec.specs.Settings.{groupsFrom, cellsFrom}
 use Rattle.codec.specs.Groups.{readGroup}
@@ -83,3 +86,19 @@ module _ (table bits : List ℕ) where
           e,
           d,
         )
+
+-- a field, or a passive bit, is what stands at its position; slot and setting differ by the slots of the cells
+pub setting-single : (table bits : List ℕ) (s : ℕ) → slotUsed logicTile table s ≡ true → fieldSlots logicTile ≤ s → s < groupSlots logicTile
+    → settingAt table bits (s - fieldSlots logicTile) ≡ bitAt bits (slotAt logicTile table s)
+setting-single table bits =
+    slot-cases logicTile table
+    (λ (s : ℕ). fieldSlots logicTile ≤ s → s < groupSlots logicTile
+    → settingAt table bits (s - fieldSlots logicTile) ≡ bitAt bits (slotAt logicTile table s))
+    (λ s h a b. absurd (omega arith))
+    (λ f h a b. let e : fieldSlots logicTile + f - fieldSlots logicTile ≡ f = omega arith in
+    rw (e, slot-at-field logicTile table f h) (setting-field table bits f h))
+    (λ j few h a b.
+    let e : 3 + j - 3 ≡ j = omega arith in
+    let q : fieldSlots logicTile + 3 + j - fieldSlots logicTile ≡ 3 + j = omega arith in
+    rw (q, slot-at-passive logicTile table j few) (rw e at (setting-passive table bits (3 + j) (omega arith) (omega arith) (omega arith))))
+    (λ g k h few l a b. absurd (omega arith))

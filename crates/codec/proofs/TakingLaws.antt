@@ -14,15 +14,14 @@ use Rattle.lists.proofs.SearchLaws.{first-true}
 use Rattle.lists.proofs.TableLaws.{zeros-length, zeros-at}
 use Rattle.routing.specs.LogicTile.{logicTile}
 use Rattle.routing.specs.Table.{maxGroups, maxPositions}
-use Rattle.routing.specs.Slots.{claims, owner, Owned, slotsOf, slotAt, slotUsed, fieldSlots, groupSlots, slotCount}
+use Rattle.routing.specs.Slots.{claims, owner, Owned, slotsOf, fieldSlots, slotCount}
 use Rattle.routing.proofs.OwnerLaws.{claims-used, claims-at}
-use Rattle.routing.proofs.SlotLaws.{slot-cases, slot-at-field, slot-at-passive}
 use Rattle.codec.specs.Bits.{bitAt}
 use Rattle.codec.specs.Settings.{groupsFrom, cellsFrom, settingsLength}
 use Rattle.codec.specs.Groups.{readGroup}
 use Rattle.codec.specs.Decode.{settingNumber, settingAt}
 use Rattle.codec.specs.Taking.{Known, Learned, Taken}
-use Rattle.codec.proofs.SettingAtLaws.{setting-field, setting-passive, setting-of-group}
+use Rattle.codec.proofs.SettingAtLaws.{setting-of-group, setting-single}
 use Rattle.codec.proofs.FaultLaws.{groupCode, owner-some, map-within}
 
 -- ---- what is known of the settings
@@ -77,22 +76,6 @@ module _ {table bits : List ℕ} where
 abbrev pub fieldCode : ℕ
 fieldCode = fieldSlots logicTile + 1
 
--- a field and a passive bit are what stands at their position
-single-setting : (table bits : List ℕ) (s : ℕ) → slotUsed logicTile table s ≡ true → fieldSlots logicTile ≤ s → s < groupSlots logicTile
-    → settingAt table bits (s - fieldSlots logicTile) ≡ bitAt bits (slotAt logicTile table s)
-single-setting table bits =
-    slot-cases logicTile table
-    (λ (s : ℕ). fieldSlots logicTile ≤ s → s < groupSlots logicTile
-    → settingAt table bits (s - fieldSlots logicTile) ≡ bitAt bits (slotAt logicTile table s))
-    (λ s h a b. absurd (omega arith))
-    (λ f h a b. let e : fieldSlots logicTile + f - fieldSlots logicTile ≡ f = omega arith in
-    rw (e, slot-at-field logicTile table f h) (setting-field table bits f h))
-    (λ j few h a b.
-    let e : 3 + j - 3 ≡ j = omega arith in
-    let q : fieldSlots logicTile + 3 + j - fieldSlots logicTile ≡ 3 + j = omega arith in
-    rw (q, slot-at-passive logicTile table j few) (rw e at (setting-passive table bits (3 + j) (omega arith) (omega arith) (omega arith))))
-    (λ g k h few l a b. absurd (omega arith))
-
 module _ (table bits settings : List ℕ) (p : ℕ) (own : List ℕ) (O : Owned 864 (slotsOf logicTile table) (slotCount logicTile) own) (h : p < 864)
     (K : Known table bits settings) where
   mine : getD own p 0 ≢ 0 → (owner (slotsOf logicTile table) p + 1 ≡ getD own p 0) × (owner (slotsOf logicTile table) p < slotCount logicTile)
@@ -119,7 +102,7 @@ module _ (table bits settings : List ℕ) (p : ℕ) (own : List ℕ) (O : Owned 
         let c : claims (slotsOf logicTile table) p (owner (slotsOf logicTile table) p) ≡ true =
         first-true (claims (slotsOf logicTile table) p) 0 (slotCount logicTile) (omega (arith, owned .1)) in
         ap (settingAt table bits) (let q : getD own p 0 - fieldCode ≡ owner (slotsOf logicTile table) p - fieldSlots logicTile = omega (arith, owned .0) in q)
-        ∙ single-setting table bits (owner (slotsOf logicTile table) p) (claims-used (slotsOf logicTile table) p _ c) (omega (arith, owned .0))
+        ∙ setting-single table bits (owner (slotsOf logicTile table) p) (claims-used (slotsOf logicTile table) p _ c) (omega (arith, owned .0))
         (omega (arith, owned .0))
         ∙ ap (bitAt bits) (claims-at (slotsOf logicTile table) p _ c) ∙ on
 

@@ -27,9 +27,8 @@ pub fn read_block(table: &[u16], own: &[u16], bits: &[u8], settings: &mut [u16],
         let to = from + TILE_BYTES;
         let start = SETTINGS_LENGTH * t;
         let end = start + SETTINGS_LENGTH;
-        if codec::tile::read_tile(table, own, &bits[from..to], &mut settings[start..end])
-            < POSITIONS
-        {
+        let fault = codec::tile::read_tile(table, own, &bits[from..to], &mut settings[start..end]);
+        if fault < POSITIONS {
             return t;
         }
         t += 1;

@@ -22,6 +22,7 @@ use Rattle.lists.proofs.CountLaws.{count-ext, count-add}
 use Rattle.digits.specs.Digits.{digit, isSet, setDigit, fromDigits}
 use Rattle.digits.proofs.DigitLaws.{digit-set-same, digit-set-other, set-digit-lt, from-digits-ext, from-digits-all}
 use Rattle.digits.proofs.OnesLaws.{ones-count}
+use Rattle.digits.proofs.MaskLaws.{digit-shl}
 use Rattle.digits.proofs.WriteLaws.{digit-split}
 use Rattle.codec.specs.Bits.{unit, tileBytes, bitIn, bitAt, setBitIn, setBit, Bytes, isSetAt, isZeroAt, isEmpty}
 
@@ -139,6 +140,15 @@ set-bit-same bits p v e =
     let x : ℕ = getD bits (p / unit) 0 in
     ap (λ (y : ℕ). set bits (p / unit) ((x / 2 ^ (1 + p % unit) * 2 + y) * 2 ^ (p % unit) + x % 2 ^ (p % unit))) (sym e)
     ∙ ap (set bits (p / unit)) (digit-split x (p % unit)) ∙ set-getD bits (p / unit) 0
+
+-- the byte of a clear bit with v added at its place, as the code computes it
+module _ (bits : List ℕ) (p v : ℕ) (hv : v < 2) (clear : bitAt bits p ≡ 0) where
+  pub add-clear : getD bits (p / unit) 0 + (v * 2 ^ (p % unit)) % 2 ^ unit ≡ setDigit (getD bits (p / unit) 0) (p % unit) v
+  unfolding bitIn setDigit
+  add-clear = omega (arith, digit-shl v (p % unit) unit hv (omega arith), digit-split (getD bits (p / unit) 0) (p % unit), ap (λ (x : ℕ). x * 2 ^ (p % unit)) clear)
+
+  pub add-clear-lt : getD bits (p / unit) 0 < 2 ^ unit → getD bits (p / unit) 0 + (v * 2 ^ (p % unit)) % 2 ^ unit < 2 ^ unit
+  add-clear-lt h = subst (λ (x : ℕ). x < 2 ^ unit) (sym add-clear) (set-digit-lt (getD bits (p / unit) 0) (p % unit) v hv unit (omega arith) h)
 
 pub set-bit-length : (bits : List ℕ) (p v : ℕ) → length (setBit bits p v) ≡ length bits
 unfolding setBitIn

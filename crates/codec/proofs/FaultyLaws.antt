@@ -64,6 +64,10 @@ module _ (table : List ℕ) (T : TableRules logicTile table) where
       slot-owner (groupSlot logicTile g + k) (positionAt logicTile table g k) (omega (arith, T .few-groups))
       (slot-used-group logicTile table g k few h ∙ lt-ltb k (widthOf logicTile table g) l) (slot-at-group logicTile table g k few)
 
+  pub group-position-once : (g i j : ℕ) → g < groupCount logicTile table → i < widthOf logicTile table g → j < widthOf logicTile table g
+      → positionAt logicTile table g i ≡ positionAt logicTile table g j → i ≡ j
+  group-position-once g i j h a b e = omega (arith, group-owner g i h a, group-owner g j h b, ap (owner (slotsOf logicTile table)) e)
+
 -- ---- a position
 
 module _ (table bits : List ℕ) (T : TableRules logicTile table) where

@@ -1,5 +1,5 @@
 -- A number's digits written to a run of positions, and read from one. Main laws: `set-bits-at`, `set-bits-other`, `set-bits-back`,
--- `set-bits-clear`; a turn of the loops that do it: `set-bits-turn`, `digits-turn`. Assumes nothing.
+-- `set-bits-clear`; a turn of the loops that do it: `set-bits-next`, `set-bits-turn`, `digits-turn`. Assumes nothing.
 use mathlib.Core.Path.{_≡_, refl, sym, ap, _∙_, subst}
 use mathlib.Core.Logic.{⊎-elim, _≢_}
 use mathlib.Core.List.{List}
@@ -58,6 +58,10 @@ module _ (bits : List ℕ) (at : ℕ → ℕ) (v : ℕ) where
       → fromDigits (λ (k : ℕ). bitAt (setBits bits at v n) (at k)) n ≡ v
   set-bits-back n h once inside =
       from-digits-ext (λ (k : ℕ). bitAt (setBits bits at v n) (at k)) (digit v) n (λ k l. set-bits-at n k l once inside) ∙ from-digits-all v n h
+
+  -- the next position is still clear
+  pub set-bits-next : (k p : ℕ) (now : List ℕ) → now ≡ setBits bits at v k → p ≡ at k → bitAt bits (at k) ≡ 0 → ((j : ℕ) → j < k → at k ≢ at j) → bitAt now p ≡ 0
+  set-bits-next k p now inv e clear differ = rw (inv, e) (set-bits-other k (at k) differ ∙ clear)
 
   -- a turn of writing
   pub set-bits-turn : (k p : ℕ) (now : List ℕ) → now ≡ setBits bits at v k → p ≡ at k → setBit now p (bitAnd (v / 2 ^ k) 1) ≡ setBits bits at v (k + 1)

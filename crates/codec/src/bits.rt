@@ -43,6 +43,16 @@ pub fn write_bit(bits: &mut [u8], p: usize, value: u8)
     bits[i] = digits::with_digit(byte, (p % UNIT) as u32, value);
 }
 
+// The same where the bit is clear, so that there is nothing to take away.
+pub fn write_clear_bit(bits: &mut [u8], p: usize, value: u8)
+    requires { ⌜ (p / unit < length (now bits)) × (value < 2) × (bitAt (now bits) p ≡ 0) ⌝ }
+    ensures { λ r. ⌜ now (bits .exit) ≡ setBit (now (bits .entry)) p value ⌝ }
+{
+    let i = p / UNIT;
+    let byte = bits[i];
+    bits[i] = byte + (value << (p % UNIT));
+}
+
 // Whether no bit of a tile is set.
 pub fn is_empty(bits: &[u8]) -> bool
     requires { ⌜ length (now bits) ≡ tileBytes ⌝ }

@@ -10,7 +10,7 @@ ghost use Rattle.codec.specs.Settings.{settingsLength};
 ghost use Rattle.codec.specs.Cells.{cellBitIn, valueIn, cellsIn, cellSettings, writeCells, putCells, sameCell, firstDifference};
 use crate::bits::PAST_TEN;
 use crate::bits::read_ten;
-use crate::bits::write_bit;
+use crate::bits::write_clear_bit;
 use cell::logic::Cell;
 
 // Where the cells stand in a tile's settings: table and flags of each.
@@ -101,7 +101,7 @@ pub fn write_value(bits: &mut [u8], i: usize, value: u32)
     let mut j = 0;
     while j < BITS_PER_CELL {
         let p = routing::cells::cell_position(i, j);
-        write_bit(bits, p, ((value >> j) & 1) as u8);
+        write_clear_bit(bits, p, ((value >> j) & 1) as u8);
         j += 1;
     }
 }

@@ -8,7 +8,7 @@ ghost use Rattle.routing.specs.Rules.{TableRules};
 ghost use Rattle.codec.specs.Bits.{tileBytes, setBits};
 ghost use Rattle.codec.specs.Groups.{groupBit, groupPattern, settingOfPattern, readGroup, patternOf};
 use crate::bits::read_bit;
-use crate::bits::write_bit;
+use crate::bits::write_clear_bit;
 
 // What reading a group gives: 0 for off, an entry from 1, or a pattern that the table does not list.
 pub enum GroupRead {
@@ -58,16 +58,16 @@ pub fn read_group(table: &[u16], g: usize, bits: &[u8]) -> GroupRead
     setting_of(table, g, pattern)
 }
 
-// A pattern written to a group's positions, the first with weight 1.
+// A pattern written to a group's positions, which are clear, the first with weight 1.
 pub fn write_pattern(table: &[u16], g: usize, bits: &mut [u8], pattern: u16)
-    requires { ⌜ (TableRules logicTile (now table)) × (g < groupCount logicTile (now table)) × (length (now bits) ≡ tileBytes) ⌝ }
+    requires { ⌜ (TableRules logicTile (now table)) × (g < groupCount logicTile (now table)) × (length (now bits) ≡ tileBytes) × ((k : ℕ) → k < widthOf logicTile (now table) g → groupBit logicTile (now table) (now bits) g k ≡ 0) ⌝ }
     ensures { λ r. ⌜ now (bits .exit) ≡ setBits (now (bits .entry)) (positionAt logicTile (now (table .entry)) g) pattern (widthOf logicTile (now (table .entry)) g) ⌝ }
 {
     let n = routing::table::width(table, g);
     let mut k = 0;
     while k < n {
         let p = routing::table::position(table, g, k);
-        write_bit(bits, p, ((pattern >> k) & 1) as u8);
+        write_clear_bit(bits, p, ((pattern >> k) & 1) as u8);
         k += 1;
     }
 }

@@ -7,10 +7,10 @@ use lib.ListN.{length}
 use Rattle.digits.proofs.MaskLaws.{and-one}
 use Rattle.routing.specs.TileKind.{bitsPerCell}
 use Rattle.routing.specs.LogicTile.{cellPosition}
-use Rattle.routing.proofs.LogicTileLaws.{cell-position-lt}
+use Rattle.routing.proofs.LogicTileLaws.{cell-position-lt, cell-position-once}
 use Rattle.codec.specs.Bits.{tileBytes, setBits}
 use Rattle.codec.proofs.BitLaws.{position-within}
-use Rattle.codec.proofs.SetBitsLaws.{set-bits-turn, set-bits-clear}
+use Rattle.codec.proofs.SetBitsLaws.{set-bits-next, set-bits-turn, set-bits-clear}
 use Rattle.codec.proofs.cells.write_value.Statement.{statement}
 use Rattle.codec.proofs.cells.write_value.Tie as tie
 
@@ -33,20 +33,20 @@ loop-holds c = search needs
 cell-position-requires : tie.Need-cell-position-requires Inv-loop μ-loop
 cell-position-requires c κs = search needs
 
-cast-write-bit : tie.Need-cast-write-bit Inv-loop μ-loop
-cast-write-bit c = search needs
+cast-write-clear-bit : tie.Need-cast-write-clear-bit Inv-loop μ-loop
+cast-write-clear-bit c = search needs
 
-shr-write-bit : tie.Need-shr-write-bit Inv-loop μ-loop
-shr-write-bit c = search needs
+shr-write-clear-bit : tie.Need-shr-write-clear-bit Inv-loop μ-loop
+shr-write-clear-bit c = search needs
 
-cast-write-bit-2 : tie.Need-cast-write-bit-2 Inv-loop μ-loop
-cast-write-bit-2 c =
+cast-write-clear-bit-2 : tie.Need-cast-write-clear-bit-2 Inv-loop μ-loop
+cast-write-clear-bit-2 c =
     let at-start = c .before .before .before .before .before .before in
     let at-loop = c .before .before .before in
     omega (arith, and-one (at-start .args .value / 2 ^ at-loop .loop .j))
 
-write-bit-requires : tie.Need-write-bit-requires Inv-loop μ-loop
-write-bit-requires c κs =
+write-clear-bit-requires : tie.Need-write-clear-bit-requires Inv-loop μ-loop
+write-clear-bit-requires c κs =
     let at-start = c .before .before .before .before .before .before in
     let at-loop = c .before .before .before in
     let at-cell-position = c .before in (
@@ -54,6 +54,9 @@ write-bit-requires c κs =
           (cell-position-lt (at-start .args .i) (at-loop .loop .j) (at-start .pre .1) (omega arith))) (at-loop .loop .inv .1),
       omega
           (arith, and-one (at-start .args .value / 2 ^ at-loop .loop .j)),
+      set-bits-next (at-start .args .bits .now) (cellPosition (at-start .args .i)) (at-start .args .value) (at-loop .loop .j) _ (at-loop .loop .bits)
+          (at-loop .loop .inv .2) (at-cell-position .cell-position .ensures) (at-start .pre .2 (at-loop .loop .j) (omega arith))
+          (λ k l e. omega (arith, cell-position-once (at-start .args .i) (at-loop .loop .j) (at-start .args .i) k (omega arith) (omega arith) e .1)),
     )
 
 add-j : tie.Need-add-j Inv-loop μ-loop
@@ -67,10 +70,10 @@ loop-again c =
     let at-start = c .before .before .before .before .before .before .before .before .before in
     let at-loop = c .before .before .before .before .before .before in
     let at-cell-position = c .before .before .before .before in
-    let at-write-bit = c .before .before in (
+    let at-write-clear-bit = c .before .before in (
       omega arith,
-      at-write-bit .write-bit .kept .0 ∙ at-loop .loop .inv .1,
-      at-write-bit .write-bit .ensures ∙ set-bits-turn (at-start .args .bits .now)
+      at-write-clear-bit .write-clear-bit .kept .0 ∙ at-loop .loop .inv .1,
+      at-write-clear-bit .write-clear-bit .ensures ∙ set-bits-turn (at-start .args .bits .now)
           (cellPosition (at-start .args .i)) (at-start .args .value) (at-loop .loop .j) _ (at-loop .loop .bits) (at-loop .loop .inv .2)
           (at-cell-position .cell-position .ensures),
     )
@@ -97,10 +100,10 @@ write-value-spec =
     returns
     loop-holds
     cell-position-requires
-    cast-write-bit
-    shr-write-bit
-    cast-write-bit-2
-    write-bit-requires
+    cast-write-clear-bit
+    shr-write-clear-bit
+    cast-write-clear-bit-2
+    write-clear-bit-requires
     add-j
     loop-less
     loop-again

@@ -9,7 +9,8 @@ use Rattle.routing.specs.Table.{widthOf, positionAt}
 use Rattle.routing.specs.LogicTile.{logicTile}
 use Rattle.codec.specs.Bits.{tileBytes, setBits}
 use Rattle.codec.proofs.TileRunLaws.{group-position-lt}
-use Rattle.codec.proofs.SetBitsLaws.{set-bits-turn}
+use Rattle.codec.proofs.SetBitsLaws.{set-bits-next, set-bits-turn}
+use Rattle.codec.proofs.FaultyLaws.{group-position-once}
 use Rattle.codec.proofs.BitLaws.{position-within}
 use Rattle.codec.proofs.groups.write_pattern.Statement.{statement}
 use Rattle.codec.proofs.groups.write_pattern.Tie as tie
@@ -37,26 +38,26 @@ position-requires c κs =
           (arith, at-width .width .ensures, at-start .pre .0 .groups (at-start .args .g) (at-start .pre .1) .few-positions),
     )
 
-cast-write-bit : tie.Need-cast-write-bit Inv-loop μ-loop
-cast-write-bit c =
+cast-write-clear-bit : tie.Need-cast-write-clear-bit Inv-loop μ-loop
+cast-write-clear-bit c =
     let at-start = c .before .before .before .before .before .before .before in
     let at-width = c .before .before .before .before in
     omega (arith, at-width .width .ensures, at-start .pre .0 .groups (at-start .args .g) (at-start .pre .1) .few-positions)
 
-shr-write-bit : tie.Need-shr-write-bit Inv-loop μ-loop
-shr-write-bit c =
+shr-write-clear-bit : tie.Need-shr-write-clear-bit Inv-loop μ-loop
+shr-write-clear-bit c =
     let at-start = c .before .before .before .before .before .before .before in
     let at-width = c .before .before .before .before in
     omega (arith, at-width .width .ensures, at-start .pre .0 .groups (at-start .args .g) (at-start .pre .1) .few-positions)
 
-cast-write-bit-2 : tie.Need-cast-write-bit-2 Inv-loop μ-loop
-cast-write-bit-2 c =
+cast-write-clear-bit-2 : tie.Need-cast-write-clear-bit-2 Inv-loop μ-loop
+cast-write-clear-bit-2 c =
     let at-start = c .before .before .before .before .before .before .before in
     let at-loop = c .before .before .before in
     omega (arith, and-one (at-start .args .pattern / 2 ^ at-loop .loop .k))
 
-write-bit-requires : tie.Need-write-bit-requires Inv-loop μ-loop
-write-bit-requires c κs =
+write-clear-bit-requires : tie.Need-write-clear-bit-requires Inv-loop μ-loop
+write-clear-bit-requires c κs =
     let at-start = c .before .before .before .before .before .before .before in
     let at-width = c .before .before .before .before in
     let at-loop = c .before .before .before in (
@@ -64,6 +65,14 @@ write-bit-requires c κs =
           (group-position-lt (at-start .args .table .now) (at-start .pre .0) (at-start .args .g) (at-loop .loop .k) (at-start .pre .1)
           (omega (arith, at-width .width .ensures)))) (at-loop .loop .inv .1),
       omega (arith, and-one (at-start .args .pattern / 2 ^ at-loop .loop .k)),
+      set-bits-next (at-start .args .bits .now) (positionAt logicTile (at-start .args .table .now) (at-start .args .g)) (at-start .args .pattern)
+          (at-loop .loop .k) _ (at-loop .loop .bits) (at-loop .loop .inv .2) (c .before .position .ensures)
+          (at-start .pre .3 (at-loop .loop .k) (omega (arith, at-width .width .ensures)))
+          (λ j l e. omega (
+            arith,
+            group-position-once (at-start .args .table .now) (at-start .pre .0) (at-start .args .g) (at-loop .loop .k) j (at-start .pre .1)
+                (omega (arith, at-width .width .ensures)) (omega (arith, at-width .width .ensures)) e,
+          )),
     )
 
 add-k : tie.Need-add-k Inv-loop μ-loop
@@ -77,10 +86,10 @@ loop-again c =
     let at-start = c .before .before .before .before .before .before .before .before .before .before in
     let at-loop = c .before .before .before .before .before .before in
     let at-position = c .before .before .before .before in
-    let at-write-bit = c .before .before in (
+    let at-write-clear-bit = c .before .before in (
       omega arith,
-      at-write-bit .write-bit .kept .0 ∙ at-loop .loop .inv .1,
-      at-write-bit .write-bit .ensures ∙ set-bits-turn
+      at-write-clear-bit .write-clear-bit .kept .0 ∙ at-loop .loop .inv .1,
+      at-write-clear-bit .write-clear-bit .ensures ∙ set-bits-turn
           (at-start .args .bits .now) (positionAt logicTile (at-start .args .table .now) (at-start .args .g)) (at-start .args .pattern)
           (at-loop .loop .k) _ (at-loop .loop .bits) (at-loop .loop .inv .2) (at-position .position .ensures),
     )
@@ -106,10 +115,10 @@ write-pattern-spec =
     width-requires
     loop-holds
     position-requires
-    cast-write-bit
-    shr-write-bit
-    cast-write-bit-2
-    write-bit-requires
+    cast-write-clear-bit
+    shr-write-clear-bit
+    cast-write-clear-bit-2
+    write-clear-bit-requires
     add-k
     loop-less
     loop-again

@@ -1,7 +1,13 @@
 -- `step` meets its contract: grounds 1 and 2 leave everything, every later answer clears the work room. Assumes nothing.
+use Prim.Native.Nat.{ℕ}
+use mathlib.Core.List.{List}
 use mathlib.Core.Bool.{true}
+use lib.ListN.{length}
 use mathlib.Core.Path.{_≡_, refl, sym, _∙_}
 use native.Mathlib.Omega.{arith}
+use Rattle.lists.specs.Tables.{zeros}
+use Rattle.refusal.specs.Grounds.{answerNumber}
+use Rattle.refusal.specs.Memory.{workRoom}
 use Rattle.fabric.proofs.BlockLaws.{sized-exact, tiles-le}
 use Rattle.fabric.specs.Block.{block, sized}
 use Rattle.sim.proofs.StepLaws.{step-size, step-length, step-inputs, room-cleared}
@@ -89,26 +95,46 @@ clear-bytes-requires c κs = search needs
 clear-bytes-requires-2 : tie.Need-clear-bytes-requires-2
 clear-bytes-requires-2 c κs = search needs
 
+-- each room keeps its length in the calls that it is lent to
 same-length : tie.Need-same-length
-same-length c = search needs
+same-length c =
+    let at-step-checked = c .before .before .before .before .before .before .before .before .before .before .before .before .before .before .before .before .before .before .before .before .before .before .before .before .before .before .before .before .before .before .before .before .before .before in
+    at-step-checked .step-checked .kept .1 .1 .1 .1 .1 .1 .1 .0
 
 same-length-2 : tie.Need-same-length-2
-same-length-2 c = search needs
+same-length-2 c =
+    let at-step-checked = c .before .before .before .before .before .before .before .before .before .before .before .before .before .before .before .before .before .before .before .before .before .before .before .before .before .before .before .before .before .before .before .before .before .before in
+    at-step-checked .step-checked .kept .1 .1 .1 .1 .1 .1 .1 .1 .0
 
 same-length-3 : tie.Need-same-length-3
-same-length-3 c = search needs
+same-length-3 c =
+    let at-clear = c .before .before .before .before .before .before .before .before .before .before .before .before .before .before .before .before .before .before in
+    let at-step-checked = at-clear .before .before .before .before .before .before .before .before .before .before .before .before .before .before .before .before in
+    at-clear .clear .kept .0 ∙ at-step-checked .step-checked .kept .1 .1 .1 .1 .1 .1 .1 .1 .1 .0
 
 same-length-4 : tie.Need-same-length-4
-same-length-4 c = search needs
+same-length-4 c =
+    let at-clear2 = c .before .before .before .before .before .before .before .before .before .before .before .before .before .before in
+    let at-step-checked = at-clear2 .before .before .before .before .before .before .before .before .before .before .before .before .before .before .before .before .before .before .before .before in
+    at-clear2 .clear2 .kept .0 ∙ at-step-checked .step-checked .kept .1 .1 .1 .1 .1 .1 .1 .1 .1 .1 .0
 
 same-length-5 : tie.Need-same-length-5
-same-length-5 c = search needs
+same-length-5 c =
+    let at-clear3 = c .before .before .before .before .before .before .before .before .before .before in
+    let at-step-checked = at-clear3 .before .before .before .before .before .before .before .before .before .before .before .before .before .before .before .before .before .before .before .before .before .before .before .before in
+    at-clear3 .clear3 .kept .0 ∙ at-step-checked .step-checked .kept .1 .1 .1 .1 .1 .1 .1 .1 .1 .1 .1 .0
 
 same-length-6 : tie.Need-same-length-6
-same-length-6 c = search needs
+same-length-6 c =
+    let at-clear-bytes = c .before .before .before .before .before .before in
+    let at-step-checked = at-clear-bytes .before .before .before .before .before .before .before .before .before .before .before .before .before .before .before .before .before .before .before .before .before .before .before .before .before .before .before .before in
+    at-clear-bytes .clear-bytes .kept .0 ∙ at-step-checked .step-checked .kept .1 .1 .1 .1 .1 .1 .1 .1 .1 .1 .1 .1 .0
 
 same-length-7 : tie.Need-same-length-7
-same-length-7 c = search needs
+same-length-7 c =
+    let at-clear-bytes2 = c .before .before in
+    let at-step-checked = at-clear-bytes2 .before .before .before .before .before .before .before .before .before .before .before .before .before .before .before .before .before .before .before .before .before .before .before .before .before .before .before .before .before .before .before .before in
+    at-clear-bytes2 .clear-bytes2 .kept .0 ∙ at-step-checked .step-checked .kept .1 .1 .1 .1 .1 .1 .1 .1 .1 .1 .1 .1 .1 .0
 
 returns-3 : tie.Need-returns-3
 returns-3 c =
@@ -127,23 +153,24 @@ returns-3 c =
     let is : sized (block (a .w) (a .h)) ≡ true = sym (at-is-sized .is-sized .ensures) ∙ not-false _ (at-if1 .if1 .left) in
     let done = at-step-checked .step-checked .ensures in
     let long = sym (at-step-lengths .step-lengths .ensures .0) ∙ not-false _ (at-if2 .if2 .left) in
-    let kept = at-step-checked .step-checked .kept in (
+    let kept = at-step-checked .step-checked .kept in
+    let r = at-step-checked .step-checked .result in
+    let cleared : (old : List ℕ) (n : ℕ) → n ≡ length old → zeros n ≡ workRoom (answerNumber r) old =
+    λ old n l. room-cleared (block (a .w) (a .h)) (a .table .now) (a .settings .now) (a .list .now) (a .state .now) (a .before .now) (a .after .now) old r n (done .0) l in (
       done .0 ∙ step-inputs _ _ _ _ _ _ _ _ _ is long,
       (
         done .1 .0,
         (
           done .1 .1,
           (
-            at-clear .clear .ensures ∙ room-cleared _ _ _ _ _ _ _ (a .wires .now) _ _ (done .0) (kept .1 .1 .1 .1 .1 .1 .1 .1 .1 .0),
+            at-clear .clear .ensures ∙ cleared (a .wires .now) _ (kept .1 .1 .1 .1 .1 .1 .1 .1 .1 .0),
             (
-              at-clear2 .clear2 .ensures ∙ room-cleared _ _ _ _ _ _ _ (a .own .now) _ _ (done .0) (kept .1 .1 .1 .1 .1 .1 .1 .1 .1 .1 .0),
+              at-clear2 .clear2 .ensures ∙ cleared (a .own .now) _ (kept .1 .1 .1 .1 .1 .1 .1 .1 .1 .1 .0),
               (
-                at-clear3 .clear3 .ensures
-                    ∙ room-cleared _ _ _ _ _ _ _ (a .marks .now) _ _ (done .0) (kept .1 .1 .1 .1 .1 .1 .1 .1 .1 .1 .1 .0),
+                at-clear3 .clear3 .ensures ∙ cleared (a .marks .now) _ (kept .1 .1 .1 .1 .1 .1 .1 .1 .1 .1 .1 .0),
                 (
-                  at-clear-bytes .clear-bytes .ensures
-                      ∙ room-cleared _ _ _ _ _ _ _ (a .first .now) _ _ (done .0) (kept .1 .1 .1 .1 .1 .1 .1 .1 .1 .1 .1 .1 .0),
-                  (at-clear-bytes2 .clear-bytes2 .ensures ∙ room-cleared _ _ _ _ _ _ _ (a .second .now) _ _ (done .0) (kept .1 .1 .1 .1 .1 .1 .1 .1 .1 .1 .1 .1 .1 .0)),
+                  at-clear-bytes .clear-bytes .ensures ∙ cleared (a .first .now) _ (kept .1 .1 .1 .1 .1 .1 .1 .1 .1 .1 .1 .1 .0),
+                  at-clear-bytes2 .clear-bytes2 .ensures ∙ cleared (a .second .now) _ (kept .1 .1 .1 .1 .1 .1 .1 .1 .1 .1 .1 .1 .1 .0),
                 ),
               ),
             ),

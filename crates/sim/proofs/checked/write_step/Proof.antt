@@ -34,7 +34,10 @@ settle-requires-2 c κs =
     (p .3, at-count-wires .count-wires .ensures ∙ ap wireCount (p .1) ∙ marks-count (at-start .args .b), p .7)
 
 write-values-requires : tie.Need-write-values-requires
-write-values-requires c κs = search needs
+write-values-requires c κs =
+    let at-settle = c .before .before .before .before .before .before .before .before in
+    let at-start = at-settle .before .before .before .before .before .before .before .before .before .before .before .before .before .before in
+    (at-start .pre .0 .wired, at-settle .settle .kept .1 .1 .1 .1 .1 .0 ∙ at-start .pre .6, at-start .pre .4)
 
 clock-requires : tie.Need-clock-requires
 clock-requires c κs =
@@ -50,17 +53,24 @@ clock-requires c κs =
       at-start .pre .5,
     )
 
+-- each room keeps its length in the calls that it is lent to
 same-length : tie.Need-same-length
-same-length c = search needs
+same-length c =
+    let at-write-values = c .before .before .before .before .before .before .before .before in
+    at-write-values .write-values .kept .1 .1 .1 .0
 
 same-length-2 : tie.Need-same-length-2
-same-length-2 c = search needs
+same-length-2 c = let at-clock = c .before .before in at-clock .clock .kept .1 .1 .1 .1 .1 .1 .0
 
 same-length-3 : tie.Need-same-length-3
-same-length-3 c = search needs
+same-length-3 c =
+    let at-settle = c .before .before .before .before .before .before .before .before .before .before .before .before .before .before .before .before .before in
+    at-settle .settle .kept .1 .1 .1 .1 .1 .0
 
 same-length-4 : tie.Need-same-length-4
-same-length-4 c = search needs
+same-length-4 c =
+    let at-settle2 = c .before .before .before .before .before .before .before .before .before .before .before .before .before in
+    at-settle2 .settle2 .kept .1 .1 .1 .1 .1 .0
 
 returns : tie.Need-returns
 returns c =

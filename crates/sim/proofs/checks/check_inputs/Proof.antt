@@ -93,14 +93,15 @@ returns-2 c =
 check-run-requires : tie.Need-check-run-requires
 check-run-requires c κs = search needs
 
+-- each room keeps its length in the calls that it is lent to
 same-length : tie.Need-same-length
-same-length c = search needs
+same-length c = let at-check-run = c .before .before .before .before .before .before in at-check-run .check-run .kept .1 .1 .1 .1 .1 .0
 
 same-length-2 : tie.Need-same-length-2
-same-length-2 c = search needs
+same-length-2 c = let at-check-run = c .before .before .before .before .before .before in at-check-run .check-run .kept .1 .1 .1 .1 .1 .1 .0
 
 same-length-3 : tie.Need-same-length-3
-same-length-3 c = search needs
+same-length-3 c = let at-check-run = c .before .before .before .before .before .before in at-check-run .check-run .kept .1 .1 .1 .1 .1 .1 .1 .0
 
 returns-3 : tie.Need-returns-3
 returns-3 c =

@@ -36,14 +36,19 @@ cast-t28 c =
     let at-start = c .before .before .before .before .before .before .before .before .before .before .before .before .before .before .before .before .before .before .before .before .before .before .before .before in
     omega (arith, tiles-le (at-start .args .b) (at-start .pre .0), c .if1 .taken)
 
+-- each room keeps its length in the calls that it is lent to
 same-length : tie.Need-same-length
-same-length c = search needs
+same-length c =
+    let at-fill-wires = c .before .before .before .before .before .before .before .before .before .before .before .before .before .before .before in
+    at-fill-wires .fill-wires .kept .1 .0
 
 same-length-2 : tie.Need-same-length-2
-same-length-2 c = search needs
+same-length-2 c =
+    let at-mark-wires = c .before .before .before .before .before .before .before .before .before .before in
+    at-mark-wires .mark-wires .kept .1 .1 .0
 
 same-length-3 : tie.Need-same-length-3
-same-length-3 c = search needs
+same-length-3 c = let at-first-bad-row = c .before .before .before in at-first-bad-row .first-bad-row .kept .1 .1 .1 .1 .0
 
 returns : tie.Need-returns
 returns c =
@@ -73,13 +78,17 @@ cast-t34 c =
     omega (arith, tiles-le (at-start .args .b) (at-start .pre .0), c .if2 .taken)
 
 same-length-4 : tie.Need-same-length-4
-same-length-4 c = search needs
+same-length-4 c =
+    let at-fill-wires = c .before .before .before .before .before .before .before .before .before .before .before .before .before .before .before .before .before in
+    at-fill-wires .fill-wires .kept .1 .0
 
 same-length-5 : tie.Need-same-length-5
-same-length-5 c = search needs
+same-length-5 c =
+    let at-mark-wires = c .before .before .before .before .before .before .before .before .before .before .before .before in
+    at-mark-wires .mark-wires .kept .1 .1 .0
 
 same-length-6 : tie.Need-same-length-6
-same-length-6 c = search needs
+same-length-6 c = let at-first-bad-row = c .before .before .before .before .before in at-first-bad-row .first-bad-row .kept .1 .1 .1 .1 .0
 
 returns-2 : tie.Need-returns-2
 returns-2 c =
@@ -101,13 +110,17 @@ returns-2 c =
     )
 
 same-length-7 : tie.Need-same-length-7
-same-length-7 c = search needs
+same-length-7 c =
+    let at-fill-wires = c .before .before .before .before .before .before .before .before .before .before .before .before .before .before .before .before .before in
+    at-fill-wires .fill-wires .kept .1 .0
 
 same-length-8 : tie.Need-same-length-8
-same-length-8 c = search needs
+same-length-8 c =
+    let at-mark-wires = c .before .before .before .before .before .before .before .before .before .before .before .before in
+    at-mark-wires .mark-wires .kept .1 .1 .0
 
 same-length-9 : tie.Need-same-length-9
-same-length-9 c = search needs
+same-length-9 c = let at-first-bad-row = c .before .before .before .before .before in at-first-bad-row .first-bad-row .kept .1 .1 .1 .1 .0
 
 returns-3 : tie.Need-returns-3
 returns-3 c =

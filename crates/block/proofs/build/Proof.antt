@@ -130,26 +130,47 @@ clear-requires-5 c κs = search needs
 clear-requires-6 : tie.Need-clear-requires-6
 clear-requires-6 c κs = search needs
 
+-- each room keeps its length in the calls that it is lent to
 same-length : tie.Need-same-length
-same-length c = search needs
+same-length c =
+    let at-list-bits = c .before .before .before .before .before .before .before .before .before .before .before .before .before .before .before .before .before .before .before .before .before .before .before .before .before .before .before .before .before .before .before .before .before .before .before .before .before .before in
+    at-list-bits .list-bits .kept .1 .1 .1 .0
 
 same-length-2 : tie.Need-same-length-2
-same-length-2 c = search needs
+same-length-2 c =
+    let at-clear = c .before .before .before .before .before .before .before .before .before .before .before .before .before .before .before .before .before .before .before .before .before .before in
+    let at-list-bits = at-clear .before .before .before .before .before .before .before .before .before .before .before .before .before .before .before .before in
+    at-clear .clear .kept .0 ∙ at-list-bits .list-bits .kept .1 .1 .1 .1 .0
 
 same-length-3 : tie.Need-same-length-3
-same-length-3 c = search needs
+same-length-3 c =
+    let at-clear2 = c .before .before .before .before .before .before .before .before .before .before .before .before .before .before .before .before .before .before in
+    let at-list-bits = at-clear2 .before .before .before .before .before .before .before .before .before .before .before .before .before .before .before .before .before .before .before .before in
+    at-clear2 .clear2 .kept .0 ∙ at-list-bits .list-bits .kept .1 .1 .1 .1 .1 .0
 
 same-length-4 : tie.Need-same-length-4
-same-length-4 c = search needs
+same-length-4 c =
+    let at-clear3 = c .before .before .before .before .before .before .before .before .before .before .before .before .before .before in
+    let at-list-bits = at-clear3 .before .before .before .before .before .before .before .before .before .before .before .before .before .before .before .before .before .before .before .before .before .before .before .before in
+    at-clear3 .clear3 .kept .0 ∙ at-list-bits .list-bits .kept .1 .1 .1 .1 .1 .1 .0
 
 same-length-5 : tie.Need-same-length-5
-same-length-5 c = search needs
+same-length-5 c =
+    let at-clear4 = c .before .before .before .before .before .before .before .before .before .before in
+    let at-list-bits = at-clear4 .before .before .before .before .before .before .before .before .before .before .before .before .before .before .before .before .before .before .before .before .before .before .before .before .before .before .before .before in
+    at-clear4 .clear4 .kept .0 ∙ at-list-bits .list-bits .kept .1 .1 .1 .1 .1 .1 .1 .0
 
 same-length-6 : tie.Need-same-length-6
-same-length-6 c = search needs
+same-length-6 c =
+    let at-clear5 = c .before .before .before .before .before .before in
+    let at-list-bits = at-clear5 .before .before .before .before .before .before .before .before .before .before .before .before .before .before .before .before .before .before .before .before .before .before .before .before .before .before .before .before .before .before .before .before in
+    at-clear5 .clear5 .kept .0 ∙ at-list-bits .list-bits .kept .1 .1 .1 .1 .1 .1 .1 .1 .0
 
 same-length-7 : tie.Need-same-length-7
-same-length-7 c = search needs
+same-length-7 c =
+    let at-clear6 = c .before .before in
+    let at-list-bits = at-clear6 .before .before .before .before .before .before .before .before .before .before .before .before .before .before .before .before .before .before .before .before .before .before .before .before .before .before .before .before .before .before .before .before .before .before .before .before in
+    at-clear6 .clear6 .kept .0 ∙ at-list-bits .list-bits .kept .1 .1 .1 .1 .1 .1 .1 .1 .1 .0
 
 -- every other answer
 returns-3 : tie.Need-returns-3

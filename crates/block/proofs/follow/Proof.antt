@@ -113,14 +113,24 @@ clear-requires-2 c κs = search needs
 clear-requires-3 : tie.Need-clear-requires-3
 clear-requires-3 c κs = search needs
 
+-- each room keeps its length in the calls that it is lent to
 same-length : tie.Need-same-length
-same-length c = search needs
+same-length c =
+    let at-clear = c .before .before .before .before .before .before .before .before .before .before in
+    let at-follow-settings = at-clear .before .before .before .before .before .before .before .before in
+    at-clear .clear .kept .0 ∙ at-follow-settings .follow-settings .kept .1 .1 .1 .1 .1 .0
 
 same-length-2 : tie.Need-same-length-2
-same-length-2 c = search needs
+same-length-2 c =
+    let at-clear2 = c .before .before .before .before .before .before in
+    let at-follow-settings = at-clear2 .before .before .before .before .before .before .before .before .before .before .before .before in
+    at-clear2 .clear2 .kept .0 ∙ at-follow-settings .follow-settings .kept .1 .1 .1 .1 .1 .1 .0
 
 same-length-3 : tie.Need-same-length-3
-same-length-3 c = search needs
+same-length-3 c =
+    let at-clear3 = c .before .before in
+    let at-follow-settings = at-clear3 .before .before .before .before .before .before .before .before .before .before .before .before .before .before .before .before in
+    at-clear3 .clear3 .kept .0 ∙ at-follow-settings .follow-settings .kept .1 .1 .1 .1 .1 .1 .1 .0
 
 -- every other answer
 returns-3 : tie.Need-returns-3

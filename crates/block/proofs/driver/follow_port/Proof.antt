@@ -36,11 +36,12 @@ cast-t22 c =
     let few = tiles-le (at-start .args .b) (ok .size) in
     omega (arith, at-start .pre .1)
 
+-- each room keeps its length in the calls that it is lent to
 same-length : tie.Need-same-length
-same-length c = search needs
+same-length c = let at-fill-wires = c .before .before .before .before .before .before .before .before in at-fill-wires .fill-wires .kept .1 .0
 
 same-length-2 : tie.Need-same-length-2
-same-length-2 c = search needs
+same-length-2 c = let at-find-sources = c .before .before .before in at-find-sources .find-sources .kept .1 .1 .1 .1 .0
 
 -- contention
 returns : tie.Need-returns
@@ -51,10 +52,12 @@ returns c =
     port-contended B (at-start .args .table .now) (at-start .args .st .now) (at-start .args .tile) (at-start .args .port) _ (at-find-sources .find-sources .ensures .0) (omega (arith, at-start .pre .1))
 
 same-length-3 : tie.Need-same-length-3
-same-length-3 c = search needs
+same-length-3 c =
+    let at-fill-wires = c .before .before .before .before .before .before .before .before .before in
+    at-fill-wires .fill-wires .kept .1 .0
 
 same-length-4 : tie.Need-same-length-4
-same-length-4 c = search needs
+same-length-4 c = let at-find-sources = c .before .before .before .before in at-find-sources .find-sources .kept .1 .1 .1 .1 .0
 
 -- no such tile
 returns-2 : tie.Need-returns-2
@@ -71,10 +74,12 @@ returns-2 c =
     port-no-tile B table st tile port free (c .if2 .taken)
 
 same-length-5 : tie.Need-same-length-5
-same-length-5 c = search needs
+same-length-5 c =
+    let at-fill-wires = c .before .before .before .before .before .before .before .before .before .before in
+    at-fill-wires .fill-wires .kept .1 .0
 
 same-length-6 : tie.Need-same-length-6
-same-length-6 c = search needs
+same-length-6 c = let at-find-sources = c .before .before .before .before .before in at-find-sources .find-sources .kept .1 .1 .1 .1 .0
 
 -- no such port
 returns-3 : tie.Need-returns-3
@@ -155,13 +160,17 @@ driver-of-requires c κs =
     (ok .size, omega (arith, at-start .pre .2), subst Bounded (sym (at-find-sources .find-sources .ensures .1)) (sources-bounded B table st ok), subst (λ (x : ℕ). x < ports B) (sym wire) within, at-start .pre .3)
 
 same-length-7 : tie.Need-same-length-7
-same-length-7 c = search needs
+same-length-7 c =
+    let at-fill-wires = c .before .before .before .before .before .before .before .before .before .before .before .before .before .before .before .before in
+    at-fill-wires .fill-wires .kept .1 .0
 
 same-length-8 : tie.Need-same-length-8
-same-length-8 c = search needs
+same-length-8 c =
+    let at-find-sources = c .before .before .before .before .before .before .before .before .before .before .before in
+    at-find-sources .find-sources .kept .1 .1 .1 .1 .0
 
 same-length-9 : tie.Need-same-length-9
-same-length-9 c = search needs
+same-length-9 c = let at-driver-of = c .before .before in at-driver-of .driver-of .kept .1 .1 .1 .0
 
 -- where following ends
 returns-4 : tie.Need-returns-4

@@ -104,14 +104,17 @@ follow-port-requires c κs =
     let few = tiles-le B (at-start .pre .0 .0) in
     (routed-of-fit B table st (at-start .pre .0 .0) rules (at-start .pre .0 .2) (omega (arith, at-bitless-tile .bitless-tile .ensures, at-if2 .if2 .left)), at-start .pre .1 .0, at-start .pre .1 .1, at-start .pre .1 .2)
 
+-- each room keeps its length in the calls that it is lent to
 same-length : tie.Need-same-length
-same-length c = search needs
+same-length c = let at-follow-port = c .before .before .before .before .before .before in at-follow-port .follow-port .kept .1 .1 .1 .1 .1 .0
 
 same-length-2 : tie.Need-same-length-2
-same-length-2 c = search needs
+same-length-2 c = let at-follow-port = c .before .before .before .before .before .before in at-follow-port .follow-port .kept .1 .1 .1 .1 .1 .1 .0
 
 same-length-3 : tie.Need-same-length-3
-same-length-3 c = search needs
+same-length-3 c =
+    let at-follow-port = c .before .before .before .before .before .before in
+    at-follow-port .follow-port .kept .1 .1 .1 .1 .1 .1 .1 .0
 
 -- the answer for settings that some bits have
 returns-3 : tie.Need-returns-3

@@ -33,17 +33,24 @@ find-sources-requires c κs =
 put-lines-requires : tie.Need-put-lines-requires
 put-lines-requires c κs = search needs
 
+-- each room keeps its length in the calls that it is lent to
 same-length : tie.Need-same-length
-same-length c = search needs
+same-length c =
+    let at-decode-block = c .before .before .before .before .before .before .before .before .before .before .before .before .before .before .before .before .before .before in
+    at-decode-block .decode-block .kept .1 .1 .0
 
 same-length-2 : tie.Need-same-length-2
-same-length-2 c = search needs
+same-length-2 c =
+    let at-fill-wires = c .before .before .before .before .before .before .before .before .before .before .before .before .before .before in
+    at-fill-wires .fill-wires .kept .1 .0
 
 same-length-3 : tie.Need-same-length-3
-same-length-3 c = search needs
+same-length-3 c =
+    let at-find-sources = c .before .before .before .before .before .before .before .before in
+    at-find-sources .find-sources .kept .1 .1 .1 .1 .0
 
 same-length-4 : tie.Need-same-length-4
-same-length-4 c = search needs
+same-length-4 c = let at-put-lines = c .before .before in at-put-lines .put-lines .kept .1 .1 .1 .0
 
 returns : tie.Need-returns
 unfolding acceptedLines

@@ -174,7 +174,9 @@ put-built-requires c κs =
     )
 
 same-length : tie.Need-same-length
-same-length c = search needs
+same-length c =
+    let at-put-built = c .before .before .before .before .before .before .before .before .before in
+    at-put-built .put-built .kept .1 .1 .1 .1 .1 .1 .1 .1 .1 .1 .1 .0
 
 returns : tie.Need-returns
 returns c = search needs

@@ -6,20 +6,18 @@ use Prim.Native.Nat.{ℕ, _+_, _-_, _<_, _≤_}
 use native.Mathlib.Omega.{arith}
 use lib.ListN.{length, getD, set, length-set}
 use lib.Seq.{getD-set-same, getD-set-other}
-use Rattle.lists.specs.Tables.{zeros}
 use Rattle.lists.proofs.CaseLaws.{eq-or-ne}
-use Rattle.lists.proofs.TableLaws.{zeros-length}
 use Rattle.netlist.specs.Marks.{unmarked}
 use Rattle.netlist.specs.Ranks.{Descending, stepsLeft}
 use Rattle.netlist.specs.declared.ranking.Descent.{Descent}
-use Rattle.netlist.proofs.MarkLaws.{unmarked-mark, unmarked-set-le, unmarked-zeros}
+use Rattle.netlist.proofs.MarkLaws.{unmarked-mark, unmarked-set-le, unmarked-le}
 
-pub descending-start : (n : ℕ) (q : List ℕ) → n ≤ length q → Descending (zeros n) q (record { depth = 0; held = 0; ranks = 0 })
-descending-start n q room =
-    let e : length (zeros n) ≡ n = zeros-length n in
-    let u = unmarked-zeros n in
+-- whichever wires are marked at the start
+pub descending-start : (m q : List ℕ) → length m ≤ length q → Descending m q (record { depth = 0; held = 0; ranks = 0 })
+descending-start m q room =
+    let u = unmarked-le m in
     record {
-      room = omega arith;
+      room = room;
       left = omega arith;
       path-lt = λ i l. absurd (omega arith);
       held-lt = λ i l b. absurd (omega arith);

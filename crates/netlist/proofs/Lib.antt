@@ -10,14 +10,15 @@ pub mod ReadyLaws  -- ready, next; order-induction
 pub mod WaitingLaws  -- only-listed-list, chain-unique, stuck-unique: who waits for whom
 pub mod WatchLaws  -- watched-wait, watched-list, watched-idle: what is kept of that while the order is made
 pub mod DueLaws  -- taken-woken, taken-new; Waking: which wires are due to be looked at
-pub mod LoopLaws  -- stuck-loop: where none is ready one depends on itself; Safe: no listed wire does
+pub mod LoopLaws  -- stuck-loop: where none is ready one depends on itself; Safe, settled-end: no listed wire does
 pub mod PlacedLaws  -- Placed: the order's wires, each once, none before what it reads
 pub mod EquationLaws  -- solved-step, agree-step: one step of running the order
 pub mod GraphLaws  -- what a row that was read says of its wire
 pub mod Searching  -- the loop that searches the next wire
 pub mod Listing  -- the loop that lists the wires
-pub mod RankLaws  -- lower-no-loop: a wire that reads only lower ranks does not depend on itself
+pub mod RankLaws  -- lower-no-loop: a wire that reads only lower ranks and listed wires does not depend on itself
 pub mod Descending  -- the steps that rank wires stay in the work room
+pub mod Copying  -- Copied: a slice filled with what stands in a list
 pub mod Reaching  -- the loop that follows readings from a wire on
 pub mod Settling  -- the loop that runs a list; run-bits
 pub mod SchedulingLaws  -- answers-unique: the promise determines the answer; whether a wire is left over; the rows written are the order's

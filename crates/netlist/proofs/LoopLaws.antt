@@ -1,6 +1,6 @@
 -- Why the order ends early exactly at a loop. A walk from a waiting wire to one that it waits for meets itself (`stuck-loop`), and what
--- a listed wire depends on is listed and another wire (`Safe`).
-use mathlib.Core.Path.{_≡_, sym, _∙_}
+-- a listed wire depends on is listed and another wire (`Safe`, and `settled-end` for the search for a loop).
+use mathlib.Core.Path.{_≡_, refl, sym, _∙_}
 use mathlib.Core.Bool.{true, false}
 use mathlib.Core.Logic.{⊎-elim, _≢_}
 use mathlib.Core.List.{List}
@@ -12,7 +12,7 @@ use Rattle.lists.proofs.CaseLaws.{cases, clash, eq-or-ne}
 use Rattle.lists.proofs.TableLaws.{zeros-length}
 use Rattle.netlist.specs.Graph.{Graph, Reads, DependsOn, reads, via, Closed}
 use Rattle.netlist.specs.Marks.{listed, marksAfter, unmarked}
-use Rattle.netlist.specs.Order.{ready, next, orderMarks}
+use Rattle.netlist.specs.Order.{ready, next, orderMarks, Settled}
 use Rattle.netlist.proofs.MarkLaws.{unlisted-zero, listed-set-other, listed-set-kept, unmarked-set, unmarked-none, unmarked-zeros, zeros-unlisted}
 use Rattle.netlist.proofs.ReadyLaws.{ready-reads, ready-unlisted, ready-false-reads, next-none, order-induction}
 
@@ -86,3 +86,6 @@ module _ (g : Graph) (n : ℕ) where
   pub safe-end : Safe g (orderMarks g n)
   unfolding Kept orderMarks
   safe-end = order-induction g n Kept (λ m e h s. s) (λ m l w e lt r ih s. ih (safe-step g m w (omega arith) r s)) (safe-start g n)
+
+  pub settled-end : Settled g (orderMarks g n)
+  settled-end = record { reads-listed = λ w d h r. safe-end w d h (reads r) .0; no-loop = λ w h dep. safe-end w w h dep .1 refl }

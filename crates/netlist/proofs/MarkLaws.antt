@@ -72,6 +72,11 @@ unmarked-set-le (suc y ∷ m) zero (suc x) p = omega arith
 unmarked-set-le (zero ∷ m) (suc w) x p = let h = unmarked-set-le m w x p in omega arith
 unmarked-set-le (suc y ∷ m) (suc w) x p = unmarked-set-le m w x p
 
+pub unmarked-le : (m : List ℕ) → unmarked m ≤ length m
+unmarked-le [] = omega arith
+unmarked-le (zero ∷ m) = let h = unmarked-le m in omega arith
+unmarked-le (suc x ∷ m) = let h = unmarked-le m in omega arith
+
 pub unmarked-zeros : (n : ℕ) → unmarked (zeros n) ≡ n
 unmarked-zeros zero = refl
 unmarked-zeros (suc n) = ap suc (unmarked-zeros n)

@@ -1,5 +1,5 @@
--- The loop that follows readings from one wire on: what holds each time that it takes the next wire of its queue (`Reaching`), and at each
--- operand of that wire (`Taking`).
+-- The loop that follows readings from one wire on, into no listed one: what holds each time that it takes the next wire of its queue
+-- (`Reaching`), and at each operand of that wire (`Taking`).
 use mathlib.Core.Path.{_≡_, refl, sym, subst, _∙_}
 use mathlib.Core.Bool.{true, false}
 use mathlib.Core.Logic.{_⊎_, inl, inr, ⊎-elim, _≢_}
@@ -9,12 +9,11 @@ use native.Mathlib.Omega.{arith}
 use lib.ListN.{length, getD, set, length-set}
 use lib.Seq.{getD-set-same, getD-set-other}
 use borrow.Author.Count.{below-more}
-use Rattle.lists.specs.Tables.{zeros}
 use Rattle.lists.proofs.CaseLaws.{eq-or-ne, clash, below-suc}
-use Rattle.lists.proofs.TableLaws.{zeros-length}
 use Rattle.netlist.specs.Graph.{Graph, Reads, DependsOn, reads, via}
-use Rattle.netlist.specs.Marks.{listed, unmarked}
-use Rattle.netlist.proofs.MarkLaws.{unmarked-set, unmarked-zeros, unlisted-zero, listed-set-same, listed-set-other, listed-set-kept, zeros-unlisted}
+use Rattle.netlist.specs.Marks.{listed, Unlisted, unmarked}
+use Rattle.netlist.specs.Order.{Settled}
+use Rattle.netlist.proofs.MarkLaws.{unmarked-set, unmarked-le, listed-false, unlisted-zero, listed-set-same, listed-set-other, listed-set-kept}
 use Rattle.netlist.proofs.LoopLaws.{depends-then}
 
 module _ (g : Graph) where
@@ -26,33 +25,35 @@ module _ (g : Graph) where
   reach-then s v d (inl e) r = rw e (reads r)
   reach-then s v d (inr h) r = depends-then g h r
 
-module _ (g : Graph) (n s : ℕ) where
+-- `old` marks the listed wires: they are marked from the start, and never queued
+module _ (g : Graph) (n s : ℕ) (old : List ℕ) where
   pub record Reaching (marks queue : List ℕ) (head tail : ℕ) : Type 0 where
     pub long : length marks ≡ n
     pub room : n ≤ length queue
     pub front : head ≤ tail
-    pub left : tail + unmarked marks ≡ n
+    pub left : tail + unmarked marks ≤ n
     pub start : listed marks s ≡ true
     pub below : (i : ℕ) → i < tail → getD queue i 0 < n
     pub reach : (i : ℕ) → i < tail → Reach g s (getD queue i 0)
-    pub queued : (d : ℕ) → listed marks d ≡ true → (i : ℕ) × (i < tail) × (getD queue i 0 ≡ d)
+    pub kept : (d : ℕ) → listed old d ≡ true → listed marks d ≡ true
+    pub queued : (d : ℕ) → listed marks d ≡ true → (listed old d ≡ true) ⊎ ((i : ℕ) × (i < tail) × (getD queue i 0 ≡ d))
     pub done : (i : ℕ) → i < head → (d : ℕ) → Reads g (getD queue i 0) d → (listed marks d ≡ true) × (d ≢ s)
 
-  pub reaching-start : (q : List ℕ) → s < n → n ≤ length q → Reaching (set (zeros n) s 1) (set q 0 s) 0 1
-  reaching-start q l room =
-      let z : length (zeros n) ≡ n = zeros-length n in
-      let u = unmarked-zeros n in
-      let f = unmarked-set (zeros n) s (omega arith) (unlisted-zero (zeros n) s (zeros-unlisted n s)) in
+  pub reaching-start : (q : List ℕ) → length old ≡ n → Unlisted old s → s < n → n ≤ length q → Reaching (set old s 1) (set q 0 s) 0 1
+  reaching-start q e new l room =
+      let u = unmarked-le old in
+      let f = unmarked-set old s (omega arith) new in
       let at : getD (set q 0 s) 0 0 ≡ s = getD-set-same q 0 s 0 (omega arith) in
       record {
-        long = length-set (zeros n) s 1 ∙ z;
+        long = length-set old s 1 ∙ e;
         room = omega (arith, length-set q 0 s);
         front = omega arith;
         left = omega arith;
-        start = listed-set-same (zeros n) s (omega arith);
+        start = listed-set-same old s (omega arith);
         below = below-suc (λ i. getD (set q 0 s) i 0 < n) 0 (λ i li. absurd (omega arith)) (rw at l);
         reach = below-suc (λ i. Reach g s (getD (set q 0 s) i 0)) 0 (λ i li. absurd (omega arith)) (rw at (inl refl));
-        queued = λ d h. ⊎-elim (λ (e : d ≡ s). (0, omega arith, at ∙ sym e)) (λ ne. clash (sym (listed-set-other (zeros n) s d ne) ∙ h) (zeros-unlisted n d)) (eq-or-ne d s);
+        kept = λ d h. listed-set-kept old s d (omega arith) h;
+        queued = λ d h. ⊎-elim (λ (e : d ≡ s). inr (0, omega arith, at ∙ sym e)) (λ ne. inl (sym (listed-set-other old s d ne) ∙ h)) (eq-or-ne d s);
         done = λ i li. absurd (omega arith);
       }
 
@@ -71,8 +72,9 @@ module _ (g : Graph) (n s : ℕ) where
           start = listed-set-kept m d s (omega arith) (h .start);
           below = below-more (λ i. getD (set q tail d) i 0 < n) tail (λ i li. rw (same-at i li) (h .below i li)) (rw end-at l);
           reach = below-more (λ i. Reach g s (getD (set q tail d) i 0)) tail (λ i li. rw (same-at i li) (h .reach i li)) (rw end-at r);
-          queued = λ x hx. ⊎-elim (λ (e : x ≡ d). (tail, omega arith, end-at ∙ sym e))
-              (λ ne. let o = h .queued x (sym (listed-set-other m d x ne) ∙ hx) in (o .0, omega arith, same-at (o .0) (o .1) ∙ o .2)) (eq-or-ne x d);
+          kept = λ x hx. listed-set-kept m d x (omega arith) (h .kept x hx);
+          queued = λ x hx. ⊎-elim (λ (e : x ≡ d). inr (tail, omega arith, end-at ∙ sym e))
+              (λ ne. ⊎-elim (λ o. inl o) (λ o. inr (o .0, omega arith, same-at (o .0) (o .1) ∙ o .2)) (h .queued x (sym (listed-set-other m d x ne) ∙ hx))) (eq-or-ne x d);
           done = λ i li x rd. let o = h .done i li x (rw (same-at i (omega arith)) at rd) in (listed-set-kept m d x (omega arith) (o .0), o .1);
         }
 
@@ -86,17 +88,25 @@ module _ (g : Graph) (n s : ℕ) where
       start = h .start;
       below = h .below;
       reach = h .reach;
+      kept = h .kept;
       queued = h .queued;
       done = below-more (λ i. (d : ℕ) → Reads g (getD q i 0) d → (listed m d ≡ true) × (d ≢ s)) head (h .done) all;
     }
 
     -- with all done, the marks are closed, and s is not met again
-    pub closed : tail ≤ head → {v d : ℕ} → listed m v ≡ true → DependsOn g v d → (listed m d ≡ true) × (d ≢ s)
-    closed e lv (reads r) = let o = h .queued _ lv in h .done (o .0) (omega arith) _ (rw (o .2) r)
-    closed e lv (via r t) = let o = h .queued _ lv in closed e (h .done (o .0) (omega arith) _ (rw (o .2) r) .0) t
+    module _ (settled : Settled g old) (new : Unlisted old s) (e : tail ≤ head) where
+      -- by `Settled` where v is listed
+      next : (v d : ℕ) → listed m v ≡ true → Reads g v d → (listed m d ≡ true) × (d ≢ s)
+      next v d lv r =
+          ⊎-elim (λ o. let t = settled .reads-listed v d o r in (h .kept d t, λ q. clash t (rw q (listed-false old s new))))
+          (λ o. h .done (o .0) (omega arith) d (rw (o .2) r)) (h .queued v lv)
 
-    pub reaching-end : tail ≤ head → DependsOn g s s → ⊥
-    reaching-end e t = closed e (h .start) t .1 refl
+      closed : {v d : ℕ} → listed m v ≡ true → DependsOn g v d → (listed m d ≡ true) × (d ≢ s)
+      closed lv (reads r) = next _ _ lv r
+      closed lv (via r t) = closed (next _ _ lv r .0) t
+
+      pub reaching-end : DependsOn g s s → ⊥
+      reaching-end t = closed (h .start) t .1 refl
 
   -- ---- the operands of the wire v at the head, of which j are looked at
 

@@ -30,11 +30,17 @@ module _ (m : List ℕ) where
   unfolding onlyListed
   only-listed-at w = List·getD-map (λ (x : ℕ). cond (eqb x 1) 1 0) m w 0
 
+  pub only-listed-one : (w : ℕ) → getD m w 0 ≡ 1 → getD (onlyListed m) w 0 ≡ 1
+  only-listed-one w e = only-listed-at w ∙ rw (eq-eqb _ _ e)
+
+  pub only-listed-zero : (w : ℕ) → getD m w 0 ≢ 1 → getD (onlyListed m) w 0 ≡ 0
+  only-listed-zero w ne = only-listed-at w ∙ rw (ne-eqb _ _ ne)
+
   pub only-listed-true : (w : ℕ) → getD m w 0 ≡ 1 → listed (onlyListed m) w ≡ true
-  only-listed-true w e = let h : getD (onlyListed m) w 0 ≡ 1 = only-listed-at w ∙ rw (eq-eqb _ _ e) in listed-true (onlyListed m) w (λ z. absurd (omega arith))
+  only-listed-true w e = let h = only-listed-one w e in listed-true (onlyListed m) w (λ z. absurd (omega arith))
 
   pub only-listed-false : (w : ℕ) → getD m w 0 ≢ 1 → listed (onlyListed m) w ≡ false
-  only-listed-false w ne = listed-false (onlyListed m) w (only-listed-at w ∙ rw (ne-eqb _ _ ne))
+  only-listed-false w ne = listed-false (onlyListed m) w (only-listed-zero w ne)
 
   -- a wire that is not listed may remember anything
   pub only-listed-wait : (d v : ℕ) → getD m d 0 ≢ 1 → v ≢ 1 → onlyListed (set m d v) ≡ onlyListed m

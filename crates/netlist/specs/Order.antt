@@ -7,7 +7,7 @@ use lib.Dec.{ltb}
 use lib.ListN.{set}
 use Rattle.lists.specs.Search.{first, all}
 use Rattle.lists.specs.Tables.{zeros}
-use Rattle.netlist.specs.Graph.{Graph}
+use Rattle.netlist.specs.Graph.{Graph, Reads, DependsOn}
 use Rattle.netlist.specs.Marks.{listed, marksAfter}
 
 -- a "wire not yet listed whose dependencies all are"
@@ -34,3 +34,8 @@ orderMarks g n = marksAfter (zeros n) (order g n)
 -- the order has every wire
 abbrev pub AllListed : Graph → ℕ → Type 0
 AllListed g n = (w : ℕ) → w < n → g .wire w ≡ true → listed (orderMarks g n) w ≡ true
+
+-- why the search for a loop need not look at the wires that are marked: they read only marked ones, and none depends on itself
+pub record Settled (g : Graph) (marks : List ℕ) : Type 0 where
+  pub reads-listed : (w d : ℕ) → listed marks w ≡ true → Reads g w d → listed marks d ≡ true
+  pub no-loop : (w : ℕ) → listed marks w ≡ true → DependsOn g w w → ⊥

@@ -1,19 +1,26 @@
--- Ranks: a number for each wire, by which ground 7's place, "lowest wire depending on itself", is found without a search from each wire. Where none
--- reads one of a higher rank, a wire that reads only lower ones does not depend on itself (proofs/RankLaws.antt). How ranks are found is left open.
+-- Ranks: a number for each wire that is not listed, by which ground 7's place, "lowest wire depending on itself", is found without a search from
+-- each wire. Where none of these reads one of a higher rank, one that reads only lower ones does not depend on itself (proofs/RankLaws.antt):
+-- a listed wire reads only listed ones, so no chain of readings leads back from one. How ranks are found is left open.
 use mathlib.Core.List.{List}
 use Prim.Native.Nat.{ℕ, _+_, _*_, _<_, _≤_}
 use lib.ListN.{length, getD}
 use Rattle.netlist.specs.Graph.{Graph, Reads}
-use Rattle.netlist.specs.Marks.{unmarked}
+use Rattle.netlist.specs.Marks.{Unlisted, unmarked}
 use Rattle.netlist.specs.declared.ranking.Descent.{Descent}
 
--- no wire reads one of a higher rank
-abbrev pub Ranked : Graph → List ℕ → Type 0
-Ranked g ranks = (w d : ℕ) → w < length ranks → Reads g w d → getD ranks d 0 ≤ getD ranks w 0
+-- no wire reads one of a higher rank, among those that are not listed; `old` marks the listed ones
+abbrev pub Ranked : Graph → List ℕ → List ℕ → Type 0
+Ranked g old ranks = (w d : ℕ) → w < length ranks → Unlisted old w → Unlisted old d → Reads g w d → getD ranks d 0 ≤ getD ranks w 0
 
--- w reads only wires of lower ranks
-abbrev pub ReadsLower : Graph → List ℕ → ℕ → Type 0
-ReadsLower g ranks w = (d : ℕ) → Reads g w d → getD ranks d 0 < getD ranks w 0
+-- w reads only wires of lower ranks, and listed ones
+abbrev pub ReadsLower : Graph → List ℕ → List ℕ → ℕ → Type 0
+ReadsLower g old ranks w = (d : ℕ) → Unlisted old d → Reads g w d → getD ranks d 0 < getD ranks w 0
+
+-- those below w that are not listed read only lower ranks, and w is not listed or the number of indices
+pub record FirstLevel (g : Graph) (old ranks : List ℕ) (w : ℕ) : Type 0 where
+  pub within : w ≤ length ranks
+  pub before : (v : ℕ) → v < w → Unlisted old v → ReadsLower g old ranks v
+  pub here : w < length ranks → Unlisted old w
 
 -- what bounds the work room while wires are ranked: each is on the path, held, ranked or without a mark
 pub record Descending (marks queue : List ℕ) (at : Descent) : Type 0 where

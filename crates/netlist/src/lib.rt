@@ -5,6 +5,7 @@
 // repository has the fact at hand; none is an entry point.
 pub mod check;
 pub mod loops;
+pub mod marks;
 pub mod order;
 pub mod ranking;
 pub mod ranks;

@@ -1,10 +1,16 @@
-// Combinational loops (the papers' loop): which wire depends on itself.
+// Combinational loops (the papers' loop): which wire depends on itself. Only wires that were not listed are looked at: a listed one reads only
+// listed ones and is on no loop (`Settled`).
 ghost use mathlib.Core.Path.{_≡_};
 ghost use Prim.Native.Nat.{_+_, _*_, _^_, _<_, _≤_};
 ghost use mathlib.Core.Bool.{true, false};
 ghost use lib.ListN.{length};
 ghost use Rattle.netlist.specs.Graph.{Closed, DependsOn, LowestLoop};
+ghost use Rattle.netlist.specs.Marks.{Unlisted};
+ghost use Rattle.netlist.specs.Order.{Settled};
 ghost use Rattle.netlist.specs.Rows.{rowLength, graphOf};
+ghost use Rattle.netlist.specs.Waiting.{onlyListed};
+use crate::marks::copy_marks;
+use crate::marks::write_listed;
 use crate::ranking::rank_wires;
 use crate::ranks::first_level;
 use crate::ranks::is_ranked;
@@ -13,17 +19,25 @@ use crate::row::operand;
 use crate::row::row_at;
 use crate::row::wide;
 
-// Whether a wire depends on itself: follows the readings from it on, each wire once, until it is met again.
-pub fn depends_on_itself(rows: &[u16], start: usize, marks: &mut [u16], queue: &mut [u16]) -> bool
+// Whether a wire that is not listed depends on itself: follows the readings from it on, each wire once and no listed one, until it is met
+// again.
+pub fn depends_on_itself(
+    rows: &[u16],
+    start: usize,
+    marks: &mut [u16],
+    queue: &mut [u16],
+    listed: &[u16],
+) -> bool
     requires { ⌜ length (now rows) ≡ rowLength * length (now marks) ⌝ }
     requires { ⌜ Closed (graphOf (now rows)) (length (now marks)) ⌝ }
     requires { ⌜ (length (now marks) ≤ length (now queue)) × (length (now marks) ≤ 2 ^ 16) ⌝ }
-    requires { ⌜ start < length (now marks) ⌝ }
+    requires { ⌜ (length (now listed) ≡ length (now marks)) × Settled (graphOf (now rows)) (now listed) ⌝ }
+    requires { ⌜ (start < length (now marks)) × Unlisted (now listed) start ⌝ }
     ensures yes { λ r. ⌜ (r ≡ true → DependsOn (graphOf (now (rows .entry))) start start) ⌝ }
     ensures no { λ r. ⌜ (r ≡ false → DependsOn (graphOf (now (rows .entry))) start start → ⊥) ⌝ }
 {
     let n = marks.len();
-    lists::clear(marks);
+    copy_marks(listed, marks);
     marks[start] = 1;
     queue[0] = start as u16;
     let mut head = 0;
@@ -51,18 +65,21 @@ pub fn depends_on_itself(rows: &[u16], start: usize, marks: &mut [u16], queue: &
     false
 }
 
-// The lowest wire that depends on itself, or the number of indices, by a search from each.
-fn search_loop(rows: &[u16], marks: &mut [u16], queue: &mut [u16]) -> usize
+// The lowest wire that depends on itself, or the number of indices, by a search from each that is not listed.
+fn search_loop(rows: &[u16], marks: &mut [u16], queue: &mut [u16], listed: &[u16]) -> usize
     requires { ⌜ length (now rows) ≡ rowLength * length (now marks) ⌝ }
     requires { ⌜ Closed (graphOf (now rows)) (length (now marks)) ⌝ }
     requires { ⌜ (length (now marks) ≤ length (now queue)) × (length (now marks) ≤ 2 ^ 16) ⌝ }
+    requires { ⌜ (length (now listed) ≡ length (now marks)) × Settled (graphOf (now rows)) (now listed) ⌝ }
     ensures { λ r. ⌜ LowestLoop (graphOf (now (rows .entry))) (length (now (marks .entry))) r ⌝ }
 {
     let n = marks.len();
     let mut w = 0;
     while w < n {
-        if depends_on_itself(rows, w, marks, queue) {
-            return w;
+        if listed[w] == 0 {
+            if depends_on_itself(rows, w, marks, queue, listed) {
+                return w;
+            }
         }
         w += 1;
     }
@@ -71,23 +88,36 @@ fn search_loop(rows: &[u16], marks: &mut [u16], queue: &mut [u16]) -> usize
 
 // The lowest wire that depends on itself, or the number of indices. Ranks show that none below it does and one search that it does, so that
 // the time is that of reading the rows a few times. Ranks that fail the check are thrown away.
-// Rules out: a wire that only hangs on a loop; a loop's highest wire.
-pub fn lowest_loop(rows: &[u16], marks: &mut [u16], queue: &mut [u16]) -> usize
+fn find_loop(rows: &[u16], marks: &mut [u16], queue: &mut [u16], listed: &[u16]) -> usize
     requires { ⌜ length (now rows) ≡ rowLength * length (now marks) ⌝ }
     requires { ⌜ Closed (graphOf (now rows)) (length (now marks)) ⌝ }
     requires { ⌜ (length (now marks) ≤ length (now queue)) × (length (now marks) ≤ 2 ^ 15) ⌝ }
+    requires { ⌜ (length (now listed) ≡ length (now marks)) × Settled (graphOf (now rows)) (now listed) ⌝ }
     ensures { λ r. ⌜ LowestLoop (graphOf (now (rows .entry))) (length (now (marks .entry))) r ⌝ }
 {
     let n = marks.len();
-    rank_wires(rows, marks, queue);
-    if is_ranked(rows, marks) {
-        let w = first_level(rows, marks);
+    rank_wires(rows, marks, queue, listed);
+    if is_ranked(rows, marks, listed) {
+        let w = first_level(rows, marks, listed);
         if w == n {
             return n;
         }
-        if depends_on_itself(rows, w, marks, queue) {
+        if depends_on_itself(rows, w, marks, queue, listed) {
             return w;
         }
     }
-    search_loop(rows, marks, queue)
+    search_loop(rows, marks, queue, listed)
+}
+
+// The same, from the marks as `list_wires` leaves them; `listed` is a room for what they say of listed wires.
+// Rules out: a wire that only hangs on a loop; a loop's highest wire.
+pub fn lowest_loop(rows: &[u16], marks: &mut [u16], queue: &mut [u16], listed: &mut [u16]) -> usize
+    requires { ⌜ length (now rows) ≡ rowLength * length (now marks) ⌝ }
+    requires { ⌜ Closed (graphOf (now rows)) (length (now marks)) ⌝ }
+    requires { ⌜ (length (now listed) ≡ length (now marks)) × (length (now marks) ≤ length (now queue)) × (length (now marks) ≤ 2 ^ 15) ⌝ }
+    requires { ⌜ Settled (graphOf (now rows)) (onlyListed (now marks)) ⌝ }
+    ensures { λ r. ⌜ LowestLoop (graphOf (now (rows .entry))) (length (now (marks .entry))) r ⌝ }
+{
+    write_listed(marks, listed);
+    find_loop(rows, marks, queue, listed)
 }

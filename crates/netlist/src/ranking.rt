@@ -1,5 +1,5 @@
 // A guess at ranks by which the wires of a loop have one: the strong components of what is read, found depth first (after Pearce) in the
-// lent room. Only what bounds that room is proved of it, and `is_ranked` checks what it gives.
+// lent room. Listed wires are left out. Only what bounds that room is proved of it, and `is_ranked` checks what it gives.
 ghost use mathlib.Core.Path.{_≡_};
 ghost use Prim.Native.Nat.{ℕ, _+_, _*_, _^_, _<_, _≤_};
 ghost use lib.ListN.{length, getD};
@@ -8,6 +8,7 @@ ghost use Rattle.netlist.specs.Marks.{unmarked};
 ghost use Rattle.netlist.specs.Rows.{rowLength, graphOf};
 ghost use Rattle.netlist.specs.Ranks.{Descending, stepsLeft};
 ghost use Rattle.netlist.specs.declared.ranking.Descent.{Descent};
+use crate::marks::copy_marks;
 use crate::ranks::highest_mark;
 use crate::row::arity;
 use crate::row::operand;
@@ -133,14 +134,15 @@ fn rank_path(rows: &[u16], marks: &mut [u16], queue: &mut [u16], from: Descent) 
     at
 }
 
-// Ranks every index: the marks end as a guess at its rank.
-pub fn rank_wires(rows: &[u16], marks: &mut [u16], queue: &mut [u16])
+// Ranks every index that is not listed: its mark ends as a guess at its rank. A listed one has a mark from the start, and is never entered.
+pub fn rank_wires(rows: &[u16], marks: &mut [u16], queue: &mut [u16], listed: &[u16])
     requires { ⌜ length (now rows) ≡ rowLength * length (now marks) ⌝ }
     requires { ⌜ Closed (graphOf (now rows)) (length (now marks)) ⌝ }
     requires { ⌜ (length (now marks) ≤ length (now queue)) × (length (now marks) ≤ 2 ^ 15) ⌝ }
+    requires { ⌜ length (now listed) ≡ length (now marks) ⌝ }
 {
     let n = marks.len();
-    lists::clear(marks);
+    copy_marks(listed, marks);
     let mut at = Descent {
         depth: 0,
         held: 0,

@@ -1,11 +1,13 @@
-// Ranks of wires: numbers such that no wire reads one of a higher rank. A wire that reads only lower ones is on no loop.
+// Ranks of the wires that are not listed: numbers such that none of them reads another of a higher rank. One that reads only lower and listed
+// ones is on no loop. The check of the ranks reads no row of a listed wire.
 ghost use mathlib.Core.Path.{_≡_};
 ghost use Prim.Native.Nat.{ℕ, _+_, _*_, _<_, _≤_};
 ghost use mathlib.Core.Bool.{true};
 ghost use lib.ListN.{length, getD};
 ghost use Rattle.netlist.specs.Graph.{Closed, Reads};
+ghost use Rattle.netlist.specs.Marks.{Unlisted};
 ghost use Rattle.netlist.specs.Rows.{rowLength, graphOf};
-ghost use Rattle.netlist.specs.Ranks.{Ranked, ReadsLower};
+ghost use Rattle.netlist.specs.Ranks.{Ranked, FirstLevel};
 use crate::row::arity;
 use crate::row::operand;
 use crate::row::row_at;
@@ -31,34 +33,64 @@ pub fn highest_mark(rows: &[u16], marks: &[u16], v: usize) -> u16
     high
 }
 
-// Whether no wire reads one of a higher rank.
-pub fn is_ranked(rows: &[u16], ranks: &[u16]) -> bool
+// The highest rank of what v reads and is not listed, or 0.
+fn highest_rank(rows: &[u16], ranks: &[u16], listed: &[u16], v: usize) -> u16
+    requires { ⌜ length (now rows) ≡ rowLength * length (now ranks) ⌝ }
+    requires { ⌜ Closed (graphOf (now rows)) (length (now ranks)) × (v < length (now ranks)) ⌝ }
+    requires { ⌜ length (now listed) ≡ length (now ranks) ⌝ }
+    ensures { λ r. ⌜ ((d : ℕ) → Unlisted (now (listed .entry)) d → Reads (graphOf (now (rows .entry))) v d → getD (now (ranks .entry)) d 0 ≤ r) ⌝ }
+{
+    let row = row_at(rows, v);
+    let count = arity(row);
+    let mut high = 0;
+    let mut j = 0;
+    while j < count {
+        let d = wide(operand(row, j));
+        if listed[d] == 0 {
+            let rank = ranks[d];
+            if high < rank {
+                high = rank;
+            }
+        }
+        j += 1;
+    }
+    high
+}
+
+// Whether no wire reads one of a higher rank, among those that are not listed.
+pub fn is_ranked(rows: &[u16], ranks: &[u16], listed: &[u16]) -> bool
     requires { ⌜ length (now rows) ≡ rowLength * length (now ranks) ⌝ }
     requires { ⌜ Closed (graphOf (now rows)) (length (now ranks)) ⌝ }
-    ensures { λ r. ⌜ (r ≡ true → Ranked (graphOf (now (rows .entry))) (now (ranks .entry))) ⌝ }
+    requires { ⌜ length (now listed) ≡ length (now ranks) ⌝ }
+    ensures { λ r. ⌜ (r ≡ true → Ranked (graphOf (now (rows .entry))) (now (listed .entry)) (now (ranks .entry))) ⌝ }
 {
     let mut w = 0;
     while w < ranks.len() {
-        let high = highest_mark(rows, ranks, w);
-        if ranks[w] < high {
-            return false;
+        if listed[w] == 0 {
+            let high = highest_rank(rows, ranks, listed, w);
+            if ranks[w] < high {
+                return false;
+            }
         }
         w += 1;
     }
     true
 }
 
-// The lowest wire that does not read only lower ranks, or the number of indices.
-pub fn first_level(rows: &[u16], ranks: &[u16]) -> usize
+// The lowest wire that is not listed and does not read only lower ranks, or the number of indices.
+pub fn first_level(rows: &[u16], ranks: &[u16], listed: &[u16]) -> usize
     requires { ⌜ length (now rows) ≡ rowLength * length (now ranks) ⌝ }
     requires { ⌜ Closed (graphOf (now rows)) (length (now ranks)) ⌝ }
-    ensures { λ r. ⌜ (r ≤ length (now (ranks .entry))) × ((v : ℕ) → v < r → ReadsLower (graphOf (now (rows .entry))) (now (ranks .entry)) v) ⌝ }
+    requires { ⌜ length (now listed) ≡ length (now ranks) ⌝ }
+    ensures { λ r. ⌜ FirstLevel (graphOf (now (rows .entry))) (now (listed .entry)) (now (ranks .entry)) r ⌝ }
 {
     let mut w = 0;
     while w < ranks.len() {
-        let high = highest_mark(rows, ranks, w);
-        if ranks[w] <= high {
-            return w;
+        if listed[w] == 0 {
+            let high = highest_rank(rows, ranks, listed, w);
+            if ranks[w] <= high {
+                return w;
+            }
         }
         w += 1;
     }

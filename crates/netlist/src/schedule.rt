@@ -74,6 +74,6 @@ pub fn schedule(rows: &[u16], marks: &mut [u16], queue: &mut [u16], links: &mut 
     if waiting == n {
         return Scheduled::Listed(count);
     }
-    let w = lowest_loop(rows, marks, queue);
+    let w = lowest_loop(rows, marks, queue, links);
     Scheduled::Loop(w)
 }

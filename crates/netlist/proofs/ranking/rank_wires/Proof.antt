@@ -7,29 +7,27 @@ use Rattle.netlist.specs.Rows.{graphOf}
 use lib.ListN.{length}
 use native.Mathlib.Omega.{arith}
 use mathlib.Core.Logic.{⊎-elim}
-use mathlib.Core.List.{List}
 use mathlib.Core.Path.{_≡_, refl, sym, subst}
 use Prim.Native.Nat.{ℕ, _-_}
 use Rattle.netlist.proofs.ranking.rank_wires.Statement.{statement}
 use Rattle.netlist.proofs.ranking.rank_wires.Tie as tie
 
 abbrev Inv-loop : tie.InvT-loop
-Inv-loop rows marks₀ queue₀ n at₀ start₀ marks queue at start = Descending marks queue at × ((length marks ≡ n) × (length queue ≡ length queue₀))
+Inv-loop rows marks₀ queue₀ listed n at₀ start₀ marks queue at start = Descending marks queue at × ((length marks ≡ n) × (length queue ≡ length queue₀))
 
 abbrev μ-loop : tie.MeasureT-loop
-μ-loop rows marks₀ queue₀ n at₀ start₀ marks queue at start = n - start
+μ-loop rows marks₀ queue₀ listed n at₀ start₀ marks queue at start = n - start
 
-clear-requires : tie.Need-clear-requires Inv-loop μ-loop
-clear-requires c κs = search needs
+copy-marks-requires : tie.Need-copy-marks-requires Inv-loop μ-loop
+copy-marks-requires c κs = search needs
 
 loop-holds : tie.Need-loop-holds Inv-loop μ-loop
 loop-holds c =
-    let at-clear = c .before .before in
-    let at-start = at-clear .before .before .before .before .before in (
-      subst (λ (t : List ℕ). Descending t (at-start .args .queue .now) (record { depth = 0; held = 0; ranks = 0 })) (sym (at-clear .clear .ensures))
-          (descending-start _ _ (at-start .pre .1 .1 .0)),
-      (omega arith, refl),
-    )
+    let at-marks = c .before in
+    let at-copy-marks = at-marks .before in
+    let at-start = at-copy-marks .before .before .before .before .before .before in
+    let e : length (at-copy-marks .copy-marks .last .1 .0) ≡ length (at-start .args .marks .now) = omega (arith, at-marks .marks .given) in
+    (descending-start (at-copy-marks .copy-marks .last .1 .0) _ (let r = at-start .pre .1 .1 .0 .0 in omega arith), (e, refl))
 
 mul-if1 : tie.Need-mul-if1 Inv-loop μ-loop
 mul-if1 c = search needs
@@ -41,15 +39,15 @@ enter-requires : tie.Need-enter-requires Inv-loop μ-loop
 enter-requires c κs =
     let at-if1 = c .before .before in
     let at-loop = at-if1 .before .before .before in
-    let at-start = at-loop .before .before .before .before .before .before .before .before in
-    let e = at-loop .loop .inv .1 .0 in ((at-loop .loop .inv .0, omega (arith, at-start .pre .1 .1 .1)), (omega arith, at-if1 .if1 .taken))
+    let at-start = at-loop .before .before .before .before .before .before .before .before .before in
+    let e = at-loop .loop .inv .1 .0 in ((at-loop .loop .inv .0, omega (arith, at-start .pre .1 .1 .0 .1)), (omega arith, at-if1 .if1 .taken))
 
 rank-path-requires : tie.Need-rank-path-requires Inv-loop μ-loop
 rank-path-requires c κs =
     let at-marks2 = c .before .before .before .before .before in
     let at-enter = at-marks2 .before in
     let at-loop = at-enter .before .before .before .before .before .before in
-    let at-start = at-loop .before .before .before .before .before .before .before .before in
+    let at-start = at-loop .before .before .before .before .before .before .before .before .before in
     let e = at-loop .loop .inv .1 .0 in
     let long : length (at-enter .enter .last .0) ≡ length (at-start .args .marks .now) = omega (arith, at-marks2 .marks2 .given) in (
       omega (arith, at-start .pre .0),
@@ -57,7 +55,7 @@ rank-path-requires c κs =
         (
           subst (λ (k : ℕ). Closed (graphOf (at-start .args .rows .now)) k) (sym long) (at-start .pre .1 .0),
           omega
-              (arith, at-start .pre .1 .1 .1),
+              (arith, at-start .pre .1 .1 .0 .1),
         ),
         at-enter .enter .ensures .0,
       ),
@@ -72,7 +70,7 @@ loop-less c = search needs
 loop-again : tie.Need-loop-again Inv-loop μ-loop
 loop-again c =
     let at-loop = c .before .before .before in
-    let at-start = at-loop .before .before .before .before .before .before .before .before in
+    let at-start = at-loop .before .before .before .before .before .before .before .before .before in
     ⊎-elim {C = Descending (c .if1 .marks) (c .if1 .queue)
     (c .if1 .at) × ((length (c .if1 .marks) ≡ length (at-start .args .marks .now)) × (length (c .if1 .queue) ≡ length (at-start .args .queue .now)))}
     (λ x. rw (x .15, x .16, x .17) (
@@ -96,7 +94,7 @@ rank-wires-spec =
     (tie.spec
     Inv-loop
     μ-loop
-    clear-requires
+    copy-marks-requires
     loop-holds
     mul-if1
     slice-read-if1

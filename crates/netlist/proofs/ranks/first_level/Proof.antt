@@ -1,25 +1,25 @@
--- `ranks::first_level` meets its contract. Invariant: those below w read only lower ranks. Measure: the indices that are left. Assumes nothing.
+-- `ranks::first_level` meets its contract. Invariant: those below w that are not listed read only lower ranks. Measure: the indices that are
+-- left. Assumes nothing.
 use borrow.Author.Needs.{needs}
+use Rattle.netlist.specs.Marks.{Unlisted}
 use Rattle.netlist.specs.Ranks.{ReadsLower}
 use Rattle.netlist.specs.Rows.{graphOf}
 use borrow.Author.Count.{below-more}
 use lib.ListN.{length}
 use native.Mathlib.Omega.{arith}
+use mathlib.Core.Logic.{⊎-elim}
 use Prim.Native.Nat.{ℕ, _≤_, _<_, _-_}
 use Rattle.netlist.proofs.ranks.first_level.Statement.{statement}
 use Rattle.netlist.proofs.ranks.first_level.Tie as tie
 
 abbrev Inv-loop : tie.InvT-loop
-Inv-loop rows ranks w₀ w = (w ≤ length ranks) × ((v : ℕ) → v < w → ReadsLower (graphOf rows) ranks v)
+Inv-loop rows ranks listed w₀ w = (w ≤ length ranks) × ((v : ℕ) → v < w → Unlisted listed v → ReadsLower (graphOf rows) listed ranks v)
 
 abbrev μ-loop : tie.MeasureT-loop
-μ-loop rows ranks w₀ w = length ranks - w
+μ-loop rows ranks listed w₀ w = length ranks - w
 
 loop-holds : tie.Need-loop-holds Inv-loop μ-loop
 loop-holds c = (omega arith, λ v l. absurd (omega arith))
-
-highest-mark-requires : tie.Need-highest-mark-requires Inv-loop μ-loop
-highest-mark-requires c κs = search needs
 
 mul-if1 : tie.Need-mul-if1 Inv-loop μ-loop
 mul-if1 c = search needs
@@ -27,10 +27,20 @@ mul-if1 c = search needs
 shared-slice-read-if1 : tie.Need-shared-slice-read-if1 Inv-loop μ-loop
 shared-slice-read-if1 c = search needs
 
+highest-rank-requires : tie.Need-highest-rank-requires Inv-loop μ-loop
+highest-rank-requires c κs = search needs
+
+mul-if2 : tie.Need-mul-if2 Inv-loop μ-loop
+mul-if2 c = search needs
+
+shared-slice-read-if2 : tie.Need-shared-slice-read-if2 Inv-loop μ-loop
+shared-slice-read-if2 c = search needs
+
 returns : tie.Need-returns Inv-loop μ-loop
 returns c =
-    let at-loop = c .before .before .before .before in
-    at-loop .loop .inv
+    let at-if1 = c .before .before .before in
+    let at-loop = at-if1 .before .before .before in
+    record { within = at-loop .loop .inv .0; before = at-loop .loop .inv .1; here = λ l. at-if1 .if1 .taken }
 
 add-w : tie.Need-add-w Inv-loop μ-loop
 add-w c = search needs
@@ -38,19 +48,19 @@ add-w c = search needs
 loop-less : tie.Need-loop-less Inv-loop μ-loop
 loop-less c = search needs
 
+-- all that w reads are lower, or w is listed
 loop-again : tie.Need-loop-again Inv-loop μ-loop
 loop-again c =
-    let at-highest-mark = c .before .before in
-    let at-loop = at-highest-mark .before .before in (
+    let at-loop = c .before .before .before in (
       omega arith,
       below-more _ (at-loop .loop .w) (at-loop .loop .inv .1)
-          (λ d r. let a = at-highest-mark .highest-mark .ensures d r in let b = c .if1 .left in omega arith),
+          (⊎-elim (λ x uw d ud r. let a = x .1 .ensures d ud r in let b = x .3 .left in omega arith) (λ x uw d ud r. absurd (x .left uw)) (c .if1 .came)),
     )
 
 returns-2 : tie.Need-returns-2 Inv-loop μ-loop
 returns-2 c =
     let at-loop = c .before in
-    at-loop .loop .inv
+    record { within = at-loop .loop .inv .0; before = at-loop .loop .inv .1; here = λ l. absurd (omega arith) }
 
 pub first-level-spec : {M : Type 1} → statement M
 first-level-spec =
@@ -59,9 +69,11 @@ first-level-spec =
     Inv-loop
     μ-loop
     loop-holds
-    highest-mark-requires
     mul-if1
     shared-slice-read-if1
+    highest-rank-requires
+    mul-if2
+    shared-slice-read-if2
     returns
     add-w
     loop-less

@@ -3,10 +3,13 @@
 use Rattle.netlist.proofs.SchedulingLaws.{none-left, one-left}
 use Rattle.netlist.proofs.OrderLaws.{lowest-loop-lt}
 use Rattle.netlist.specs.Graph.{Closed, LowestLoop}
+use Rattle.netlist.proofs.LoopLaws.{settled-end}
+use Rattle.netlist.specs.Order.{Settled}
 use Rattle.netlist.specs.Rows.{graphOf}
 use native.Mathlib.Omega.{arith}
 use lib.ListN.{length}
 use Prim.Native.Nat.{ℕ}
+use mathlib.Core.List.{List}
 use mathlib.Core.Path.{_≡_, sym, subst}
 use borrow.Author.Needs.{needs}
 use Rattle.netlist.proofs.schedule.schedule.Statement.{statement}
@@ -44,10 +47,19 @@ returns c =
 
 lowest-loop-requires : tie.Need-lowest-loop-requires
 lowest-loop-requires c κs =
-    let at-list-wires = c .before .before .before .before .before .before .before .before .before .before .before in
+    let at-list-wires = c .before .before .before .before .before .before .before .before .before .before .before .before in
     let at-start = at-list-wires .before .before .before .before .before .before .before .before in
-    let e = long at-list-wires in
-    (omega arith, (subst (λ (k : ℕ). Closed (graphOf (at-start .args .rows .now)) k) (sym e) (at-start .pre .1 .0), omega arith))
+    let rows = at-start .args .rows .now in
+    let e = long at-list-wires in (
+      omega arith,
+      (
+        subst (λ (k : ℕ). Closed (graphOf rows) k) (sym e) (at-start .pre .1 .0),
+        (
+          omega arith,
+          subst (λ (t : List ℕ). Settled (graphOf rows) t) (sym (at-list-wires .list-wires .ensures .1 .1)) (settled-end (graphOf rows) (length (at-start .args .marks .now))),
+        ),
+      ),
+    )
 
 same-length-4 : tie.Need-same-length-4
 same-length-4 c = search needs
@@ -61,8 +73,8 @@ same-length-6 c = search needs
 -- one is left over
 returns-2 : tie.Need-returns-2
 returns-2 c =
-    let at-lowest-loop = c .before .before .before .before in
-    let at-if1 = at-lowest-loop .before .before .before in
+    let at-lowest-loop = c .before .before .before .before .before .before in
+    let at-if1 = at-lowest-loop .before .before .before .before in
     let at-first-unlisted = at-if1 .before in
     let at-list-wires = at-if1 .before .before .before .before .before .before .before .before .before in
     let at-start = at-list-wires .before .before .before .before .before .before .before .before in

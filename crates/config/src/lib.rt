@@ -39,7 +39,7 @@ pub fn read(w: u32, h: u32, table: &[u16], bits: &[u8], settings: &mut [u16]) ->
     let Answer::Done = can_read else {
         return can_read;
     };
-    room::copy(&room[..len], settings);
+    lists::copy(&room[..len], settings);
     Answer::Done
 }
 

@@ -11,15 +11,3 @@ pub fn settings_room() -> [u16; SETTINGS]
 {
     [0; SETTINGS]
 }
-
-// The same numbers in a slice of the same length.
-pub fn copy(from: &[u16], to: &mut [u16])
-    requires { ⌜ length (now from) ≡ length (now to) ⌝ }
-    ensures { λ r. ⌜ now (to .exit) ≡ now (from .entry) ⌝ }
-{
-    let mut i = 0;
-    while i < to.len() {
-        to[i] = from[i];
-        i += 1;
-    }
-}

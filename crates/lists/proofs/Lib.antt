@@ -8,3 +8,4 @@ pub mod CountLaws  -- count-ext, count-one-more, count-lt, count-add, count-none
 pub mod TableLaws  -- tabulate-at, tabulate-is; Filled with its start, step and end: a slice filled from the front
 pub mod PartLaws  -- part-joined; joined-step, joined-end: a slice filled part by part
 pub mod Clearing  -- cleared-start, -step, -end: a slice set to zeros
+pub mod Copying  -- Copied: a slice filled with what stands in a list

@@ -1,4 +1,4 @@
-// Slices of numbers: clearing them. The theory that every crate's loops cite is in specs/ and proofs/: searches by a test,
+// Slices of numbers: clearing and copying them. The theory that every crate's loops cite is in specs/ and proofs/: searches by a test,
 // counts, lists given by a function, lists in equal parts. Nothing here knows of tiles.
 ghost use mathlib.Core.Path.{_≡_};
 ghost use lib.ListN.{length};
@@ -23,6 +23,19 @@ pub fn clear_bytes(room: &mut [u8])
     let mut i = 0;
     while i < room.len() {
         room[i] = 0;
+        i += 1;
+    }
+}
+
+// The same numbers in a slice of the same length.
+// Rules out: leaving the last number as it was.
+pub fn copy(from: &[u16], to: &mut [u16])
+    requires { ⌜ length (now from) ≡ length (now to) ⌝ }
+    ensures { λ r. ⌜ now (to .exit) ≡ now (from .entry) ⌝ }
+{
+    let mut i = 0;
+    while i < to.len() {
+        to[i] = from[i];
         i += 1;
     }
 }

@@ -18,7 +18,6 @@ pub mod Searching  -- the loop that searches the next wire
 pub mod Listing  -- the loop that lists the wires
 pub mod RankLaws  -- lower-no-loop: a wire that reads only lower ranks and listed wires does not depend on itself
 pub mod Descending  -- the steps that rank wires stay in the work room
-pub mod Copying  -- Copied: a slice filled with what stands in a list
 pub mod Reaching  -- the loop that follows readings from a wire on
 pub mod Settling  -- the loop that runs a list; run-bits
 pub mod SchedulingLaws  -- answers-unique: the promise determines the answer; whether a wire is left over; the rows written are the order's

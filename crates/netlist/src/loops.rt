@@ -9,7 +9,6 @@ ghost use Rattle.netlist.specs.Marks.{Unlisted};
 ghost use Rattle.netlist.specs.Order.{Settled};
 ghost use Rattle.netlist.specs.Rows.{rowLength, graphOf};
 ghost use Rattle.netlist.specs.Waiting.{onlyListed};
-use crate::marks::copy_marks;
 use crate::marks::write_listed;
 use crate::ranking::rank_wires;
 use crate::ranks::first_level;
@@ -37,7 +36,7 @@ pub fn depends_on_itself(
     ensures no { λ r. ⌜ (r ≡ false → DependsOn (graphOf (now (rows .entry))) start start → ⊥) ⌝ }
 {
     let n = marks.len();
-    copy_marks(listed, marks);
+    lists::copy(listed, marks);
     marks[start] = 1;
     queue[0] = start as u16;
     let mut head = 0;

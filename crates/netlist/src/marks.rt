@@ -19,15 +19,3 @@ pub fn write_listed(marks: &[u16], listed: &mut [u16])
         w += 1;
     }
 }
-
-// Copies marks.
-pub fn copy_marks(from: &[u16], to: &mut [u16])
-    requires { ⌜ length (now to) ≡ length (now from) ⌝ }
-    ensures { λ r. ⌜ now (to .exit) ≡ now (from .entry) ⌝ }
-{
-    let mut w = 0;
-    while w < from.len() {
-        to[w] = from[w];
-        w += 1;
-    }
-}

@@ -8,7 +8,6 @@ ghost use Rattle.netlist.specs.Marks.{unmarked};
 ghost use Rattle.netlist.specs.Rows.{rowLength, graphOf};
 ghost use Rattle.netlist.specs.Ranks.{Descending, stepsLeft};
 ghost use Rattle.netlist.specs.declared.ranking.Descent.{Descent};
-use crate::marks::copy_marks;
 use crate::ranks::highest_mark;
 use crate::row::arity;
 use crate::row::operand;
@@ -142,7 +141,7 @@ pub fn rank_wires(rows: &[u16], marks: &mut [u16], queue: &mut [u16], listed: &[
     requires { ⌜ length (now listed) ≡ length (now marks) ⌝ }
 {
     let n = marks.len();
-    copy_marks(listed, marks);
+    lists::copy(listed, marks);
     let mut at = Descent {
         depth: 0,
         held: 0,

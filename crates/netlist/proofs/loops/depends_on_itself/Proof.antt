@@ -68,8 +68,8 @@ module _ (c : tie.After-wide2 Inv-loop2 μ-loop2 Inv-loop μ-loop) where
 
 -- ---- the needs
 
-copy-marks-requires : tie.Need-copy-marks-requires Inv-loop2 μ-loop2 Inv-loop μ-loop
-copy-marks-requires c κs = search needs
+copy-requires : tie.Need-copy-requires Inv-loop2 μ-loop2 Inv-loop μ-loop
+copy-requires c κs = search needs
 
 mul-marks : tie.Need-mul-marks Inv-loop2 μ-loop2 Inv-loop μ-loop
 mul-marks c = omega arith
@@ -85,12 +85,12 @@ slice-write-queue c = omega arith
 
 loop-holds : tie.Need-loop-holds Inv-loop2 μ-loop2 Inv-loop μ-loop
 loop-holds c =
-    let at-copy-marks = c .before .before in
-    let at-start = at-copy-marks .before .before .before .before .before .before in
+    let at-copy = c .before .before in
+    let at-start = at-copy .before .before .before .before .before .before in
     let args = at-start .args in
     let pre = at-start .pre .1 .1 in (
       subst (λ (t : List ℕ). Reaching (graphOf (args .rows .now)) (length (args .marks .now)) (args .start) (args .listed .now)
-          (set t (args .start) 1) (set (args .queue .now) 0 (args .start)) 0 1) (sym (at-copy-marks .copy-marks .ensures))
+          (set t (args .start) 1) (set (args .queue .now) 0 (args .start)) 0 1) (sym (at-copy .copy .ensures))
           (reaching-start _ _ (args .start) (args .listed .now) (args .queue .now) (pre .1 .0 .0) (pre .1 .1 .1) (pre .1 .1 .0) (pre .0 .0)),
       refl,
     )
@@ -246,7 +246,7 @@ depends-on-itself-spec =
     μ-loop2
     Inv-loop
     μ-loop
-    copy-marks-requires
+    copy-requires
     mul-marks
     slice-write-marks
     cast-queue

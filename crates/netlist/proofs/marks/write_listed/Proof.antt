@@ -1,6 +1,6 @@
 -- `marks::write_listed` meets its contract. Invariant: the first w marks are written without who waits (`Copied`). Measure: those that are left.
 -- Assumes nothing.
-use Rattle.netlist.proofs.Copying.{Copied, copied-start, copied-step, copied-end}
+use Rattle.lists.proofs.Copying.{Copied, copied-start, copied-step, copied-end}
 use Rattle.netlist.proofs.WaitingLaws.{only-listed-length, only-listed-one, only-listed-zero}
 use Rattle.netlist.specs.Waiting.{onlyListed}
 use lib.ListN.{length}

@@ -18,16 +18,16 @@ Inv-loop rows marks₀ queue₀ listed n at₀ start₀ marks queue at start = D
 abbrev μ-loop : tie.MeasureT-loop
 μ-loop rows marks₀ queue₀ listed n at₀ start₀ marks queue at start = n - start
 
-copy-marks-requires : tie.Need-copy-marks-requires Inv-loop μ-loop
-copy-marks-requires c κs = search needs
+copy-requires : tie.Need-copy-requires Inv-loop μ-loop
+copy-requires c κs = search needs
 
 loop-holds : tie.Need-loop-holds Inv-loop μ-loop
 loop-holds c =
     let at-marks = c .before in
-    let at-copy-marks = at-marks .before in
-    let at-start = at-copy-marks .before .before .before .before .before .before in
-    let e : length (at-copy-marks .copy-marks .last .1 .0) ≡ length (at-start .args .marks .now) = omega (arith, at-marks .marks .given) in
-    (descending-start (at-copy-marks .copy-marks .last .1 .0) _ (let r = at-start .pre .1 .1 .0 .0 in omega arith), (e, refl))
+    let at-copy = at-marks .before in
+    let at-start = at-copy .before .before .before .before .before .before in
+    let e : length (at-copy .copy .last .1 .0) ≡ length (at-start .args .marks .now) = omega (arith, at-marks .marks .given) in
+    (descending-start (at-copy .copy .last .1 .0) _ (let r = at-start .pre .1 .1 .0 .0 in omega arith), (e, refl))
 
 mul-if1 : tie.Need-mul-if1 Inv-loop μ-loop
 mul-if1 c = search needs
@@ -94,7 +94,7 @@ rank-wires-spec =
     (tie.spec
     Inv-loop
     μ-loop
-    copy-marks-requires
+    copy-requires
     loop-holds
     mul-if1
     slice-read-if1

@@ -1,12 +1,12 @@
--- `room::copy` meets its contract. Invariant: the first i numbers are those of `from`. Measure: the numbers left. Assumes nothing.
+-- `lists::copy` meets its contract. Invariant: the first i numbers are those of `from`. Measure: the numbers left. Assumes nothing.
 use Prim.Native.Nat.{_-_}
 use mathlib.Core.Path.{refl, sym, _∙_}
 use native.Mathlib.Omega.{arith}
 use borrow.Author.Needs.{needs}
 use lib.ListN.{length, getD}
 use Rattle.lists.proofs.TableLaws.{Filled, filled-start, filled-step, filled-end, tabulate-is}
-use Rattle.config.proofs.room.copy.Statement.{statement}
-use Rattle.config.proofs.room.copy.Tie as tie
+use Rattle.lists.proofs.copy.Statement.{statement}
+use Rattle.lists.proofs.copy.Tie as tie
 
 abbrev Inv-loop : tie.InvT-loop
 Inv-loop from to₀ i₀ to i = Filled (λ k. getD from k 0) 0 (length to₀) i to

@@ -24,7 +24,7 @@ use Rattle.drivers.specs.Clocks.{clockedTile}
 use Rattle.block.specs.declared.Built.{Built}
 use Rattle.block.specs.declared.Built.the-variants.{Listed, Refused}
 use Rattle.block.specs.Building.{builtNumber, none, listAnswer, bitsAnswer, buildAnswer}
-use Rattle.block.proofs.CheckLaws.{unless-cases}
+use Rattle.refusal.proofs.GroundsLaws.{unless-cases}
 
 -- ---- grounds 5 to 8
 

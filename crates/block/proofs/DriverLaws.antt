@@ -24,7 +24,7 @@ use Rattle.block.specs.declared.Followed.{Followed}
 use Rattle.block.specs.declared.Followed.the-variants.{Driven, Refused}
 use Rattle.block.specs.Building.{none}
 use Rattle.block.specs.Drivers.{followedNumber, portAnswer, settingsAnswer, followAnswer}
-use Rattle.block.proofs.CheckLaws.{unless-cases}
+use Rattle.refusal.proofs.GroundsLaws.{unless-cases}
 
 -- ---- grounds 5 and 20
 

@@ -28,7 +28,8 @@ use Rattle.block.specs.Lengths.{followLengths, FollowLong}
 use Rattle.block.specs.Building.{none}
 use Rattle.block.specs.Drivers.{portAnswer, settingsAnswer, followAnswer}
 use Rattle.block.specs.DriverMeaning.{Writable, FollowSays}
-use Rattle.block.proofs.CheckLaws.{unless-cases, table-broken}
+use Rattle.refusal.proofs.GroundsLaws.{unless-cases}
+use Rattle.block.proofs.CheckLaws.{table-broken}
 use Rattle.block.proofs.LengthLaws.{follow-long-exact}
 use Rattle.block.proofs.RoutedLaws.{routed-of-fit}
 use Rattle.block.proofs.MeaningLaws.{free-of}

@@ -38,7 +38,8 @@ use Rattle.block.specs.declared.Built.the-variants.{Listed, Refused}
 use Rattle.block.specs.Lengths.{buildLengths, BuildLong}
 use Rattle.block.specs.Building.{none, listAnswer, bitsAnswer, buildAnswer}
 use Rattle.block.specs.Meaning.{NoDisabledCarry, NoCellClock, ListSays, Readable, BuildSays}
-use Rattle.block.proofs.CheckLaws.{unless-cases, table-broken}
+use Rattle.refusal.proofs.GroundsLaws.{unless-cases}
+use Rattle.block.proofs.CheckLaws.{table-broken}
 use Rattle.block.proofs.LengthLaws.{build-long-exact}
 use Rattle.block.proofs.RoutedLaws.{routed-of-read}
 

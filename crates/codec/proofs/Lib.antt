@@ -20,4 +20,3 @@ pub mod TakenLaws  -- taken-right, taken-fault: a tile all of whose set bits are
 pub mod SettingsBack  -- settings-back: settings written and read back; encode-decodable
 pub mod BitsBack  -- bits-back: decodable bits read and written back
 pub mod ReadingLaws  -- decode-reads, reads-unique: the decoding is what the bits read to; settings-fit-exact: ground 9 is what it says
-pub mod Example  -- table-f0f0, local-g0-0: the paper's worked examples

@@ -8,7 +8,7 @@ use borrow.Author.Tests.{leb-true, leb-false, eqb-true, eqb-false}
 use lib.Dec.{eqb, leb}
 use lib.ListN.{length}
 use Rattle.lists.proofs.CaseLaws.{clash}
-use Rattle.refusal.specs.Grounds.{unless}
+use Rattle.refusal.proofs.GroundsLaws.{unless-cases}
 use Rattle.frames.specs.Lines.{fieldsLine, passiveLine, sizeLine}
 use Rattle.frames.specs.Input.{groupCount, sizeAt, width, height, small, tilesDue, tileAt, tileCount, parsed}
 use Rattle.frames.specs.Whole.{Small}
@@ -19,11 +19,6 @@ use Rattle.frames.proofs.FrameLaws.{size-reads}
 use Rattle.frames.proofs.TurnLaws.{groups-frames-length, tiles-frames-length, group-stops, tile-stops, begins-fields, begins-groups, begins-tiles}
 use Rattle.frames.proofs.StuckLaws.{stuck-begun, stuck-fields, stuck-groups, stuck-tiles, stuck-end}
 use Rattle.frames.proofs.WholeLaws.{inputRead, table-holds, bits-flat, input-whole}
-
--- one check of the chain
-unless-cases : {A : Type 0} (P : A → Type 0) (b : Bool) (refused later : A) → (b ≡ false → P refused) → (b ≡ true → P later) → P (unless b refused later)
-unless-cases P true refused later f g = g refl
-unless-cases P false refused later f g = f refl
 
 module _ (s : List ℕ) where
   -- ---- each answer

@@ -58,6 +58,14 @@ pub or-is : (a b : Bool) → a || b ≡ true → (a ≡ true) ⊎ (b ≡ true)
 or-is true b e = inl refl
 or-is false b e = inr e
 
+pub or-false-left : (a b : Bool) → a || b ≡ false → a ≡ false
+or-false-left true b e = e
+or-false-left false b e = refl
+
+pub or-false-right : (a b : Bool) → a || b ≡ false → b ≡ false
+or-false-right true b e = clash refl e
+or-false-right false b e = e
+
 -- ---- cond a b false, the same by another name
 
 pub cond-true : (a b : Bool) → cond a b false ≡ true → (a ≡ true) × (b ≡ true)

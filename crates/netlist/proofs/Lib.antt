@@ -9,7 +9,8 @@ pub mod ValueLaws  -- value-local, value-lt: what a row gives
 pub mod ReadyLaws  -- ready, next; order-induction
 pub mod WaitingLaws  -- only-listed-list, chain-unique, stuck-unique: who waits for whom
 pub mod WatchLaws  -- watched-wait, watched-list, watched-idle: what is kept of that while the order is made
-pub mod DueLaws  -- taken-woken, taken-new; Waking: which wires are due to be looked at
+pub mod DueLaws  -- taken-woken, taken-new: which wires are due to be looked at
+pub mod Waking  -- the loop that wakes those that waited
 pub mod LoopLaws  -- stuck-loop: where none is ready one depends on itself; Safe, settled-end: no listed wire does
 pub mod PlacedLaws  -- Placed: the order's wires, each once, none before what it reads
 pub mod EquationLaws  -- solved-step, agree-step: one step of running the order

@@ -1,6 +1,6 @@
 -- `order::wake` meets its contract. Invariant: the chain is woken up to k (`Waking`). Measure: the numbers that are not woken. Assumes nothing.
 use borrow.Author.Needs.{needs}
-use Rattle.netlist.proofs.DueLaws.{Waking, waking-start, waking-lt, waking-within, waking-step, waking-less, waking-end}
+use Rattle.netlist.proofs.Waking.{Waking, waking-start, waking-lt, waking-within, waking-step, waking-less, waking-end}
 use Rattle.bitset.specs.Bitset.{has, numbers}
 use Rattle.lists.specs.Search.{count}
 use native.Mathlib.Omega.{arith}

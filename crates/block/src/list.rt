@@ -18,7 +18,7 @@ ghost use Rattle.block.specs.Lengths.{RoomLong};
 ghost use Rattle.block.specs.Building.{builtNumber, listAnswer, bitsAnswer};
 use crate::Built;
 use fabric::Block;
-use netlist::schedule::Scheduled;
+use scheduling::schedule::Scheduled;
 use refusal::Refusal;
 use routing::table::POSITIONS;
 
@@ -44,14 +44,14 @@ fn list_rows(
     let n = wires.len();
     let tiles = (b.h * b.w) as usize;
     let clocked = drivers::clocks::clocked_tile(b, st, wires, sources, marks);
-    let s = netlist::schedule::schedule(rows, marks, queue, sources);
+    let s = scheduling::schedule::schedule(rows, marks, queue, sources);
     match s {
         Scheduled::Loop(wire) => Built::Refused(Refusal::Loop(wire as u32)),
         Scheduled::Listed(count) => {
             if clocked < tiles {
                 return Built::Refused(Refusal::CellClock(clocked as u32));
             }
-            netlist::schedule::write_list(rows, queue, count, n, list);
+            scheduling::schedule::write_list(rows, queue, count, n, list);
             Built::Listed(count as u32)
         }
     }

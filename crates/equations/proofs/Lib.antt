@@ -1,5 +1,5 @@
 -- The laws of `equations` that its callers cite, and below them what they rest on.
-pub mod SettlingLaws  -- settles: running the list gives the one choice of values that the equations allow. answers-listed, answers-loop, block-fits
+pub mod SettlingLaws  -- settles: running the list gives the one choice of values that the equations allow. count-wires, block-fits
 pub mod LoopLaws  -- loop-exact: the order lists every wire exactly if none depends on itself. loop-lowest-exact: ground 7's place
 pub mod EqualLaws  -- meets-solves, solves-meets: values meet the equations exactly if they solve the rows
 pub mod ChainLaws  -- reads-exact, depends-exact: the rows read what the equations read. rows-closed

@@ -1,5 +1,5 @@
 -- Demand 3 for the rows of a block. Main laws: `settles` (running the list gives the one choice of values that the equations allow),
--- `answers-listed`, `answers-loop` (what netlist's answers say of the block), `block-fits` (the list can be run).
+-- `count-wires` (as many rows as wires), `block-fits` (the list can be run).
 use Prim.Native.Nat.{ℕ, _*_, _≤_, _<_}
 use mathlib.Core.Path.{_≡_, sym, _∙_, ap}
 use mathlib.Core.Bool.{true}
@@ -16,24 +16,22 @@ use Rattle.fabric.specs.Wire.{wireOf}
 use Rattle.fabric.specs.Count.{ownWire, wires}
 use Rattle.fabric.proofs.WireLaws.{wire-within, wire-idempotent}
 use Rattle.netlist.specs.declared.row.Row.{Row}
-use Rattle.netlist.specs.declared.schedule.Scheduled.the-variants.{Listed, Loop}
 use Rattle.netlist.specs.Kinds.{flipFlopKind}
 use Rattle.netlist.specs.Rows.{rowAt}
 use Rattle.netlist.specs.Order.{order, AllListed}
 use Rattle.netlist.specs.Running.{runFrom, RowFits}
-use Rattle.netlist.specs.Scheduling.{Answers}
 use Rattle.netlist.proofs.OrderLaws.{order-length, run-unique}
 use Rattle.netlist.proofs.ListLaws.{valueBy, list-runs, list-solves, list-fits, list-bits}
 use Rattle.netlist.proofs.ValueLaws.{value-local}
 use Rattle.equations.specs.Switches.{NoContention}
 use Rattle.equations.specs.Routed.{Routed}
-use Rattle.equations.specs.Equations.{Meets, NoLoop, LowestLooped}
+use Rattle.equations.specs.Equations.{Meets, NoLoop}
 use Rattle.equations.specs.WireRows.{wireRows}
 use Rattle.equations.specs.Settling.{blockList, runOf, Inputs, Settles}
 use Rattle.equations.proofs.RowReasons.{Why, why-none, why-switch, why-lent, why-zero, why-one, why-flop, why-out, why-lout, why-carry, why-no-carry, why-set, why-chain, why-unset, why}
 use Rattle.equations.proofs.WireRowLaws.{graph, row-is, kind-past, own-wire, wire-own, rows-named}
 use Rattle.equations.proofs.EqualLaws.{meets-solves, solves-meets}
-use Rattle.equations.proofs.LoopLaws.{loop-exact, loop-lowest-exact}
+use Rattle.equations.proofs.LoopLaws.{loop-exact}
 
 module _ (B : Block) (t st : List ℕ) where
   -- the cell of a flip-flop's row is one of the block's
@@ -121,11 +119,3 @@ module _ (B : Block) (t st : List ℕ) where
   module _ (ok : Routed B t st) (free : NoContention B t st) where
     pub settles : NoLoop B t st → Settles B t st
     settles none = settles-listed (loop-exact B t st ok free .1 none) ok free
-
-    -- ---- what netlist answers for the rows of a block
-
-    pub answers-listed : (k : ℕ) → Answers (graph B t st) (ports B) (Listed k) → (k ≡ wires B) × NoLoop B t st × Settles B t st
-    answers-listed k a = (a .0 ∙ count-wires (a .1 .0), loop-exact B t st ok free .0 (a .1 .0), settles-listed (a .1 .0) ok free)
-
-    pub answers-loop : (w : ℕ) → Answers (graph B t st) (ports B) (Loop w) → LowestLooped B t st w
-    answers-loop w a = loop-lowest-exact B t st ok free w .1 a

@@ -12,7 +12,7 @@ use Rattle.fabric.specs.Count.{wires}
 use Rattle.netlist.specs.Order.{order}
 use Rattle.netlist.specs.Rows.{graphOf}
 use Rattle.netlist.specs.Running.{runFrom, Bits}
-use Rattle.netlist.specs.Scheduling.{listOf}
+use Rattle.netlist.specs.OrderedRows.{listOf}
 use Rattle.equations.specs.Equations.{Meets}
 use Rattle.equations.specs.WireRows.{wireRows}
 

@@ -18,7 +18,7 @@ use Rattle.netlist.specs.Graph.{Graph, Reads, Closed, DependsOn, reads, 
 use Rattle.netlist.specs.Order.{ready, next, orderFrom, order}
 use Rattle.netlist.specs.Rows.{rowLength, rowAt, operandOf, arityOf, graphOf}
 use Rattle.netlist.specs.Running.{rowValue, runFrom}
-use Rattle.netlist.specs.Scheduling.{rowInOrder, listOf}
+use Rattle.netlist.specs.OrderedRows.{rowInOrder, listOf}
 
 abbrev pub closedTest : Graph → ℕ → Bool
 closedTest g n = all (λ w. all (λ j. ltb (g .operand w j) n && g .wire (g .operand w j)) 0 (g .arity w)) 0 n

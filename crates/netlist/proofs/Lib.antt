@@ -7,24 +7,12 @@ pub mod RowLaws  -- row-set-same, row-set-other, row-rows; Written with its star
 pub mod MarkLaws  -- listed-set-same, -other, -kept; unmarked-mark: a mark is one less
 pub mod ValueLaws  -- value-local, value-lt: what a row gives
 pub mod ReadyLaws  -- ready, next; order-induction
-pub mod WaitingLaws  -- only-listed-list, chain-unique, stuck-unique: who waits for whom
-pub mod WatchLaws  -- watched-wait, watched-list, watched-idle: what is kept of that while the order is made
-pub mod DueLaws  -- taken-woken, taken-new: which wires are due to be looked at
-pub mod Waking  -- the loop that wakes those that waited
 pub mod LoopLaws  -- stuck-loop: where none is ready one depends on itself; Safe, settled-end: no listed wire does
 pub mod PlacedLaws  -- Placed: the order's wires, each once, none before what it reads
 pub mod EquationLaws  -- solved-step, agree-step: one step of running the order
-pub mod GraphLaws  -- what a row that was read says of its wire
-pub mod Searching  -- the loop that searches the next wire
-pub mod Listing  -- the loop that lists the wires
-pub mod RankLaws  -- lower-no-loop: a wire that reads only lower ranks and listed wires does not depend on itself
-pub mod Descending  -- the steps that rank wires stay in the work room
-pub mod Reaching  -- the loop that follows readings from a wire on
 pub mod Settling  -- the loop that runs a list; run-bits
-pub mod SchedulingLaws  -- answers-unique: the promise determines the answer; whether a wire is left over; the rows written are the order's
 pub mod OperandLaws  -- an operand by its use
 pub mod GoodLaws  -- a good row by its parts, a zero row by its numbers
 pub mod FirstBadLaws  -- the loops of ground 12
 pub mod OrLaws  -- AtMost: no number is higher than all or-ed; rows-none: rows of zeros
 pub mod Example  -- closed-test; three wires
-pub mod LoopWireLaws  -- loop-at-exact, loop-wire-is: the computed place of a loop is the lowest wire that depends on itself

@@ -17,7 +17,7 @@ use Rattle.netlist.specs.Order.{order, AllListed}
 use Rattle.netlist.specs.Equations.{Solves, runOrder}
 use Rattle.netlist.specs.Rows.{rowAt, operandOf, zeroRow, graphOf}
 use Rattle.netlist.specs.Running.{rowValue, runFrom, Bits, RowFits}
-use Rattle.netlist.specs.Scheduling.{rowInOrder, listOf}
+use Rattle.netlist.specs.OrderedRows.{rowInOrder, listOf}
 use Rattle.netlist.specs.declared.row.Row.{Row}
 use Rattle.netlist.proofs.MarkLaws.{zeros-unlisted}
 use Rattle.netlist.proofs.RowLaws.{row-rows, rows-length}

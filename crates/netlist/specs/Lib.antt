@@ -2,13 +2,9 @@
 pub mod Graph  -- Graph, Reads, DependsOn, Closed, LowestLoop: what is read, with no word on what it computes
 pub mod Marks  -- listed, Unlisted, marksAfter, unmarked: which wires are listed, how many are not
 pub mod Order  -- ready, next, order: the lowest wire that is not listed and waits for none; Settled: listed wires lead to no loop
-pub mod Waiting  -- Stuck, Chain, Idle, Watched: who waits for whom while the order is made; onlyListed
-pub mod Due  -- Resting, Taken, Found, Woken: which wires are due to be looked at, and how that changes
 pub mod Equations  -- Solves, Local, runOrder: what the wires' values have to meet
 pub mod Kinds  -- the seven kinds of rows
 pub mod Rows  -- rowAt, operandOf, arityOf, graphOf, rowsOf: a row as a record, and a list as its rows
+pub mod OrderedRows  -- listOf: the list of the rows in order
 pub mod Running  -- rowValue, runFrom, RowFits: what rows give
-pub mod Scheduling  -- Answers, Queued: what scheduling answers; listOf: the list of the rows in order
-pub mod Loops  -- loopAt, loopWire: ground 7's place, computed
-pub mod Ranks  -- Ranked, ReadsLower, FirstLevel: ranks that show a wire free of loops; Descending: what bounds the work room while they are found
 pub mod Checking  -- RowGood, FirstBad and the test that computes them: ground 12

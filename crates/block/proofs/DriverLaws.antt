@@ -7,9 +7,8 @@ use mathlib.Core.Bool.{Bool, true, false}
 use mathlib.Core.List.{List}
 use borrow.Author.Tests.{ne-eqb, le-leb, lt-leb, lt-ltb, le-ltb}
 use lib.Dec.{ltb}
-use lib.ListN.{length, getD}
+use lib.ListN.{length}
 use Rattle.lists.specs.Tables.{zeros}
-use Rattle.lists.proofs.TableLaws.{tabulate-zero}
 use Rattle.refusal.specs.Memory.{workRoom}
 use Rattle.refusal.specs.declared.Refusal.the-variants.{Size, Length, Table, NoSuchSettings, Contention, OutOfRange}
 use Rattle.fabric.specs.declared.Block.{Block}
@@ -18,7 +17,7 @@ use Rattle.fabric.specs.Wire.{wireOf}
 use Rattle.routing.specs.LogicTile.{logicTile}
 use Rattle.routing.specs.TableCheck.{faultyPart, partCount, tableOk}
 use Rattle.config.specs.Blocks.{bitlessTile}
-use Rattle.equations.specs.Sources.{wiresOf, contendedWire, sourcesOf}
+use Rattle.equations.specs.Sources.{contendedWire, sourcesOf}
 use Rattle.drivers.specs.Following.{driverOf}
 use Rattle.block.specs.declared.Followed.{Followed}
 use Rattle.block.specs.declared.Followed.the-variants.{Driven, Refused}
@@ -27,11 +26,6 @@ use Rattle.block.specs.Drivers.{followedNumber, portAnswer, settingsAnsw
 use Rattle.refusal.proofs.GroundsLaws.{unless-cases}
 
 -- ---- grounds 5 and 20
-
--- the wire of a port, read from the map
-pub wire-read : (B : Block) (wires : List ℕ) (p : ℕ) → wires ≡ wiresOf B → p < ports B → getD wires p 0 ≡ wireOf B p
-unfolding wiresOf
-wire-read B wires p is l = ap (λ (x : List ℕ). getD x p 0) is ∙ tabulate-zero (wireOf B) 0 (ports B) p l
 
 module _ (B : Block) (t st : List ℕ) (tile port : ℕ) where
   pub port-contended : (w : ℕ) → w ≡ contendedWire B t st → w < ports B → Refused (Contention w) ≡ portAnswer B t st tile port

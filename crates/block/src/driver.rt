@@ -29,7 +29,7 @@ fn follow_port(
 {
     let ports = wires.len();
     let n = b.h * b.w;
-    equations::wires::fill_wires(b, wires);
+    wiring::fill_wires(b, wires);
     let contended = drivers::sources::find_sources(b, table, st, wires, sources);
     if contended < ports {
         return Followed::Refused(Refusal::Contention(contended as u32));

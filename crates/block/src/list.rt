@@ -4,13 +4,14 @@ ghost use Prim.Native.Nat.{_*_, _≤_};
 ghost use lib.ListN.{length};
 ghost use Rattle.refusal.specs.Memory.{output};
 ghost use Rattle.fabric.specs.Block.{Sized, tiles, ports};
+ghost use Rattle.fabric.specs.Wire.{wiresOf};
 ghost use Rattle.routing.specs.LogicTile.{logicTile};
 ghost use Rattle.routing.specs.Table.{tableLength};
 ghost use Rattle.codec.specs.Bits.{tileBytes};
 ghost use Rattle.codec.specs.Settings.{settingsLength};
 ghost use Rattle.config.specs.Blocks.{decoded};
 ghost use Rattle.equations.specs.Routed.{Routed};
-ghost use Rattle.equations.specs.Sources.{wiresOf, sourcesOf, contendedWire};
+ghost use Rattle.equations.specs.Sources.{sourcesOf, contendedWire};
 ghost use Rattle.equations.specs.WireRows.{wireRows};
 ghost use Rattle.equations.specs.Settling.{blockList};
 ghost use Rattle.drivers.specs.CarryReads.{carryReadWire};
@@ -18,9 +19,9 @@ ghost use Rattle.block.specs.Lengths.{RoomLong};
 ghost use Rattle.block.specs.Building.{builtNumber, listAnswer, bitsAnswer};
 use crate::Built;
 use fabric::Block;
-use scheduling::schedule::Scheduled;
 use refusal::Refusal;
 use routing::table::POSITIONS;
+use scheduling::schedule::Scheduled;
 
 // Grounds 7 and 8 of a block that passed those before, from its rows, and the list. The clocks are looked at first, so that the room of the sources
 // serves the schedule; a loop still comes before them.
@@ -102,7 +103,7 @@ pub fn list_settings(
     ensures list { λ r. ⌜ now (list .exit) ≡ output (builtNumber r) (now (list .entry)) (blockList b (now (table .entry)) (now (st .entry))) ⌝ }
 {
     let n = wires.len();
-    equations::wires::fill_wires(b, wires);
+    wiring::fill_wires(b, wires);
     let contended = drivers::sources::find_sources(b, table, st, wires, sources);
     if contended < n {
         return Built::Refused(Refusal::Contention(contended as u32));

@@ -7,16 +7,12 @@ pub mod EncodeLaws  -- encode-slot: written, then read; encode-is: read, then wr
 pub mod LimitLaws  -- limit-..: the largest value of each setting; fit-..: settings that fit keep to it
 pub mod RunLaws  -- run-written, run-back: a run of slots that holds a number
 pub mod TileRunLaws  -- cell-run, field-run, passive-run, group-run: the runs of a tile
-pub mod WritingLaws  -- cells-written, field-turn, passive-turn, group-turn: a tile written run by run
 pub mod CellLaws  -- cell-back: the round trip of one cell; put-cells-..: cells put into settings
 pub mod SettingAtLaws  -- setting-..: what is read to each setting, one law for each way
 pub mod DecodeLaws  -- decode-field, .. decode-flags: the decoding, kind by kind; setting-kinds; decode-filled
 pub mod FaultLaws  -- fault-..: a position at fault, by what claims it; map-..: by the ownership map
 pub mod ListedLaws  -- unlisted-exact: a group's pattern is zero, listed, or neither
 pub mod FaultyLaws  -- fault-exact, tile-fault-exact, tile-fault-lowest: ground 4 is what specs/Reading.antt says
-pub mod TakingLaws  -- learned-set, taken-..: the set bits of a tile taken one after another
-pub mod Passing  -- passed-turn, taken-turn: the loops over them
-pub mod TakenLaws  -- taken-right, taken-fault: a tile all of whose set bits are taken is read and has no fault
 pub mod SettingsBack  -- settings-back: settings written and read back; encode-decodable
 pub mod BitsBack  -- bits-back: decodable bits read and written back
 pub mod ReadingLaws  -- decode-reads, reads-unique: the decoding is what the bits read to; settings-fit-exact: ground 9 is what it says

@@ -6,7 +6,6 @@ pub mod Cells  -- the eight cells, by value
 pub mod Reading  -- Decodable, ReadsTo: reading, sentence by sentence; HasBits
 pub mod Decode  -- decode: reading, computed
 pub mod Fault  -- tileFault: the lowest faulty position, computed (ground 4)
-pub mod Taking  -- Known, Learned, Taken: settings while the set bits are taken one after another
 pub mod Encode  -- encode: the bits of settings
 pub mod Limits  -- settingsFit: settings that some bits have, computed (ground 9)
 pub mod Writing  -- Written: the first slots hold their values, everything else is 0

@@ -1,13 +1,9 @@
-// One logic tile: its 864 bits and its settings, each from the other (document 01, 'The routing table' and 'Cells'). Nothing here
-// knows of blocks, wires or refusals.
+// The parts of a logic tile: its 864 bits, and the cells, groups and fields that they set, each from the other (document 01, 'The routing table' and
+// 'Cells'). Nothing here knows of blocks, wires or refusals; `tile` reads and writes a whole tile.
 //
-// `tile` has what callers use: the lowest position at fault, decoding, encoding, and whether any bits have these settings. They
-// ask for a table that breaks no rule and for exact lengths. specs/Reading.antt says reading sentence by sentence, and
-// proofs/ReadingLaws.antt that this is what is computed.
+// specs/Reading.antt says reading sentence by sentence, and proofs/ReadingLaws.antt that this is what is computed.
 pub mod bits;
 pub mod cells;
 pub mod fault;
 pub mod groups;
-pub mod reading;
 pub mod settings;
-pub mod tile;

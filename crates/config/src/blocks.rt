@@ -27,7 +27,7 @@ pub fn read_block(table: &[u16], own: &[u16], bits: &[u8], settings: &mut [u16],
         let to = from + TILE_BYTES;
         let start = SETTINGS_LENGTH * t;
         let end = start + SETTINGS_LENGTH;
-        let fault = codec::tile::read_tile(table, own, &bits[from..to], &mut settings[start..end]);
+        let fault = tile::read_tile(table, own, &bits[from..to], &mut settings[start..end]);
         if fault < POSITIONS {
             return t;
         }
@@ -47,7 +47,7 @@ pub fn decode_block(table: &[u16], bits: &[u8], settings: &mut [u16], n: usize)
         let to = from + TILE_BYTES;
         let start = SETTINGS_LENGTH * t;
         let end = start + SETTINGS_LENGTH;
-        codec::tile::decode_tile(table, &bits[from..to], &mut settings[start..end]);
+        tile::decode_tile(table, &bits[from..to], &mut settings[start..end]);
         t += 1;
     }
 }
@@ -62,7 +62,7 @@ pub fn bitless_tile(table: &[u16], settings: &[u16], n: usize) -> usize
     while t < n {
         let start = SETTINGS_LENGTH * t;
         let end = start + SETTINGS_LENGTH;
-        if !codec::tile::settings_fit(&limits, &settings[start..end]) {
+        if !tile::settings_fit(&limits, &settings[start..end]) {
             return t;
         }
         t += 1;
@@ -81,7 +81,7 @@ pub fn encode_block(table: &[u16], settings: &[u16], bits: &mut [u8], n: usize)
         let end = start + SETTINGS_LENGTH;
         let from = TILE_BYTES * t;
         let to = from + TILE_BYTES;
-        codec::tile::encode_tile(table, &settings[start..end], &mut bits[from..to]);
+        tile::encode_tile(table, &settings[start..end], &mut bits[from..to]);
         t += 1;
     }
 }

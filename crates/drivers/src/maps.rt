@@ -2,11 +2,10 @@
 ghost use mathlib.Core.Path.{_≡_};
 ghost use Prim.Native.Nat.{_<_};
 ghost use Rattle.fabric.specs.Block.{ports, portOf};
-ghost use Rattle.fabric.specs.Wire.{wireOf};
+ghost use Rattle.fabric.specs.Wire.{wireOf, wiresOf};
 ghost use Rattle.cell.specs.Settings.{cellOf};
 ghost use Rattle.routing.specs.Table.{maxGroups};
 ghost use Rattle.equations.specs.Tiles.{groupOf, tableOf, flagsAt};
-ghost use Rattle.equations.specs.Sources.{wiresOf};
 ghost use Rattle.drivers.specs.Maps.{TileInside};
 use cell::logic::Cell;
 use codec::cells::CELLS_FROM;

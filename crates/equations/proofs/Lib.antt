@@ -13,4 +13,4 @@ pub mod DriveLaws  -- drive-wire: a wire's drive is that of each of its ports. j
 pub mod RoleLaws  -- role-all: what a port's drive says of the port. span-drive, input-drive: the drives of spans and inputs
 pub mod PortKindLaws  -- open and constant ports; ports that a switch may end on, and those that none may
 pub mod DriveAtLaws  -- the arms of `drive_at`
-pub mod RowFromLaws  -- wires-at: a port's wire from the list of wires. The cases of `row_of`
+pub mod RowFromLaws  -- the cases of `row_of`

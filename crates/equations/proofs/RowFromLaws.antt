@@ -1,13 +1,12 @@
 -- What the code that writes the rows shows: the wire of a port from the list of wires, a cell's ports, and the cases of `rowFrom`.
 use Prim.Native.Nat.{ℕ, zero, suc, _+_, _-_, _*_, _%_, _≤_, _<_}
-use mathlib.Core.Path.{_≡_, sym, _∙_, ap}
+use mathlib.Core.Path.{_≡_, sym, ap}
 use mathlib.Core.Logic.{_≢_}
 use mathlib.Core.List.{List}
 use native.Mathlib.Omega.{arith}
 use native.Mathlib.Nat.{add-zero}
-use lib.ListN.{length, getD}
+use lib.ListN.{getD}
 use borrow.Author.Tests.{eq-eqb, ne-eqb}
-use Rattle.lists.proofs.TableLaws.{tabulate-length, tabulate-zero}
 use Rattle.fabric.specs.declared.Block.{Block}
 use Rattle.fabric.specs.Block.{ports, portOf, portsPerTile}
 use Rattle.fabric.specs.PortIndex.{carryInMux, coutPort}
@@ -20,19 +19,8 @@ use Rattle.equations.specs.Equations.{carryPort}
 use Rattle.equations.specs.Routed.{Driven}
 use Rattle.equations.specs.Drives.{driveOf}
 use Rattle.equations.specs.WireRows.{plainRow, inWire, driveRow}
-use Rattle.equations.specs.Sources.{wiresOf, rowFrom}
+use Rattle.equations.specs.Sources.{rowFrom}
 use Rattle.equations.proofs.RoleLaws.{Role, role-all}
-
--- ---- the list of wires
-
-module _ (B : Block) (wires : List ℕ) (is : wires ≡ wiresOf B) where
-  pub wires-length : length wires ≡ ports B
-  unfolding wiresOf
-  wires-length = ap length is ∙ tabulate-length (wireOf B) 0 (ports B)
-
-  pub wires-at : (p : ℕ) → p < ports B → getD wires p 0 ≡ wireOf B p
-  unfolding wiresOf
-  wires-at p l = ap (λ (x : List ℕ). getD x p 0) is ∙ tabulate-zero (wireOf B) 0 (ports B) p l
 
 -- ---- the ports of a cell
 

@@ -7,13 +7,13 @@ use mathlib.Core.List.{List}
 use lib.ListN.{length}
 use Rattle.fabric.specs.declared.Block.{Block}
 use Rattle.fabric.specs.Block.{tiles, Sized}
+use Rattle.fabric.specs.Wire.{wiresOf}
 use Rattle.routing.specs.LogicTile.{logicTile, isDestination, isSource}
 use Rattle.routing.specs.Table.{tableLength, maxGroups, maxEntries, groupCount, destinationOf, entryCount, sourceAt}
 use Rattle.codec.specs.Settings.{settingsLength}
 use Rattle.equations.specs.declared.drives.Drive.{Drive}
 use Rattle.equations.specs.declared.drives.Drive.the-variants.{Nothing, Low, High, CellOut, CellLout, CellCout, CarryMux}
 use Rattle.equations.specs.Tiles.{groupOf, carrySet, chained}
-use Rattle.equations.specs.Sources.{wiresOf}
 
 pub record Routed (B : Block) (t st : List ℕ) : Type 0 where
   pub size : Sized B

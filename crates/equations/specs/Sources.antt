@@ -18,10 +18,6 @@ use Rattle.equations.specs.Switches.{switches, origin}
 use Rattle.equations.specs.Drives.{driveOf}
 use Rattle.equations.specs.WireRows.{plainRow, driveRow, endsOn, driverIn}
 
--- the wire of each port
-unfoldable pub wiresOf : Block → List ℕ
-wiresOf B = tabulate (wireOf B) 0 (ports B)
-
 -- the row of port number w, from a map of sources: one more than the wire that a wire's switch comes from, 0 where it has none
 unfoldable pub rowFrom : Block → List ℕ → List ℕ → ℕ → Row
 rowFrom B st sources w =

@@ -6,4 +6,3 @@
 pub mod cell_rows;
 pub mod drives;
 pub mod rows;
-pub mod wires;

@@ -1,5 +1,5 @@
 -- The laws of `fabric` that its callers cite, and below them what they rest on.
-pub mod WireLaws  -- wire-exact: one wire exactly if linked by joins. wire-low, -within, -fits, -linked, -lowest, -idempotent, -own-exact; wires-le
+pub mod WireLaws  -- wire-exact: one wire exactly if linked by joins. wire-low, -within, -fits, -linked, -lowest, -idempotent, -own-exact; wires-le; wires-at: the list of all wires
 pub mod PortLaws  -- index-back, port-at-back: the table of ports read forth and back. port-at-within: its numbers are in their ranges
 pub mod BlockLaws  -- sized-exact, tiles-le, ports-le, port-of-lt
 pub mod PlaceLaws  -- port-lt: a port's number is the block's. wire-port: its wire, from its place
@@ -17,6 +17,3 @@ pub mod PortReach  -- reach: every port reaches its computed number
 pub mod NeighbourLaws  -- the ports of an output by where its tile stands
 pub mod EdgeLaws  -- the lowest port at an edge, in the code's terms
 pub mod WireAtLaws  -- the arms of `wire_at`
-pub mod FillLaws  -- Written, written-start, -step; copy-end, cross-end, number-end: a range of ports filled
-pub mod FillSpans  -- row-span, from-south, rim-owns, rim-far, right-copies, right-owns-..: the ranges of spans as they are filled
-pub mod FillPorts  -- each range of a tile's ports as it is filled

@@ -1,16 +1,19 @@
 -- The computed wire number is the number by the joins. Main law: `wire-exact`.
 use Prim.Native.Nat.{ℕ, _≤_, _<_}
-use mathlib.Core.Path.{_≡_, sym}
+use mathlib.Core.Path.{_≡_, sym, ap, _∙_}
 use mathlib.Core.Bool.{true}
 use mathlib.Core.Logic.{_↔_}
+use mathlib.Core.List.{List}
 use native.Mathlib.Omega.{arith}
 use native.Mathlib.Nat.{le-antisymm}
 use borrow.Author.Tests.{eq-eqb, eqb-true}
+use lib.ListN.{length, getD}
 use Rattle.lists.proofs.CountLaws.{count-le}
+use Rattle.lists.proofs.TableLaws.{tabulate-length, tabulate-zero}
 use Rattle.fabric.specs.declared.Block.{Block}
 use Rattle.fabric.specs.Block.{Sized, ports}
 use Rattle.fabric.specs.Joins.{Linked, Lowest, back, on}
-use Rattle.fabric.specs.Wire.{wireOf}
+use Rattle.fabric.specs.Wire.{wireOf, wiresOf}
 use Rattle.fabric.specs.Count.{ownWire, wires}
 use Rattle.fabric.proofs.BlockLaws.{ports-le}
 use Rattle.fabric.proofs.JoinLaws.{linked-same, linked-within}
@@ -64,3 +67,14 @@ module _ (B : Block) where
   pub wires-le : wires B ≤ ports B
   unfolding wires
   wires-le = count-le (ownWire B) (ports B)
+
+-- ---- the list of all of them
+
+module _ (B : Block) (wires : List ℕ) (is : wires ≡ wiresOf B) where
+  pub wires-length : length wires ≡ ports B
+  unfolding wiresOf
+  wires-length = ap length is ∙ tabulate-length (wireOf B) 0 (ports B)
+
+  pub wires-at : (p : ℕ) → p < ports B → getD wires p 0 ≡ wireOf B p
+  unfolding wiresOf
+  wires-at p l = ap (λ (x : List ℕ). getD x p 0) is ∙ tabulate-zero (wireOf B) 0 (ports B) p l

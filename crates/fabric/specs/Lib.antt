@@ -9,5 +9,4 @@ pub mod SpanWire  -- rowWire, sp4Column, sp12Column, rightWire: the wires of spa
 pub mod OutputWire  -- outputWire: the wires of outputs, computed
 pub mod Wire  -- wireOf: the lowest port of a wire, computed
 pub mod Count  -- wires: how many a block has
-pub mod Fill  -- Wired: a slice that is filled with wires; Copies, Crosses, Numbers: what filling a range of ports asks of it
 pub mod WireNumber  -- what `wire_number` answers, refusals in their order

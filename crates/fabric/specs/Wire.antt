@@ -1,10 +1,12 @@
 -- The number of the wire that a port is on, computed: "A wire's number is its lowest port number." That it is the number by the joins
 -- is proved (proofs/WireLaws.antt).
 use Prim.Native.Nat.{ℕ, zero, suc, _/_, _%_}
+use mathlib.Core.List.{List}
+use Rattle.lists.specs.Tables.{tabulate}
 use Rattle.fabric.specs.declared.Block.{Block}
 use Rattle.fabric.specs.declared.ports.Port.{Port}
 use Rattle.fabric.specs.declared.ports.Port.the-variants.{Sp4HL, Sp4HR, Sp4VT, Sp4VB, Sp4RVB, Sp12HL, Sp12HR, Sp12VT, Sp12VB, Local, Glb2Local, In, Out, NeighOp, Clk, Cen, SR, GlbNetwk, CarryIn, CarryInMux, Cout, Lout, Ltin}
-use Rattle.fabric.specs.Block.{port, portsPerTile}
+use Rattle.fabric.specs.Block.{port, ports, portsPerTile}
 use Rattle.fabric.specs.PortIndex.{glbNetwk, carryIn, coutPort, loutPort, ltin}
 use Rattle.fabric.specs.Ports.{portAt}
 use Rattle.fabric.specs.PortNames.{indexOf}
@@ -47,3 +49,7 @@ wireAt B x y (Lout i) = port B x y (indexOf (Lout i))
 -- the number of the wire that port number p of a block is on
 unfoldable pub wireOf : Block → ℕ → ℕ
 wireOf B p = wireAt B (p / portsPerTile % B .w) (p / portsPerTile / B .w) (portAt (p % portsPerTile))
+
+-- the wire of each port of the block, one after another
+unfoldable pub wiresOf : Block → List ℕ
+wiresOf B = tabulate (wireOf B) 0 (ports B)

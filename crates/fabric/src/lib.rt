@@ -9,11 +9,10 @@ ghost use Rattle.fabric.specs.WireNumber.{wireNumber, IsWire};
 use crate::wire::wire_of;
 use refusal::Refusal;
 
-pub mod fill;
-mod output;
+pub mod output;
 pub mod ports;
-mod span;
-mod span_wire;
+pub mod span;
+pub mod span_wire;
 pub mod wire;
 
 // All that joins depend on: a block is w tiles wide and h tiles high.

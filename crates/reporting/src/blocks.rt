@@ -86,7 +86,7 @@ fn put_accepted(
 {
     let n = (b.h * b.w) as usize;
     config::blocks::decode_block(table, bits, settings, n);
-    equations::wires::fill_wires(b, wires);
+    wiring::fill_wires(b, wires);
     drivers::sources::find_sources(b, table, settings, wires, sources);
     put_lines(sources, settings, n, out)
 }

@@ -9,12 +9,12 @@ ghost use Rattle.netlist.specs.Order.{order, orderMarks};
 ghost use Rattle.netlist.specs.Rows.{rowLength, graphOf};
 ghost use Rattle.scheduling.specs.Waiting.{onlyListed};
 ghost use Rattle.scheduling.specs.Due.{Early, Taken, Resting, Found, Asleep, Woken};
+use bitset::NUMBERS;
+use bitset::WORDS;
 use netlist::row::arity;
 use netlist::row::operand;
 use netlist::row::row_at;
 use netlist::row::wide;
-use bitset::NUMBERS;
-use bitset::WORDS;
 
 // The wire to look at, and the number from which on none was looked at.
 pub struct Look {

@@ -25,9 +25,9 @@ use Rattle.netlist.proofs.CheckingLaws.{first-bad-exact}
 use Rattle.routing.specs.LogicTile.{logicTile}
 use Rattle.routing.specs.TableCheck.{faultyPart, tableOk}
 use Rattle.config.specs.Blocks.{bitlessTile}
-use Rattle.sim.specs.Settling.{wireMarks, badRow, Runnable}
+use Rattle.stepper.specs.Settling.{wireMarks, badRow, Runnable}
 use Rattle.sim.specs.Stepping.{badByte, runAnswer, inputsAnswer, stepAnswer}
-use Rattle.sim.proofs.SettledLaws.{marks-length}
+use Rattle.stepper.proofs.SettledLaws.{marks-length}
 use Rattle.sim.proofs.ByteLaws.{bits-of-joined}
 
 pub never-done : (q : Refusal) → Refused q ≡ Done → ⊥

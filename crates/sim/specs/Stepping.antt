@@ -18,7 +18,7 @@ use Rattle.routing.specs.Table.{tableLength}
 use Rattle.routing.specs.TableCheck.{faultyPart, tableOk}
 use Rattle.codec.specs.Settings.{settingsLength}
 use Rattle.config.specs.Blocks.{bitlessTile}
-use Rattle.sim.specs.Settling.{badRow}
+use Rattle.stepper.specs.Settling.{badRow}
 
 -- "2: a lent length differs from the exact one", for n tiles: what is read, then the outputs and the work room
 abbrev pub inputLengths : ℕ → (table settings list state before after : ℕ) → Bool

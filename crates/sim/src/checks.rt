@@ -7,12 +7,11 @@ ghost use mathlib.Core.List.{_++_};
 ghost use lib.ListN.{length, getD};
 ghost use Rattle.refusal.specs.declared.Answer.the-variants.{Done};
 ghost use Rattle.fabric.specs.Block.{Sized, tiles, ports};
+ghost use Rattle.fabric.specs.Wire.{wiresOf};
 ghost use Rattle.netlist.specs.Rows.{rowLength};
-ghost use Rattle.equations.specs.Sources.{wiresOf};
-ghost use Rattle.sim.specs.Settling.{wireMarks};
+ghost use Rattle.stepper.specs.Settling.{wireMarks};
 ghost use Rattle.sim.specs.Stepping.{badByte, InputsLong, inputsAnswer, runAnswer};
 use config::blocks::bitless_tile;
-use equations::wires::fill_wires;
 use fabric::Block;
 use netlist::check::count_wires;
 use netlist::check::first_bad_row;
@@ -20,6 +19,7 @@ use refusal::Answer;
 use refusal::Refusal;
 use routing::rules::faulty_part;
 use routing::table::group_count;
+use wiring::fill_wires;
 
 // The bytes or-ed: none is higher.
 fn or_bytes(bytes: &[u8]) -> u8

@@ -1,5 +1,4 @@
-// A step of a block (document 01, 'The list and a step'): its list run on the values before and after, every port's value, every
-// cell's next state. `settle` and `clock` below it assume checked input, for callers that make many steps.
+// A step of a block (document 01, 'The list and a step') as a call that takes any input: the checks, then what `stepper` writes, which assumes them.
 //
 // `step` takes any input and has no `requires`; specs/Stepping.antt has the grounds in their order. It takes any list that ground 12
 // lets pass, the block's own or not. What a step means for a block's own list is the theorem of demand 3, above this crate.
@@ -8,8 +7,8 @@ ghost use lib.ListN.{length};
 ghost use Rattle.refusal.specs.Grounds.{answerNumber};
 ghost use Rattle.refusal.specs.Memory.{output, workRoom};
 ghost use Rattle.fabric.specs.Block.{block, tiles};
-ghost use Rattle.sim.specs.Settling.{settledBy, portValues};
-ghost use Rattle.sim.specs.Clocking.{nextStates};
+ghost use Rattle.stepper.specs.Settling.{settledBy, portValues};
+ghost use Rattle.stepper.specs.Clocking.{nextStates};
 ghost use Rattle.sim.specs.Stepping.{stepLengths, stepAnswer};
 use fabric::Block;
 use refusal::Answer;
@@ -17,9 +16,7 @@ use refusal::Refusal;
 
 mod checked;
 pub mod checks;
-pub mod clock;
 mod lengths;
-pub mod settle;
 
 // One step. Grounds 1, 2, 3, 9, 12, 10, in this order (`stepAnswer`). The outputs are values and next; the work room is wires, own,
 // marks and two sets of wire values.

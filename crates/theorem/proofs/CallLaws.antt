@@ -32,8 +32,8 @@ use Rattle.block.specs.Building.{listAnswer, bitsAnswer, buildAnswer}
 use Rattle.block.specs.Meaning.{NoDisabledCarry}
 use Rattle.block.proofs.BuildingLaws.{bits-list, build-bits}
 use Rattle.block.proofs.RoutedLaws.{routed-of-read}
-use Rattle.sim.specs.Settling.{settledBy, portValues}
-use Rattle.sim.specs.Clocking.{nextStates}
+use Rattle.stepper.specs.Settling.{settledBy, portValues}
+use Rattle.stepper.specs.Clocking.{nextStates}
 use Rattle.sim.specs.Stepping.{inputsAnswer, stepAnswer}
 use Rattle.sim.proofs.StepLaws.{inputs-shows, run-shows}
 use Rattle.theorem.specs.Demand3.{Demand3, StepMeans}

@@ -22,8 +22,8 @@ use Rattle.block.specs.declared.Built.the-variants.{Listed, Refused}
 use Rattle.block.specs.Building.{listAnswer}
 use Rattle.block.specs.Meaning.{Accepted, ListSays}
 use Rattle.block.proofs.MeaningLaws.{list-says}
-use Rattle.sim.specs.Settling.{settledBy, portValues, badRow}
-use Rattle.sim.specs.Clocking.{nextStates}
+use Rattle.stepper.specs.Settling.{settledBy, portValues, badRow}
+use Rattle.stepper.specs.Clocking.{nextStates}
 use Rattle.theorem.specs.Demand3.{LoopExactly, OnlyChoice, Demand3, StepMeans}
 use Rattle.theorem.proofs.OwnListLaws.{own-list-passes}
 use Rattle.theorem.proofs.ListingLaws.{listing}

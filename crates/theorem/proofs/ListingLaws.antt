@@ -26,8 +26,8 @@ use Rattle.equations.specs.Settling.{blockList}
 use Rattle.equations.proofs.WireRowLaws.{graph, own-wire, rows-named}
 use Rattle.equations.proofs.ChainLaws.{reads-exact, reads-equation}
 use Rattle.equations.proofs.SettlingLaws.{count-wires}
-use Rattle.sim.specs.Settling.{wireMarks, badRow}
-use Rattle.sim.proofs.SettledLaws.{marks-length, marks-listed, marks-count}
+use Rattle.stepper.specs.Settling.{wireMarks, badRow}
+use Rattle.stepper.proofs.SettledLaws.{marks-length, marks-listed, marks-count}
 use Rattle.theorem.specs.Demand3.{Listing}
 use Rattle.theorem.proofs.OwnListLaws.{own-list-passes}
 use Rattle.theorem.proofs.OrderLowest.{Among, order-lowest}

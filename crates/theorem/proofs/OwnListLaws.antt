@@ -26,8 +26,8 @@ use Rattle.equations.specs.Settling.{blockList}
 use Rattle.equations.proofs.RowReasons.{Why, why-none, why-switch, why-lent, why-zero, why-one, why-flop, why-out, why-lout, why-carry, why-no-carry, why-set, why-chain, why-unset, why}
 use Rattle.equations.proofs.WireRowLaws.{graph, row-is, wire-own, rows-named}
 use Rattle.equations.proofs.SettlingLaws.{count-wires, block-fits}
-use Rattle.sim.specs.Settling.{wireMarks, badRow}
-use Rattle.sim.proofs.SettledLaws.{marks-length, marks-listed, marks-count}
+use Rattle.stepper.specs.Settling.{wireMarks, badRow}
+use Rattle.stepper.proofs.SettledLaws.{marks-length, marks-listed, marks-count}
 
 -- ---- the numbers that a row's kind does not use
 

@@ -10,8 +10,8 @@ use Rattle.fabric.specs.declared.Block.{Block}
 use Rattle.fabric.specs.Block.{tiles, ports, portsPerTile, portOf}
 use Rattle.fabric.specs.PortIndex.{clk, cen, sR, inPort}
 use Rattle.fabric.proofs.BlockLaws.{port-of-lt}
-use Rattle.sim.specs.Settling.{portValue, portValues}
-use Rattle.sim.specs.Clocking.{valueAt, lookupAt, nextCell, nextStates}
+use Rattle.stepper.specs.Settling.{portValue, portValues}
+use Rattle.stepper.specs.Clocking.{valueAt, lookupAt, nextCell, nextStates}
 use Rattle.theorem.specs.Demand3.{OnlyChoice, StepMeans}
 
 -- values that agree at every port

@@ -16,8 +16,8 @@ use Rattle.equations.specs.Settling.{blockList, Inputs}
 use Rattle.block.specs.declared.Built.the-variants.{Listed, Refused}
 use Rattle.block.specs.Building.{listAnswer}
 use Rattle.block.specs.Meaning.{NoDisabledCarry}
-use Rattle.sim.specs.Settling.{settledBy, portValue, portValues, PortBits}
-use Rattle.sim.specs.Clocking.{nextStates}
+use Rattle.stepper.specs.Settling.{settledBy, portValue, portValues, PortBits}
+use Rattle.stepper.specs.Clocking.{nextStates}
 
 module _ (B : Block) (t st : List ℕ) where
   -- "Each block that passes checks 1 to 6 [..] is refused as a loop, by every call that makes check 7, exactly if some wire depends on itself."

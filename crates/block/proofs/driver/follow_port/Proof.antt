@@ -1,10 +1,10 @@
 -- `driver::follow_port` meets its contract: the maps written are the block's, and the wire asked for is the port's. Assumes nothing.
-use Rattle.block.proofs.DriverLaws.{port-contended, port-no-tile, port-no-port, port-driven, wire-read}
+use Rattle.block.proofs.DriverLaws.{port-contended, port-no-tile, port-no-port, port-driven}
 use Rattle.block.specs.declared.Followed.the-variants.{Driven}
 use Rattle.drivers.proofs.LeadLaws.{sources-bounded}
 use Rattle.drivers.specs.Following.{Bounded, driverOf}
 use Rattle.equations.specs.Sources.{contendedWire, sourcesOf}
-use Rattle.fabric.proofs.WireLaws.{wire-within}
+use Rattle.fabric.proofs.WireLaws.{wire-within, wires-at}
 use Rattle.fabric.proofs.BlockLaws.{tiles-le, port-of-lt}
 use Rattle.fabric.specs.Block.{tiles, ports, portsPerTile, portOf}
 use lib.ListN.{getD}
@@ -134,7 +134,7 @@ cast-driver-of c =
     let in-tile : tile < tiles B = omega (arith, at-if2 .if2 .left) in
     let in-port : port < portsPerTile = omega (arith, at-if3 .if3 .left) in
     let lt = port-of-lt B tile port in-tile in-port in
-    let wire = wire-read B (at-fill-wires .fill-wires .last .1 .0) (portOf tile port) (at-fill-wires .fill-wires .ensures) lt in
+    let wire = wires-at B (at-fill-wires .fill-wires .last .1 .0) (at-fill-wires .fill-wires .ensures) (portOf tile port) lt in
     let within = wire-within B (portOf tile port) lt in
     omega arith
 
@@ -155,7 +155,7 @@ driver-of-requires c κs =
     let in-tile : tile < tiles B = omega (arith, at-if2 .if2 .left) in
     let in-port : port < portsPerTile = omega (arith, at-if3 .if3 .left) in
     let lt = port-of-lt B tile port in-tile in-port in
-    let wire = wire-read B (at-fill-wires .fill-wires .last .1 .0) (portOf tile port) (at-fill-wires .fill-wires .ensures) lt in
+    let wire = wires-at B (at-fill-wires .fill-wires .last .1 .0) (at-fill-wires .fill-wires .ensures) (portOf tile port) lt in
     let within = wire-within B (portOf tile port) lt in
     (ok .size, omega (arith, at-start .pre .2), subst Bounded (sym (at-find-sources .find-sources .ensures .1)) (sources-bounded B table st ok), subst (λ (x : ℕ). x < ports B) (sym wire) within, at-start .pre .3)
 
@@ -191,7 +191,7 @@ returns-4 c =
     let in-tile : tile < tiles B = omega (arith, at-if2 .if2 .left) in
     let in-port : port < portsPerTile = omega (arith, at-if3 .if3 .left) in
     let lt = port-of-lt B tile port in-tile in-port in
-    let wire = wire-read B (at-fill-wires .fill-wires .last .1 .0) (portOf tile port) (at-fill-wires .fill-wires .ensures) lt in
+    let wire = wires-at B (at-fill-wires .fill-wires .last .1 .0) (at-fill-wires .fill-wires .ensures) (portOf tile port) lt in
     let within = wire-within B (portOf tile port) lt in
     let same = ap (λ (s : List ℕ). driverOf B s (getD (at-fill-wires .fill-wires .last .1 .0) (portOf tile port) 0)) (at-find-sources .find-sources .ensures .1) in
     ap Driven (at-driver-of .driver-of .ensures ∙ same ∙ ap (driverOf B (sourcesOf B table st)) wire) ∙ port-driven B table st tile port free in-tile in-port

@@ -1,7 +1,7 @@
 -- `ice40_step` meets its contract: the answer of `step`, packed, and what it leaves in lent memory. Assumes nothing.
 use Rattle.capi.specs.Packed.{packedAnswer}
-use Rattle.sim.specs.Clocking.{nextStates}
-use Rattle.sim.specs.Settling.{settledBy, portValues}
+use Rattle.stepper.specs.Clocking.{nextStates}
+use Rattle.stepper.specs.Settling.{settledBy, portValues}
 use Rattle.fabric.specs.Block.{block}
 use Rattle.refusal.specs.Memory.{output, workRoom}
 use Prim.Native.Nat.{ℕ}

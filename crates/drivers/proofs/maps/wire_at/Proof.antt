@@ -1,5 +1,5 @@
 -- `maps::wire_at` meets its contract: the map holds the wire of each port. Assumes nothing.
-use Rattle.equations.proofs.RowFromLaws.{wires-length, wires-at}
+use Rattle.fabric.proofs.WireLaws.{wires-length, wires-at}
 use Rattle.fabric.specs.Block.{portOf}
 use lib.ListN.{getD}
 use native.Mathlib.Omega.{arith}

@@ -1,5 +1,5 @@
 -- `cell_rows::port_wire` meets its contract: the list has the wire of each port. Assumes nothing.
-use Rattle.equations.proofs.RowFromLaws.{wires-length, wires-at}
+use Rattle.fabric.proofs.WireLaws.{wires-length, wires-at}
 use Rattle.fabric.proofs.BlockLaws.{port-of-lt}
 use Rattle.fabric.specs.Block.{portOf}
 use native.Mathlib.Omega.{arith}

@@ -1,5 +1,6 @@
 -- `rows::row_of` meets its contract: no wire's number, a wire with a switch, or one without. Assumes nothing.
-use Rattle.equations.proofs.RowFromLaws.{wires-length, wires-at, drive-driven, row-from-none, row-from-switch, row-from-drive}
+use Rattle.fabric.proofs.WireLaws.{wires-length, wires-at}
+use Rattle.equations.proofs.RowFromLaws.{drive-driven, row-from-none, row-from-switch, row-from-drive}
 use Rattle.equations.specs.WireRows.{driveRow}
 use Rattle.equations.specs.Routed.{Driven}
 use Rattle.fabric.proofs.BlockLaws.{ports-le}

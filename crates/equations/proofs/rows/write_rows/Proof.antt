@@ -1,5 +1,5 @@
 -- `rows::write_rows` meets its contract. Invariant: the first p rows are written (`Written`). Measure: the rows that are left. Assumes nothing.
-use Rattle.equations.proofs.RowFromLaws.{wires-length}
+use Rattle.fabric.proofs.WireLaws.{wires-length}
 use Rattle.equations.specs.Sources.{rowFrom}
 use Rattle.fabric.specs.Block.{ports}
 use Rattle.netlist.proofs.RowLaws.{Written, written-start, written-step, written-end}

@@ -3,8 +3,8 @@ use mathlib.Core.Path.{_≡_, sym, _∙_}
 use Rattle.refusal.specs.declared.Answer.the-variants.{Done}
 use Rattle.refusal.proofs.MemoryLaws.{output-kept}
 use Rattle.sim.proofs.StepLaws.{inputs-shows, run-shows}
-use Rattle.sim.specs.Clocking.{nextStates}
-use Rattle.sim.specs.Settling.{settledBy, portValues}
+use Rattle.stepper.specs.Clocking.{nextStates}
+use Rattle.stepper.specs.Settling.{settledBy, portValues}
 use borrow.Author.Needs.{needs}
 use Rattle.sim.proofs.checked.step_checked.Statement.{statement}
 use Rattle.sim.proofs.checked.step_checked.Tie as tie

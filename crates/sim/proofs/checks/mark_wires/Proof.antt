@@ -8,8 +8,8 @@ use mathlib.Core.Bool.{cond}
 use mathlib.Core.Path.{_≡_, refl, _∙_, ap}
 use Rattle.lists.proofs.TableLaws.{Filled, filled-start, filled-step, filled-end}
 use Rattle.lists.specs.Tables.{tabulate}
-use Rattle.equations.proofs.RowFromLaws.{wires-length}
-use Rattle.sim.proofs.SettledLaws.{wire-marks-is}
+use Rattle.fabric.proofs.WireLaws.{wires-length}
+use Rattle.stepper.proofs.SettledLaws.{wire-marks-is}
 use borrow.Author.Needs.{needs}
 use Rattle.sim.proofs.checks.mark_wires.Statement.{statement}
 use Rattle.sim.proofs.checks.mark_wires.Tie as tie

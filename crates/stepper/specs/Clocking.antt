@@ -1,0 +1,39 @@
+-- How every cell's state moves in a step, from the wires' values `b` before and `a` after (document 01, 'The list and a step').
+use Prim.Native.Nat.{ℕ, _*_, _/_, _%_}
+use mathlib.Core.List.{List}
+use lib.ListN.{getD}
+use Rattle.lists.specs.Tables.{tabulate}
+use Rattle.fabric.specs.declared.Block.{Block}
+use Rattle.fabric.specs.Block.{tiles, portOf}
+use Rattle.fabric.specs.PortIndex.{clk, cen, sR, inPort}
+use Rattle.cell.specs.declared.logic.Cell.{Cell}
+use Rattle.cell.specs.declared.flip_flop.Control.{Control}
+use Rattle.cell.specs.Settings.{cellOf}
+use Rattle.cell.specs.Lookup.{lookupBit}
+use Rattle.cell.specs.NextState.{ticked, nextState}
+use Rattle.equations.specs.Tiles.{tableOf, flagsAt, inverted}
+use Rattle.stepper.specs.Settling.{portValue}
+
+module _ (B : Block) (st : List ℕ) where
+  abbrev pub valueAt : List ℕ → ℕ → ℕ → ℕ
+  valueAt values T q = portValue B values (portOf T q)
+
+  abbrev pub cellAt : ℕ → ℕ → Cell
+  cellAt T i = cellOf (tableOf st T i) (flagsAt st T i)
+
+  -- "A tile ticks if clk goes 0 to 1 without NegClk, or 1 to 0 with it"; cen before, s_r before and after
+  abbrev pub controlOf : List ℕ → List ℕ → ℕ → Control
+  controlOf b a T =
+      record { tick = ticked (inverted st T) (valueAt b T clk) (valueAt a T clk); enable = valueAt b T cen; before = valueAt b T sR; after = valueAt a T sR }
+
+  -- "The lookup here is the settings' table at the before values of the cell's in ports"
+  abbrev pub lookupAt : List ℕ → ℕ → ℕ → ℕ
+  lookupAt b T i =
+      lookupBit (tableOf st T i) (valueAt b T (inPort i 0)) (valueAt b T (inPort i 1)) (valueAt b T (inPort i 2)) (valueAt b T (inPort i 3))
+
+  -- cell i of tile T is number 8T + i of the state
+  unfoldable pub nextCell : List ℕ → List ℕ → List ℕ → ℕ → ℕ
+  nextCell b a state c = nextState (cellAt (c / 8) (c % 8)) (controlOf b a (c / 8)) (lookupAt b (c / 8) (c % 8)) (getD state c 0)
+
+  unfoldable pub nextStates : List ℕ → List ℕ → List ℕ → List ℕ
+  nextStates b a state = tabulate (nextCell b a state) 0 (8 * tiles B)

@@ -1,0 +1,132 @@
+-- `try_decode` meets its contract. Invariant: what is known is right, and the set bits of the first i bytes are taken. Measure: the bytes left.
+-- Assumes nothing.
+use mathlib.Core.Path.{_≡_, refl, sym, ap, _∙_}
+use Prim.Native.Nat.{ℕ, _-_, _<_, _≤_}
+use native.Mathlib.Omega.{arith}
+use borrow.Author.Tests.{not-true, not-false}
+use borrow.Author.Needs.{needs}
+use Rattle.lists.proofs.CaseLaws.{clash}
+use Rattle.codec.specs.Bits.{tileBytes}
+use Rattle.codec.specs.Limits.{bothCarries}
+use Rattle.tile.specs.Taking.{Known}
+use Rattle.codec.proofs.BitLaws.{empty-clear}
+use Rattle.codec.proofs.DecodeLaws.{decode-filled, decode-empty}
+use Rattle.tile.proofs.TakingLaws.{known-start}
+use Rattle.tile.proofs.Passing.{TakenByte, taken-turn, taken-end}
+use Rattle.tile.proofs.TakenLaws.{taken-right, taken-fault, empty-fault}
+use Rattle.tile.proofs.reading.try_decode.Statement.{statement}
+use Rattle.tile.proofs.reading.try_decode.Tie as tie
+
+abbrev Inv-loop : tie.InvT-loop
+Inv-loop table own bits settings₀ i₀ settings i =
+    (i ≤ tileBytes) × Known table bits settings × ((j : ℕ) → j < i → TakenByte table bits settings j)
+
+abbrev μ-loop : tie.MeasureT-loop
+μ-loop table own bits settings₀ i₀ settings i = tileBytes - i
+
+clear-requires : tie.Need-clear-requires Inv-loop μ-loop
+clear-requires c κs = search needs
+
+is-empty-requires : tie.Need-is-empty-requires Inv-loop μ-loop
+is-empty-requires c κs = search needs
+
+same-length : tie.Need-same-length Inv-loop μ-loop
+same-length c = search needs
+
+-- no bit is set
+returns : tie.Need-returns Inv-loop μ-loop
+returns c =
+    let at-is-empty = c .before in
+    let at-clear = c .before .before .before .before in
+    let at-start = at-clear .before .before .before .before .before .before in
+    let args = at-start .args in
+    let none = empty-clear (args .bits .now) (at-start .pre .2) (sym (at-is-empty .is-empty .ensures) ∙ c .if1 .taken) in
+    λ z. (
+      empty-fault (args .table .now) (args .bits .now) (at-start .pre .0) none,
+      at-clear .clear .ensures ∙ decode-empty (args .table .now) (args .bits .now) none _ (at-start .pre .3),
+    )
+
+loop-holds : tie.Need-loop-holds Inv-loop μ-loop
+loop-holds c =
+    let at-clear = c .before .before .before .before in
+    let at-start = at-clear .before .before .before .before .before .before in
+    (omega arith, known-start _ _ (at-start .pre .3) (at-clear .clear .ensures), λ j l. absurd (omega arith))
+
+take-byte-requires : tie.Need-take-byte-requires Inv-loop μ-loop
+take-byte-requires c κs = search needs
+
+same-length-2 : tie.Need-same-length-2 Inv-loop μ-loop
+same-length-2 c = search needs
+
+-- a bit out of order
+returns-2 : tie.Need-returns-2 Inv-loop μ-loop
+returns-2 c = λ z. clash z refl
+
+add-i : tie.Need-add-i Inv-loop μ-loop
+add-i c = search needs
+
+loop-less : tie.Need-loop-less Inv-loop μ-loop
+loop-less c = search needs
+
+loop-again : tie.Need-loop-again Inv-loop μ-loop
+loop-again c =
+    let at-take-byte = c .before .before .before in
+    let at-loop = at-take-byte .before .before .before in
+    let taken = at-take-byte .take-byte .ensures (not-false _ (c .if2 .left)) in
+    (omega arith, taken .0 .known, taken-turn (at-loop .loop .inv .2) (taken .0) (taken .1))
+
+decode-cells-requires : tie.Need-decode-cells-requires Inv-loop μ-loop
+decode-cells-requires c κs = search needs
+
+put-cells-requires : tie.Need-put-cells-requires Inv-loop μ-loop
+put-cells-requires c κs =
+    let at-loop = c .before .before .before in
+    at-loop .loop .inv .1 .long
+
+has-both-carries-requires : tie.Need-has-both-carries-requires Inv-loop μ-loop
+has-both-carries-requires c κs =
+    let at-put-cells = c .before .before .before in
+    let at-loop = at-put-cells .before .before .before .before in
+    at-put-cells .put-cells .kept .0 ∙ at-loop .loop .inv .1 .long
+
+same-length-3 : tie.Need-same-length-3 Inv-loop μ-loop
+same-length-3 c = search needs
+
+-- all bits are taken
+returns-3 : tie.Need-returns-3 Inv-loop μ-loop
+returns-3 c =
+    let at-put-cells = c .before .before .before .before in
+    let at-decode-cells = at-put-cells .before .before in
+    let at-loop = at-decode-cells .before .before in
+    let at-start = at-loop .before .before .before .before .before .before .before .before .before .before .before in
+    let table = at-start .args .table .now in
+    let bits = at-start .args .bits .now in
+    let settings = at-loop .loop .settings in
+    let known = at-loop .loop .inv .1 in
+    let all = taken-end table bits settings (at-loop .loop .i) (omega arith) (at-loop .loop .inv .2) in
+    let read = at-put-cells .put-cells .ensures ∙ decode-filled table bits settings _ (known .long) (taken-right table bits settings (at-start .pre .0) known all)
+    (at-decode-cells .decode-cells .ensures) in
+    λ z. (taken-fault table bits settings (at-start .pre .0) known all (ap bothCarries (sym read) ∙ sym (c .has-both-carries .ensures) ∙ not-true _ z), read)
+
+pub try-decode-spec : {M : Type 1} → statement M
+try-decode-spec =
+    tie.close
+    (tie.spec
+    Inv-loop
+    μ-loop
+    clear-requires
+    is-empty-requires
+    same-length
+    returns
+    loop-holds
+    take-byte-requires
+    same-length-2
+    returns-2
+    add-i
+    loop-less
+    loop-again
+    decode-cells-requires
+    put-cells-requires
+    has-both-carries-requires
+    same-length-3
+    returns-3)

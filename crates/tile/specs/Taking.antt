@@ -1,0 +1,29 @@
+-- A tile's settings while its set bits are taken one after another, in any order, each making the setting that it belongs to known: what the
+-- functions that take them promise each other.
+use Prim.Native.Nat.{ℕ, _+_, _<_}
+use mathlib.Core.Path.{_≡_}
+use mathlib.Core.Logic.{_≢_}
+use mathlib.Core.List.{List}
+use lib.ListN.{length, getD}
+use Rattle.routing.specs.LogicTile.{logicTile}
+use Rattle.routing.specs.Table.{maxPositions}
+use Rattle.routing.specs.Slots.{slotsOf, owner, fieldSlots, groupSlot, slotCount}
+use Rattle.codec.specs.Settings.{groupsFrom, cellsFrom, settingsLength}
+use Rattle.codec.specs.Decode.{settingAt}
+
+-- below the cells, a setting that is not 0 is known: it is what the bits read to
+pub record Known (table bits settings : List ℕ) : Type 0 where
+  pub long : length settings ≡ settingsLength logicTile
+  pub right : (n : ℕ) → n < cellsFrom logicTile → getD settings n 0 ≢ 0 → getD settings n 0 ≡ settingAt table bits n
+
+-- settings that know all that those before knew
+pub record Learned (table bits before after : List ℕ) : Type 0 where
+  pub known : Known table bits after
+  pub kept : (n : ℕ) → getD before n 0 ≢ 0 → getD after n 0 ≢ 0
+
+-- the set bit at p is taken: something claims it, and the field, the passive bit or the group that it belongs to is known
+pub record Taken (table settings : List ℕ) (p : ℕ) : Type 0 where
+  pub claimed : owner (slotsOf logicTile table) p < slotCount logicTile
+  pub single : (n : ℕ) → owner (slotsOf logicTile table) p ≡ fieldSlots logicTile + n → n < groupsFrom logicTile → getD settings n 0 ≢ 0
+  pub group : (g k : ℕ) → owner (slotsOf logicTile table) p ≡ groupSlot logicTile g + k → k < maxPositions
+      → getD settings (groupsFrom logicTile + g) 0 ≢ 0

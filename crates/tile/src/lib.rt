@@ -1,0 +1,173 @@
+// One logic tile: the lowest position at fault, its settings read, its settings written, and whether any bits have them (document 01, 'The routing
+// table' and 'Cells'). The functions ask for a table that breaks no rule and for exact lengths; what reading and writing are stands in `codec`.
+ghost use mathlib.Core.Path.{_≡_};
+ghost use mathlib.Core.Bool.{true};
+ghost use mathlib.Core.List.{List};
+ghost use Prim.Native.Nat.{ℕ};
+ghost use lib.ListN.{length};
+ghost use Rattle.routing.specs.LogicTile.{logicTile};
+ghost use Rattle.routing.specs.Rules.{TableRules};
+ghost use Rattle.routing.specs.Slots.{Owned, slotsOf, slotCount, fieldSlots, passiveSlots, groupSlots};
+ghost use Rattle.codec.specs.Bits.{tileBytes};
+ghost use Rattle.codec.specs.Settings.{settingsLength};
+ghost use Rattle.codec.specs.Decode.{decode};
+ghost use Rattle.codec.specs.Fault.{tileFault};
+ghost use Rattle.codec.specs.Encode.{encode};
+ghost use Rattle.codec.specs.Limits.{limitsOf, settingsFit};
+ghost use Rattle.codec.specs.Writing.{Writable, TileWritten};
+use crate::reading::try_decode;
+use codec::bits::is_empty;
+use codec::bits::write_bit;
+use codec::cells::CELLS_FROM;
+use codec::cells::cells_of;
+use codec::cells::decode_cells;
+use codec::cells::put_cells;
+use codec::cells::write_cells;
+use codec::fault::is_fault_at;
+use codec::groups::write_group;
+use codec::settings::GROUPS_FROM;
+use codec::settings::PASSIVES_FROM;
+use codec::settings::SETTINGS_LENGTH;
+use codec::settings::group_setting;
+use codec::settings::has_both_carries;
+use codec::settings::setting_at;
+
+mod reading;
+
+const POSITIONS: usize = 864;
+
+// The lowest position at fault; 864 where the tile can be decoded. `own` is the ownership map of the table.
+pub fn tile_fault(table: &[u16], own: &[u16], bits: &[u8]) -> usize
+    requires { ⌜ (TableRules logicTile (now table)) × (Owned 864 (slotsOf logicTile (now table)) (slotCount logicTile) (now own)) × (length (now bits) ≡ tileBytes) ⌝ }
+    ensures { λ r. ⌜ r ≡ tileFault (now (table .entry)) (now (bits .entry)) ⌝ }
+{
+    let mut p = 0;
+    while p < POSITIONS {
+        if is_fault_at(table, own, bits, p) {
+            return p;
+        }
+        p += 1;
+    }
+    p
+}
+
+// A tile's settings read from its bits; the cells go through the array by value. Many tiles of a block have no bit set, and take no time.
+// Rules out: writing nothing; leaving the numbers past the table's counts as they were.
+pub fn decode_tile(table: &[u16], bits: &[u8], settings: &mut [u16])
+    requires { ⌜ (TableRules logicTile (now table)) × (length (now bits) ≡ tileBytes) × (length (now settings) ≡ settingsLength logicTile) ⌝ }
+    ensures { λ r. ⌜ now (settings .exit) ≡ decode (now (table .entry)) (now (bits .entry)) ⌝ }
+{
+    if is_empty(bits) {
+        lists::clear(settings);
+        return;
+    }
+    let mut n = 0;
+    while n < GROUPS_FROM {
+        settings[n] = setting_at(table, bits, n);
+        n += 1;
+    }
+    let count = routing::table::group_count(table);
+    let mut g = 0;
+    while g < count {
+        settings[GROUPS_FROM + g] = group_setting(table, g, bits);
+        g += 1;
+    }
+    let mut rest = GROUPS_FROM + count;
+    while rest < CELLS_FROM {
+        settings[rest] = 0;
+        rest += 1;
+    }
+    let cells = decode_cells(bits);
+    put_cells(settings, cells);
+}
+
+// The lowest position at fault; where there is none, 864 with the settings read. Most tiles are read in one pass (`try_decode`), and only where
+// that fails are all positions looked at.
+pub fn read_tile(table: &[u16], own: &[u16], bits: &[u8], settings: &mut [u16]) -> usize
+    requires { ⌜ (TableRules logicTile (now table)) × (Owned 864 (slotsOf logicTile (now table)) (slotCount logicTile) (now own)) × (length (now bits) ≡ tileBytes) × (length (now settings) ≡ settingsLength logicTile) ⌝ }
+    ensures fault { λ r. ⌜ r ≡ tileFault (now (table .entry)) (now (bits .entry)) ⌝ }
+    ensures settings { λ r. ⌜ (r ≡ 864 → now (settings .exit) ≡ decode (now (table .entry)) (now (bits .entry))) ⌝ }
+{
+    if try_decode(table, own, bits, settings) {
+        return POSITIONS;
+    }
+    let fault = tile_fault(table, own, bits);
+    if fault < POSITIONS {
+        return fault;
+    }
+    decode_tile(table, bits, settings);
+    fault
+}
+
+// The fields written to bits that hold the cells.
+fn write_fields(table: &[u16], settings: &[u16], bits: &mut [u8])
+    requires { ⌜ (Writable (now table) (now settings)) × (TileWritten (now table) (now settings) (fieldSlots logicTile) (now bits)) ⌝ }
+    ensures { λ r. ⌜ TileWritten (now (table .entry)) (now (settings .entry)) (passiveSlots logicTile) (now (bits .exit)) ⌝ }
+{
+    let mut f = 0;
+    while f < PASSIVES_FROM {
+        let p = routing::table::field(table, f);
+        write_bit(bits, p, settings[f] as u8);
+        f += 1;
+    }
+}
+
+// The passive bits written after the fields.
+fn write_passives(table: &[u16], settings: &[u16], bits: &mut [u8])
+    requires { ⌜ (Writable (now table) (now settings)) × (TileWritten (now table) (now settings) (passiveSlots logicTile) (now bits)) ⌝ }
+    ensures { λ r. ⌜ TileWritten (now (table .entry)) (now (settings .entry)) (groupSlots logicTile) (now (bits .exit)) ⌝ }
+{
+    let n = routing::table::passive_count(table);
+    let mut j = 0;
+    while j < n {
+        let p = routing::table::passive(table, j);
+        write_bit(bits, p, settings[PASSIVES_FROM + j] as u8);
+        j += 1;
+    }
+}
+
+// The groups written after the passive bits.
+fn write_groups(table: &[u16], settings: &[u16], bits: &mut [u8])
+    requires { ⌜ (Writable (now table) (now settings)) × (TileWritten (now table) (now settings) (groupSlots logicTile) (now bits)) ⌝ }
+    ensures { λ r. ⌜ TileWritten (now (table .entry)) (now (settings .entry)) (slotCount logicTile) (now (bits .exit)) ⌝ }
+{
+    let n = routing::table::group_count(table);
+    let mut g = 0;
+    while g < n {
+        write_group(table, g, bits, settings[GROUPS_FROM + g]);
+        g += 1;
+    }
+}
+
+// A tile's settings written to its bits; the cells go through the array by value.
+pub fn encode_tile(table: &[u16], settings: &[u16], bits: &mut [u8])
+    requires { ⌜ (TableRules logicTile (now table)) × (length (now settings) ≡ settingsLength logicTile) × (settingsFit (now table) (now settings) ≡ true) × (length (now bits) ≡ tileBytes) ⌝ }
+    ensures { λ r. ⌜ now (bits .exit) ≡ encode (now (table .entry)) (now (settings .entry)) ⌝ }
+{
+    lists::clear_bytes(bits);
+    let cells = cells_of(settings);
+    write_cells(bits, cells);
+    write_fields(table, settings, bits);
+    write_passives(table, settings, bits);
+    write_groups(table, settings, bits);
+}
+
+// Whether some bits have these settings (ground 9), `limits` being those of their table. All are looked at, for the machine compares many at once.
+// Rules out: an entry past a group's count; a number past the table's counts that is not 0.
+pub fn settings_fit(limits: &[u16; SETTINGS_LENGTH], settings: &[u16]) -> bool
+    requires { ⌜ length (now settings) ≡ settingsLength logicTile ⌝ }
+    ensures { λ r. ⌜ ((table : List ℕ) → now (limits .entry) ≡ limitsOf table → r ≡ settingsFit table (now (settings .entry))) ⌝ }
+{
+    if has_both_carries(settings) {
+        return false;
+    }
+    let mut fit = true;
+    let mut n = 0;
+    while n < SETTINGS_LENGTH {
+        if limits[n] < settings[n] {
+            fit = false;
+        }
+        n += 1;
+    }
+    fit
+}

@@ -1,0 +1,95 @@
+// Reading a tile in one pass over its set bits, which are few: each makes the setting that it belongs to known. A yes is right; a no only says
+// that the exact search is to be asked (`read_tile`).
+ghost use mathlib.Core.Path.{_≡_};
+ghost use mathlib.Core.Bool.{true};
+ghost use Prim.Native.Nat.{ℕ, _+_, _*_, _<_};
+ghost use lib.ListN.{length, getD};
+ghost use Rattle.digits.specs.Digits.{digit};
+ghost use Rattle.routing.specs.LogicTile.{logicTile};
+ghost use Rattle.routing.specs.Rules.{TableRules};
+ghost use Rattle.routing.specs.Slots.{Owned, slotsOf, slotCount};
+ghost use Rattle.codec.specs.Bits.{unit, tileBytes, bitAt};
+ghost use Rattle.codec.specs.Settings.{settingsLength};
+ghost use Rattle.codec.specs.Decode.{decode};
+ghost use Rattle.codec.specs.Fault.{tileFault};
+ghost use Rattle.tile.specs.Taking.{Known, Learned, Taken};
+use codec::bits::TILE_BYTES;
+use codec::bits::UNIT;
+use codec::bits::is_empty;
+use codec::cells::decode_cells;
+use codec::cells::put_cells;
+use codec::settings::GROUPS_FROM;
+use codec::settings::group_setting;
+use codec::settings::has_both_carries;
+
+// In the ownership map, whose number is one more than the slot's: the first field, after which come the others and the passive bits, as in
+// the settings; and the first position of group 0.
+const FIELDS: usize = 161;
+
+const GROUPS: usize = 228;
+
+const MAX_POSITIONS: usize = 8;
+
+// The set bit at p; whether it is in order. A group is read at its first set bit that is met. The cells are read as a whole, elsewhere.
+fn take_bit(table: &[u16], own: &[u16], bits: &[u8], p: usize, settings: &mut [u16]) -> bool
+    requires { ⌜ (TableRules logicTile (now table)) × (Owned 864 (slotsOf logicTile (now table)) (slotCount logicTile) (now own)) × (length (now bits) ≡ tileBytes) × (p < 864) × (bitAt (now bits) p ≡ 1) × Known (now table) (now bits) (now settings) ⌝ }
+    ensures { λ r. ⌜ (r ≡ true → Learned (now (table .entry)) (now (bits .entry)) (now (settings .entry)) (now (settings .exit)) × Taken (now (table .entry)) (now (settings .exit)) p) ⌝ }
+{
+    let code = own[p] as usize;
+    if code < FIELDS {
+        return code != 0;
+    }
+    if code < GROUPS {
+        settings[code - FIELDS] = 1;
+        return true;
+    }
+    let g = (code - GROUPS) / MAX_POSITIONS;
+    if settings[GROUPS_FROM + g] != 0 {
+        return true;
+    }
+    let e = group_setting(table, g, bits);
+    if e == 0 {
+        return false;
+    }
+    settings[GROUPS_FROM + g] = e;
+    true
+}
+
+// The set bits of byte i.
+fn take_byte(table: &[u16], own: &[u16], bits: &[u8], i: usize, settings: &mut [u16]) -> bool
+    requires { ⌜ (TableRules logicTile (now table)) × (Owned 864 (slotsOf logicTile (now table)) (slotCount logicTile) (now own)) × (length (now bits) ≡ tileBytes) × (i < tileBytes) × Known (now table) (now bits) (now settings) ⌝ }
+    ensures { λ r. ⌜ (r ≡ true → Learned (now (table .entry)) (now (bits .entry)) (now (settings .entry)) (now (settings .exit)) × ((k : ℕ) → k < unit → digit (getD (now (bits .entry)) i 0) k ≡ 1 → Taken (now (table .entry)) (now (settings .exit)) (unit * i + k))) ⌝ }
+{
+    let mut left = bits[i];
+    while 0 < left {
+        let k = digits::lowest_digit(left);
+        if !take_bit(table, own, bits, UNIT * i + k as usize, settings) {
+            return false;
+        }
+        left = digits::without_digit(left, k);
+    }
+    true
+}
+
+// Whether all set bits are in order: then the tile can be decoded, and its settings are read. It may say no of a tile that can be decoded. A
+// tile with no bit set takes no time.
+// Rules out: settings kept from another tile; a yes for a bit that nothing claims, an unlisted group or the carry pair.
+pub fn try_decode(table: &[u16], own: &[u16], bits: &[u8], settings: &mut [u16]) -> bool
+    requires { ⌜ (TableRules logicTile (now table)) × (Owned 864 (slotsOf logicTile (now table)) (slotCount logicTile) (now own)) × (length (now bits) ≡ tileBytes) × (length (now settings) ≡ settingsLength logicTile) ⌝ }
+    ensures { λ r. ⌜ (r ≡ true → (tileFault (now (table .entry)) (now (bits .entry)) ≡ 864) × (now (settings .exit) ≡ decode (now (table .entry)) (now (bits .entry)))) ⌝ }
+{
+    lists::clear(settings);
+    if is_empty(bits) {
+        return true;
+    }
+    let mut i = 0;
+    while i < TILE_BYTES {
+        if !take_byte(table, own, bits, i, settings) {
+            return false;
+        }
+        i += 1;
+    }
+    let cells = decode_cells(bits);
+    put_cells(settings, cells);
+    !has_both_carries(settings)
+}

@@ -13,7 +13,7 @@ use Rattle.refusal.specs.declared.Refusal.the-variants.{Size, Length, Table, Un
 use Rattle.fabric.specs.declared.Block.{Block}
 use Rattle.fabric.specs.Block.{block, tiles, ports, sized}
 use Rattle.fabric.specs.Count.{wires}
-use Rattle.scheduling.specs.Loops.{loopWire}
+use Rattle.loops.specs.Loops.{loopWire}
 use Rattle.routing.specs.LogicTile.{logicTile}
 use Rattle.routing.specs.TableCheck.{faultyPart, partCount, tableOk}
 use Rattle.config.specs.Blocks.{undecodableTile, decoded}

@@ -14,8 +14,8 @@ use Rattle.refusal.specs.declared.Refusal.the-variants.{Size, Length, Table, Un
 use Rattle.fabric.specs.declared.Block.{Block}
 use Rattle.fabric.specs.Block.{block, tiles, ports, sized}
 use Rattle.fabric.proofs.BlockLaws.{sized-true, sized-exact}
-use Rattle.scheduling.specs.Loops.{loopWire}
-use Rattle.scheduling.proofs.LoopWireLaws.{loop-wire-lowest}
+use Rattle.loops.specs.Loops.{loopWire}
+use Rattle.loops.proofs.LoopWireLaws.{loop-wire-lowest}
 use Rattle.routing.specs.LogicTile.{logicTile}
 use Rattle.routing.specs.TableCheck.{tableOk}
 use Rattle.routing.proofs.TableCheckLaws.{table-exact}

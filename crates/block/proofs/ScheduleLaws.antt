@@ -10,14 +10,14 @@ use Rattle.fabric.specs.declared.Block.{Block}
 use Rattle.fabric.specs.Block.{ports}
 use Rattle.fabric.specs.Count.{wires}
 use Rattle.netlist.specs.Graph.{Closed, LowestLoop}
-use Rattle.scheduling.specs.Loops.{loopWire}
+use Rattle.loops.specs.Loops.{loopWire}
 use Rattle.netlist.specs.Order.{order}
 use Rattle.netlist.specs.Rows.{rowLength, Inside, rowsOf, graphOf}
 use Rattle.netlist.specs.OrderedRows.{rowInOrder, listOf}
 use Rattle.scheduling.specs.Scheduling.{Answers, Queued}
 use Rattle.scheduling.specs.declared.schedule.Scheduled.{Scheduled}
 use Rattle.scheduling.specs.declared.schedule.Scheduled.the-variants.{Listed, Loop}
-use Rattle.scheduling.proofs.LoopWireLaws.{loop-wire-is, loop-wire-lowest}
+use Rattle.loops.proofs.LoopWireLaws.{loop-wire-is, loop-wire-lowest}
 use Rattle.scheduling.proofs.SchedulingLaws.{queue-long, queue-inside, queue-list}
 use Rattle.equations.specs.Routed.{Routed}
 use Rattle.equations.specs.Sources.{rowsFrom, sourcesOf}

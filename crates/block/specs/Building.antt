@@ -9,7 +9,7 @@ use Rattle.fabric.specs.declared.Block.{Block}
 use Rattle.fabric.specs.Block.{block, tiles, ports, sized}
 use Rattle.fabric.specs.Count.{wires}
 use Rattle.netlist.specs.Rows.{graphOf}
-use Rattle.scheduling.specs.Loops.{loopWire}
+use Rattle.loops.specs.Loops.{loopWire}
 use Rattle.routing.specs.LogicTile.{logicTile}
 use Rattle.routing.specs.TableCheck.{faultyPart, tableOk}
 use Rattle.config.specs.Blocks.{undecodableTile, decoded}

@@ -1,10 +1,9 @@
 -- The lookup and the carry give a bit, and the inputs of `lookedUp` weigh as document 01 says. Main law: `looked-up-bits`.
-use mathlib.Core.Path.{_≡_, refl}
+use mathlib.Core.Path.{_≡_}
 use mathlib.Core.Bool.{Bool, true, false, cond}
-use Prim.Native.Nat.{ℕ, _+_, _*_, _/_, _%_, _^_, _<_, _≤_}
+use Prim.Native.Nat.{ℕ, _+_, _*_, _<_}
 use native.Mathlib.Omega.{arith}
 use lib.Dec.{leb}
-use Rattle.digits.specs.Digits.{digit}
 use borrow.Author.Tests.{lt-ltb}
 use Rattle.cell.specs.Lookup.{lookupBit, lookedUp, majority}
 use Rattle.cell.specs.declared.logic.Looked.the-variants.{Bit}

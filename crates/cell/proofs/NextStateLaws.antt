@@ -1,11 +1,11 @@
 -- Each way of `nextSync`, `nextAsync` and `nextState`, and that a bit stays a bit. Main laws: `next-sync-disabled`, `next-state-lt`.
-use mathlib.Core.Path.{_≡_, refl, sym, ap, _∙_}
+use mathlib.Core.Path.{_≡_, refl}
 use mathlib.Core.Bool.{Bool, true, false, cond, _&&_, _||_, and-comm}
 use mathlib.Core.Logic.{_≢_}
 use Prim.Native.Nat.{ℕ, _<_}
 use native.Mathlib.Omega.{arith}
 use lib.Dec.{eqb}
-use borrow.Author.Tests.{eq-eqb, ne-eqb}
+use borrow.Author.Tests.{ne-eqb}
 use Rattle.cell.specs.declared.logic.Cell.{Cell}
 use Rattle.cell.specs.declared.flip_flop.Control.{Control}
 use Rattle.cell.specs.NextState.{rose, ticked, nextSync, nextAsync, nextState, bitOf}

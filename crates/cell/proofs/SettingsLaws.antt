@@ -1,10 +1,10 @@
 -- A cell holds its flags: what they are and that they are few. Main law: `flags-of-cell`.
-use mathlib.Core.Path.{_≡_, refl, sym, ap, _∙_}
+use mathlib.Core.Path.{_≡_}
 use mathlib.Core.Bool.{Bool, true, false, cond}
-use Prim.Native.Nat.{ℕ, zero, suc, _+_, _*_, _/_, _%_, _^_, _<_, _≤_}
+use Prim.Native.Nat.{ℕ, zero, suc, _*_, _<_, _≤_}
 use native.Mathlib.Omega.{arith}
 use lib.Dec.{eqb}
-use Rattle.digits.specs.Digits.{digit, isSet, fromDigits}
+use Rattle.digits.specs.Digits.{digit, fromDigits}
 use Rattle.digits.proofs.DigitLaws.{from-digits-all}
 use Rattle.cell.specs.declared.logic.Cell.{Cell}
 use Rattle.cell.specs.Settings.{cellOf, flagsOf}

@@ -1,6 +1,6 @@
 -- A cell's settings and their flags as one number (document 01, 'Cells' and frame 07: "flags (1 carry, 2 flip-flop, 4 set, 8 asynchronous)").
 use Prim.Native.Nat.{ℕ, _+_}
-use mathlib.Core.Bool.{Bool, cond}
+use mathlib.Core.Bool.{cond}
 use Rattle.cell.specs.declared.logic.Cell.{Cell}
 use Rattle.digits.specs.Digits.{isSet}
 

@@ -1,7 +1,7 @@
 -- The tiles of a block that was decoded or encoded, and what the tests of a tile say of it. Main laws: `decoded-at`, `decoded-reads`,
 -- `undecodable-lowest`; `encoded-at`, `encoded-reads`, `bitless-lowest`. Assumes nothing.
 use mathlib.Core.Path.{_≡_, sym, subst}
-use mathlib.Core.Bool.{true, false, not}
+use mathlib.Core.Bool.{true, false}
 use mathlib.Core.List.{List}
 use Prim.Native.Nat.{ℕ, _*_, _<_, _≤_}
 use native.Mathlib.Omega.{arith}

@@ -1,14 +1,13 @@
 -- What a yes of `read` and `write` has passed, and the chain of checks that both share. Main laws: `read-passed`, `read-clean`;
 -- `write-passed`, `write-fit`; `checks-cases`. Assumes nothing.
 use mathlib.Core.Path.{_≡_, refl}
-use mathlib.Core.Bool.{Bool, true, false, not}
+use mathlib.Core.Bool.{Bool, true, false}
 use mathlib.Core.List.{List}
 use Prim.Native.Nat.{ℕ, _<_}
 use native.Mathlib.Omega.{arith}
 use borrow.Author.Tests.{leb-true, not-false}
 use lib.Dec.{leb}
 use lib.ListN.{length}
-use Rattle.lists.specs.Search.{first}
 use Rattle.lists.proofs.SearchLaws.{first-before}
 use Rattle.refusal.specs.Grounds.{unless}
 use Rattle.refusal.specs.declared.Refusal.{Refusal}

@@ -1,15 +1,15 @@
 -- The language's count of ones is the count of the set digits. Main law: `ones-count`.
 use mathlib.Core.Path.{_≡_, refl, sym, ap, ap₂, _∙_, subst}
-use mathlib.Core.Bool.{Bool, true, false, cond}
-use Prim.Native.Nat.{ℕ, zero, suc, _+_, _*_, _/_, _%_, _^_, _<_, _≤_}
+use mathlib.Core.Bool.{cond}
+use Prim.Native.Nat.{ℕ, zero, suc, _+_, _/_, _%_, _^_, _<_}
 use native.Mathlib.Omega.{arith}
-use native.Mathlib.Nat.{mod-lt, mod-eq-of-lt}
+use native.Mathlib.Nat.{mod-lt}
 use lib.Dec.{eqb}
-use lib.Count.{ones, ones-cat, ones-le}
+use lib.Count.{ones, ones-cat}
 use lib.Pow.{split, pow-pos, shr-lt}
 use Rattle.lists.specs.Search.{count}
 use Rattle.lists.proofs.CountLaws.{count-ext}
-use Rattle.digits.specs.Digits.{digit, isSet}
+use Rattle.digits.specs.Digits.{isSet}
 use Rattle.digits.proofs.DigitLaws.{digit-mod}
 
 -- a number below 2 has itself as its count

@@ -13,7 +13,6 @@ use Rattle.fabric.specs.Ports.{portAt}
 use Rattle.fabric.specs.PortIndex.{carryIn}
 use Rattle.fabric.specs.PortNames.{indexOf}
 use Rattle.fabric.proofs.PortLaws.{port-at-back}
-use Rattle.equations.specs.declared.drives.Drive.{Drive}
 use Rattle.equations.specs.declared.drives.Drive.the-variants.{Nothing, CellOut}
 use Rattle.equations.specs.Drives.{outputDrive, driveAt, driveOf}
 use Rattle.drivers.specs.CarryReads.{isDisabledCarry}

@@ -26,7 +26,7 @@ use Rattle.drivers.specs.declared.follow.Driver.the-variants.{Ring}
 use Rattle.drivers.specs.declared.follow.Trace.{Trace}
 use Rattle.drivers.specs.declared.follow.Trace.the-variants.{End, Again}
 use Rattle.drivers.specs.Following.{Bounded, Leads, Comes, DrivenBy, at-end, in-ring, endDriver, traced, tracedMarks, ringLowest, traceDriver, driverOf}
-use Rattle.drivers.proofs.WalkLaws.{Goes, Gets, goes-gets, gets-goes, gets-gets, gets-linear, ring-back, ring-goes-on, ring-or-end, end-unique, first-step}
+use Rattle.drivers.proofs.WalkLaws.{Goes, Gets, goes-gets, gets-goes, gets-gets, gets-linear, ring-back, ring-goes-on, ring-or-end, end-unique}
 use Rattle.drivers.proofs.Walking.{Walked, walk-whole}
 use Rattle.drivers.proofs.LeadLaws.{leads-depends, sources-length, source-ends, sources-bounded, goes-leads, gets-comes, gets-own, ends-source, leads-goes, comes-gets}
 use Rattle.drivers.proofs.StandingLaws.{stands-at, stands-drive}

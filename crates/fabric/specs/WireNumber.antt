@@ -2,7 +2,6 @@
 use Prim.Native.Nat.{ℕ}
 use mathlib.Core.Path.{_≡_}
 use lib.Dec.{ltb}
-use Rattle.refusal.specs.declared.Refusal.{Refusal}
 use Rattle.refusal.specs.declared.Refusal.the-variants.{Size, OutOfRange}
 use Rattle.refusal.specs.Grounds.{numberOf, placeOf, unless}
 use Rattle.fabric.specs.declared.Block.{Block}

@@ -9,7 +9,6 @@ use lib.Dec.{eqb, leb}
 use lib.ListN.{length}
 use Rattle.lists.specs.Search.{first}
 use Rattle.refusal.specs.Grounds.{unless, numberOf}
-use Rattle.refusal.specs.declared.Refusal.{Refusal}
 use Rattle.refusal.specs.declared.Refusal.the-variants.{Size, Line}
 use Rattle.frames.specs.Hex.{pairAt}
 use Rattle.frames.specs.Lines.{fieldsLine, passiveCount, passiveLine, groupDigits, groupLine, sizeLine, tileLine}

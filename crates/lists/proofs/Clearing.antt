@@ -3,7 +3,7 @@ use mathlib.Core.Path.{_≡_, refl, sym, _∙_}
 use mathlib.Core.List.{List}
 use Prim.Native.Nat.{ℕ, _+_, _<_, _≤_}
 use native.Mathlib.Omega.{arith}
-use lib.ListN.{length, getD, set}
+use lib.ListN.{length, set}
 use lib.Seq.{ext-getD}
 use Rattle.lists.specs.Tables.{zeros}
 use Rattle.lists.proofs.TableLaws.{Filled, filled-start, filled-step, zeros-length, zeros-at}

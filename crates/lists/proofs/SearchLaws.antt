@@ -9,7 +9,7 @@ use native.Mathlib.Numerals.{add-one}
 use native.Mathlib.Nat.{sub-zero, eq-or-lt-of-le}
 use native.Mathlib.Decide.{decLt}
 use Rattle.lists.specs.Search.{first, all}
-use Rattle.lists.proofs.CaseLaws.{cases, clash}
+use Rattle.lists.proofs.CaseLaws.{clash}
 
 module _ (p : ℕ → Bool) (i n : ℕ) where
   pub first-hit : i < n → p i ≡ true → first p i (n - i) ≡ i

@@ -4,11 +4,12 @@ pub mod ListLaws  -- list-solves, list-others-break, list-fits, list-bits: the s
 pub mod PassedLaws  -- passed-every, passed-once, passed-fits, passed-local, passed-bits: of a list that passes ground 12
 pub mod CheckingLaws  -- first-bad-exact: the test of ground 12 is its sentence
 pub mod RowLaws  -- row-set-same, row-set-other, row-rows; Written with its start, step and end: a list filled row by row
-pub mod MarkLaws  -- listed-set-same, -other, -kept; unmarked-mark: a mark is one less
+pub mod MarkLaws  -- listed-set-same, -other, -kept; unmarked-mark: a mark is one less; only-listed-..: marks that say more
 pub mod ValueLaws  -- value-local, value-lt: what a row gives
 pub mod ReadyLaws  -- ready, next; order-induction
 pub mod LoopLaws  -- stuck-loop: where none is ready one depends on itself; Safe, settled-end: no listed wire does
 pub mod PlacedLaws  -- Placed: the order's wires, each once, none before what it reads
+pub mod GraphLaws  -- what a row that was read says of its wire
 pub mod EquationLaws  -- solved-step, agree-step: one step of running the order
 pub mod Settling  -- the loop that runs a list; run-bits
 pub mod OperandLaws  -- an operand by its use

@@ -1,18 +1,20 @@
--- Marks: what is read after one is set, and how many are not set. Main laws: `listed-set-same`, `-other`, `-kept`; `unmarked-mark`.
+-- Marks: what is read after one is set, and how many are not set. Main laws: `listed-set-same`, `-other`, `-kept`; `unmarked-mark`;
+-- `only-listed-list`, `only-listed-wait`.
 use mathlib.Core.Path.{_≡_, refl, sym, ap, _∙_}
-use mathlib.Core.Bool.{true, false}
+use mathlib.Core.Bool.{true, false, cond}
 use mathlib.Core.Logic.{⊎-elim, _≢_}
 use mathlib.Core.List.{List, [], _∷_}
 use Prim.Native.Nat.{ℕ, zero, suc, _<_, _≤_}
 use native.Mathlib.Nat.{le-of-suc-le-suc}
 use native.Mathlib.Omega.{arith}
 use borrow.Author.Tests.{eq-eqb, ne-eqb, eqb-true, not-false}
-use lib.ListN.{length, getD, set, List·getD-eq-default}
-use lib.Seq.{getD-set-same, getD-set-other}
+use lib.Dec.{eqb}
+use lib.ListN.{length, getD, set, length-map, List·getD-map, List·getD-eq-default}
+use lib.Seq.{getD-set-same, getD-set-other, map-set-same}
 use Rattle.lists.specs.Tables.{zeros}
 use Rattle.lists.proofs.CaseLaws.{cases, clash, eq-or-ne, lt-or-le}
 use Rattle.lists.proofs.TableLaws.{zeros-at}
-use Rattle.netlist.specs.Marks.{listed, unmarked}
+use Rattle.netlist.specs.Marks.{listed, unmarked, onlyListed}
 
 module _ (m : List ℕ) (w : ℕ) where
   pub listed-true : getD m w 0 ≢ 0 → listed m w ≡ true
@@ -84,3 +86,42 @@ unmarked-zeros (suc n) = ap suc (unmarked-zeros n)
 -- none unmarked: all are listed
 pub unmarked-none : (m : List ℕ) (w : ℕ) → unmarked m ≡ 0 → w < length m → listed m w ≡ true
 unmarked-none m w z l = ⊎-elim (λ q. q) (λ q. absurd (let h = unmarked-set m w l (unlisted-zero m w q) in omega arith)) (cases (listed m w))
+
+-- ---- marks that say more of wires that are not listed
+
+module _ (m : List ℕ) where
+  pub only-listed-length : length (onlyListed m) ≡ length m
+  unfolding onlyListed
+  only-listed-length = length-map m _
+
+  only-listed-at : (w : ℕ) → getD (onlyListed m) w 0 ≡ cond (eqb (getD m w 0) 1) 1 0
+  unfolding onlyListed
+  only-listed-at w = List·getD-map (λ (x : ℕ). cond (eqb x 1) 1 0) m w 0
+
+  pub only-listed-one : (w : ℕ) → getD m w 0 ≡ 1 → getD (onlyListed m) w 0 ≡ 1
+  only-listed-one w e = only-listed-at w ∙ rw (eq-eqb _ _ e)
+
+  pub only-listed-zero : (w : ℕ) → getD m w 0 ≢ 1 → getD (onlyListed m) w 0 ≡ 0
+  only-listed-zero w ne = only-listed-at w ∙ rw (ne-eqb _ _ ne)
+
+  pub only-listed-true : (w : ℕ) → getD m w 0 ≡ 1 → listed (onlyListed m) w ≡ true
+  only-listed-true w e = let h = only-listed-one w e in listed-true (onlyListed m) w (λ z. absurd (omega arith))
+
+  pub only-listed-false : (w : ℕ) → getD m w 0 ≢ 1 → listed (onlyListed m) w ≡ false
+  only-listed-false w ne = listed-false (onlyListed m) w (only-listed-zero w ne)
+
+  -- a wire that is not listed may remember anything
+  pub only-listed-wait : (d v : ℕ) → getD m d 0 ≢ 1 → v ≢ 1 → onlyListed (set m d v) ≡ onlyListed m
+  unfolding onlyListed
+  only-listed-wait d v old new = map-set-same (λ (x : ℕ). cond (eqb x 1) 1 0) m d v 0 (rw (ne-eqb _ _ old, ne-eqb _ _ new))
+
+pub only-listed-list : (m : List ℕ) (w : ℕ) → onlyListed (set m w 1) ≡ set (onlyListed m) w 1
+unfolding onlyListed
+only-listed-list [] w = refl
+only-listed-list (x ∷ m) zero = refl
+only-listed-list (x ∷ m) (suc w) = ap (λ (t : List ℕ). cond (eqb x 1) 1 0 ∷ t) (only-listed-list m w)
+
+pub only-listed-zeros : (n : ℕ) → onlyListed (zeros n) ≡ zeros n
+unfolding onlyListed
+only-listed-zeros zero = refl
+only-listed-zeros (suc n) = ap (λ (t : List ℕ). 0 ∷ t) (only-listed-zeros n)

@@ -1,7 +1,7 @@
 -- Marks: a number for each index, not 0 where it is marked.
 use mathlib.Core.Path.{_≡_}
-use mathlib.Core.Bool.{Bool, not}
-use mathlib.Core.List.{List, [], _∷_}
+use mathlib.Core.Bool.{Bool, not, cond}
+use mathlib.Core.List.{List, [], _∷_, map}
 use Prim.Native.Nat.{ℕ, zero, suc}
 use lib.Dec.{eqb}
 use lib.ListN.{getD, set}
@@ -23,3 +23,7 @@ abbrev pub unmarked : List ℕ → ℕ
 unmarked [] = 0
 unmarked (zero ∷ marks) = suc (unmarked marks)
 unmarked (suc x ∷ marks) = unmarked marks
+
+-- where a mark may also say something else of a wire that is not listed: 1 where the wire is listed, else 0
+unfoldable pub onlyListed : List ℕ → List ℕ
+onlyListed marks = map (λ (x : ℕ). cond (eqb x 1) 1 0) marks

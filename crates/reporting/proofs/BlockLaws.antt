@@ -2,12 +2,9 @@
 use Prim.Native.Nat.{ℕ, _≤_}
 use mathlib.Core.Path.{_≡_, refl, sym, ap, _∙_}
 use mathlib.Core.Bool.{Bool, true, false}
-use mathlib.Core.Logic.{⊎-elim}
 use mathlib.Core.List.{List}
 use native.Mathlib.Omega.{arith}
 use borrow.Author.Tests.{leb-true}
-use lib.Dec.{leb}
-use Rattle.lists.proofs.CaseLaws.{cases}
 use Rattle.refusal.specs.Grounds.{numberOf, placeOf, unless}
 use Rattle.refusal.specs.declared.Refusal.{Refusal}
 use Rattle.fabric.specs.Block.{block, tiles, sized}
@@ -17,7 +14,7 @@ use Rattle.config.specs.Blocks.{undecodableTile, decoded}
 use Rattle.block.specs.declared.Built.{Built}
 use Rattle.block.specs.declared.Built.the-variants.{Listed, Refused}
 use Rattle.block.specs.Building.{builtNumber, none, bitsAnswer, buildAnswer}
-use Rattle.reporting.specs.Lines.{answerLine}
+use Rattle.lines.specs.Lines.{answerLine}
 use Rattle.reporting.specs.Report.{builtLines, acceptedLines, blockLines}
 
 -- a check that a yes lies behind has passed

@@ -1,6 +1,4 @@
 -- Laws of the report.
-pub mod TextLaws  -- put-is; puts-none, puts-line, puts-more: lines put one behind the other
-pub mod LineLaws  -- switch-none, switch-some, cell-none, cell-some: the part of a wire and of a cell
 pub mod BlockLaws  -- refused-lines, listed-lines, listed-decodable: what the answer of building shows
 pub mod SizeLaws  -- small-tiles: at most nine tiles
 pub mod ReportLaws  -- refused-report, block-report, report-put: the report of an input

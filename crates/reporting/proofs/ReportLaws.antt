@@ -13,9 +13,9 @@ use Rattle.frames.specs.Input.{parsed}
 use Rattle.frames.specs.Contents.{tableOf, bitsOf}
 use Rattle.frames.specs.Whole.{Small}
 use Rattle.frames.specs.Meaning.{ParsedSays}
-use Rattle.reporting.specs.Lines.{answerLine}
+use Rattle.lines.specs.Lines.{answerLine}
 use Rattle.reporting.specs.Report.{blockLines, parsedLines, reportOf}
-use Rattle.reporting.proofs.TextLaws.{Puts}
+use Rattle.lines.proofs.TextLaws.{Puts}
 
 module _ (s : List ℕ) (r : Parsed) (e : r ≡ parsed s) where
   pub refused-report : (refusal : Refusal) → r ≡ Refused refusal → answerLine (numberOf refusal) (placeOf refusal) ≡ reportOf s

@@ -1,5 +1,5 @@
 -- The size of a program's block, at most nine tiles, and the front of a room. Main laws: `small-tiles`, `front-long`.
-use Prim.Native.Nat.{ℕ, _*_, _≤_}
+use Prim.Native.Nat.{ℕ, _≤_}
 use mathlib.Core.Path.{_≡_}
 use mathlib.Core.List.{List}
 use native.Mathlib.Omega.{arith}

@@ -8,13 +8,13 @@ use lib.ListN.{getD}
 use Rattle.lists.proofs.TableLaws.{tabulate-zero}
 use Rattle.fabric.specs.declared.Block.{Block}
 use Rattle.fabric.specs.Block.{ports}
-use Rattle.equations.specs.Switches.{switches, origin, Ends, NoSwitch, NoContention}
+use Rattle.equations.specs.Switches.{switches, origin, NoContention}
 use Rattle.equations.specs.WireRows.{driver}
 use Rattle.equations.specs.Sources.{sourceIn, sourcesOf}
 use Rattle.equations.proofs.SwitchLaws.{driver-is, no-driver}
-use Rattle.reporting.specs.Lines.{switchLine}
+use Rattle.lines.specs.Lines.{switchLine}
 use Rattle.reporting.specs.Meaning.{WireSays}
-use Rattle.reporting.proofs.LineLaws.{switch-none, switch-some}
+use Rattle.lines.proofs.LineLaws.{switch-none, switch-some}
 
 module _ (B : Block) (t st : List ℕ) (w : ℕ) (l : w < ports B) where
   source-is : getD (sourcesOf B t st) w 0 ≡ sourceIn B t st (switches B) w

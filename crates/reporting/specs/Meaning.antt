@@ -5,8 +5,8 @@ use mathlib.Core.List.{List, []}
 use Rattle.fabric.specs.declared.Block.{Block}
 use Rattle.equations.specs.Switches.{Ends, NoSwitch, origin}
 use Rattle.equations.specs.Sources.{sourcesOf}
-use Rattle.reporting.specs.Lines.{switchLine}
-use Rattle.reporting.specs.Report.{switchPart}
+use Rattle.lines.specs.Lines.{switchLine}
+use Rattle.lines.specs.Listing.{switchPart}
 
 -- "06 is driven wire and source wire of each enabled switch": a wire on which a switch ends has the line of that switch, any other none
 pub record WireSays (B : Block) (t st : List ℕ) (w : ℕ) : Type 0 where

@@ -10,15 +10,15 @@ ghost use Rattle.routing.specs.Table.{tableLength};
 ghost use Rattle.codec.specs.Bits.{tileBytes};
 ghost use Rattle.codec.specs.Settings.{settingsLength};
 ghost use Rattle.config.specs.Blocks.{undecodableTile, decoded};
-ghost use Rattle.reporting.specs.Lines.{answerLine, placed};
+ghost use Rattle.lines.specs.Lines.{answerLine, placed};
 ghost use Rattle.block.specs.Lengths.{BuildLong};
 ghost use Rattle.frames.specs.Whole.{Small};
 ghost use Rattle.reporting.specs.Report.{outLength, linesOf, acceptedLines, blockLines};
-use crate::lines::answer_line;
-use crate::lines::put;
-use crate::listing;
 use block::Built;
 use fabric::Block;
+use lines::listing;
+use lines::text::answer_line;
+use lines::text::put;
 use refusal::Refusal;
 
 // Room for the largest block of a program, 3 by 3: numbers for its ports, its rows and its settings.

@@ -9,13 +9,11 @@ ghost use mathlib.Core.List.{_++_};
 ghost use lib.ListN.{length, drop};
 ghost use Rattle.frames.specs.Whole.{Small};
 ghost use Rattle.frames.specs.Contents.{tableOf, bitsOf};
-ghost use Rattle.reporting.specs.Lines.{placed};
+ghost use Rattle.lines.specs.Lines.{placed};
 ghost use Rattle.reporting.specs.Report.{outLength, blockLines, reportOf};
 use frames::input::Parsed;
 
 pub mod blocks;
-pub mod lines;
-pub mod listing;
 
 // As much of an input as its report hangs on, and as much as a report can have.
 pub const INPUT: usize = 131072;

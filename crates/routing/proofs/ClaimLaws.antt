@@ -3,12 +3,11 @@ use mathlib.Core.Path.{_≡_, sym, subst, _∙_}
 use mathlib.Core.Logic.{_↔_}
 use mathlib.Core.Bool.{true}
 use mathlib.Core.List.{List}
-use Prim.Native.Nat.{ℕ, _+_, _*_, _/_, _%_, _<_, _≤_}
+use Prim.Native.Nat.{ℕ, _+_, _*_, _/_, _%_, _<_}
 use native.Mathlib.Omega.{arith}
-use native.Mathlib.Nat.{mul-le-mul-left}
 use borrow.Author.Tests.{lt-ltb}
 use Rattle.routing.specs.TileKind.{TileKind, bitsPerCell}
-use Rattle.routing.specs.Table.{maxPassives, maxGroups, maxPositions, passiveCount, groupCount, widthOf}
+use Rattle.routing.specs.Table.{maxPassives, maxGroups, maxPositions, passiveCount, widthOf}
 use Rattle.routing.specs.Slots.{slotAt, slotUsed, slotCount, fieldSlots, passiveSlots, groupSlot}
 use Rattle.routing.specs.Rules.{TableRules, Claimed, by-cell, by-field, by-passive, by-group}
 use Rattle.routing.proofs.SlotLaws.{slot-at-bit, slot-at-cell, slot-used-cell, slot-at-field, slot-used-field, slot-at-passive, slot-used-passive, slot-at-group, slot-used-group, slot-cases}

@@ -1,6 +1,6 @@
 -- The loop that lists the wires: what holds each time that it looks for the next.
 use mathlib.Core.Path.{_≡_, refl, sym, ap, subst, _∙_}
-use mathlib.Core.Bool.{Bool, true, false, not, _||_}
+use mathlib.Core.Bool.{true, false}
 use mathlib.Core.Logic.{_⊎_, inl, inr, ⊎-elim, _≢_}
 use mathlib.Core.List.{List, [], _∷_, _++_, append-assoc, append-nil}
 use Prim.Native.Nat.{ℕ, _+_, _^_, _<_, _≤_}
@@ -11,18 +11,17 @@ use lib.Dec.{eqb}
 use lib.ListN.{length, getD, set, take, drop, length-set, take-append-drop}
 use lib.Seq.{take-suc-set, drop-set-lt, drop-drop, length-take-le}
 use Rattle.lists.specs.Tables.{zeros}
-use Rattle.lists.proofs.CaseLaws.{cases, clash, or-is, or-left, or-right}
+use Rattle.lists.proofs.CaseLaws.{clash, or-is, or-left, or-right}
 use Rattle.lists.proofs.TableLaws.{zeros-length}
 use Rattle.netlist.specs.Graph.{Graph}
-use Rattle.netlist.specs.Marks.{marksAfter, unmarked}
+use Rattle.netlist.specs.Marks.{marksAfter, unmarked, onlyListed}
 use Rattle.netlist.specs.Order.{next, orderFrom, order, orderMarks}
 use Rattle.bitset.specs.Bitset.{Bitset, has}
-use Rattle.scheduling.specs.Waiting.{onlyListed, Among, Chain, Watched}
-use Rattle.scheduling.specs.Due.{dueFrom, dueWith, Early, Resting, Found, Asleep, Woken}
+use Rattle.scheduling.specs.Waiting.{Among, Chain}
+use Rattle.scheduling.specs.Due.{dueFrom, dueWith, Resting, Found, Asleep, Woken}
 use Rattle.scheduling.specs.declared.order.Look.{Look}
-use Rattle.netlist.proofs.MarkLaws.{unmarked-zeros}
+use Rattle.netlist.proofs.MarkLaws.{unmarked-zeros, only-listed-true, only-listed-list, only-listed-zeros}
 use Rattle.netlist.proofs.ReadyLaws.{ready-unlisted, next-le, next-ready, next-unmarked, order-from-step, order-from-end}
-use Rattle.scheduling.proofs.WaitingLaws.{only-listed-true, only-listed-list, only-listed-zeros}
 use Rattle.scheduling.proofs.WatchLaws.{watched-start, watched-list}
 use Rattle.scheduling.proofs.DueLaws.{due-asleep, due-lt, due-other, due-here}
 

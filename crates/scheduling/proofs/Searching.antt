@@ -1,5 +1,5 @@
 -- The loop that searches the next wire: what holds each time that it looks at one (`Searching`), and what the search gives.
-use mathlib.Core.Path.{_≡_, refl, sym, _∙_}
+use mathlib.Core.Path.{_≡_, refl, _∙_}
 use mathlib.Core.Bool.{true, false}
 use mathlib.Core.Logic.{_≢_}
 use mathlib.Core.List.{List}
@@ -8,11 +8,12 @@ use native.Mathlib.Omega.{arith}
 use lib.ListN.{getD, set}
 use Rattle.netlist.specs.Graph.{Graph}
 use Rattle.netlist.specs.Order.{ready, next}
-use Rattle.scheduling.specs.Waiting.{onlyListed, Stuck, Idle, Watched}
-use Rattle.scheduling.specs.Due.{dueFrom, dueWith, Early, Taken, Resting, Found}
+use Rattle.netlist.specs.Marks.{onlyListed}
+use Rattle.scheduling.specs.Waiting.{Stuck, Idle, Watched}
+use Rattle.scheduling.specs.Due.{dueFrom, dueWith, Early, Taken, Found}
 use Rattle.scheduling.specs.declared.order.Look.{Look}
 use Rattle.netlist.proofs.ReadyLaws.{ready-true, next-at, next-end}
-use Rattle.scheduling.proofs.WaitingLaws.{only-listed-true, only-listed-false, only-listed-wait}
+use Rattle.netlist.proofs.MarkLaws.{only-listed-true, only-listed-false, only-listed-wait}
 use Rattle.scheduling.proofs.WatchLaws.{watched-idle, watched-ext, watched-drop, watched-wait}
 use Rattle.scheduling.proofs.DueLaws.{due-here, due-other}
 

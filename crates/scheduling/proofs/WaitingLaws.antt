@@ -1,62 +1,23 @@
--- Who waits while the order is made: `onlyListed` after a mark is set, chains, and where a wire is stuck.
--- Main laws: `only-listed-list`, `only-listed-wait`; `chain-unique`, `chain-set`; `stuck-unique`, `stuck-false`.
-use mathlib.Core.Path.{_≡_, refl, sym, ap, ap₂, _∙_}
-use mathlib.Core.Bool.{true, false, cond}
+-- Who waits while the order is made: chains, and where a wire is stuck. Main laws: `chain-unique`, `chain-set`; `stuck-unique`, `stuck-false`,
+-- `row-stuck`.
+use mathlib.Core.Path.{_≡_, refl, sym, ap, ap₂, subst, _∙_}
+use mathlib.Core.Bool.{false}
 use mathlib.Core.Logic.{inl, inr, ⊎-elim, _≢_}
 use mathlib.Core.List.{List, [], _∷_}
-use Prim.Native.Nat.{ℕ, zero, suc, _<_, _≤_}
+use Prim.Native.Nat.{ℕ, _<_, _≤_}
 use native.Mathlib.Omega.{arith}
-use borrow.Author.Tests.{eq-eqb, ne-eqb}
-use lib.Dec.{eqb}
-use lib.ListN.{length, getD, set, length-map, List·getD-map}
-use lib.Seq.{getD-set-same, getD-set-other, map-set-same}
-use Rattle.lists.specs.Tables.{zeros}
+use lib.ListN.{length, getD, set}
+use lib.Seq.{getD-set-same, getD-set-other}
 use Rattle.lists.proofs.CaseLaws.{eq-or-ne, lt-or-le}
 use Rattle.netlist.specs.Graph.{Graph}
-use Rattle.netlist.specs.Marks.{listed}
+use Rattle.netlist.specs.Marks.{onlyListed}
 use Rattle.netlist.specs.Order.{ready}
-use Rattle.scheduling.specs.Waiting.{onlyListed, Among, Chain, Stuck}
-use Rattle.netlist.proofs.MarkLaws.{listed-true, listed-false}
+use Rattle.netlist.specs.Rows.{rowAt, operandOf, arityOf, graphOf}
+use Rattle.netlist.specs.declared.row.Row.{Row}
+use Rattle.netlist.proofs.GraphLaws.{row-arity}
+use Rattle.scheduling.specs.Waiting.{Among, Chain, Stuck}
+use Rattle.netlist.proofs.MarkLaws.{only-listed-false}
 use Rattle.netlist.proofs.ReadyLaws.{ready-waiting}
-
--- ---- onlyListed
-
-module _ (m : List ℕ) where
-  pub only-listed-length : length (onlyListed m) ≡ length m
-  unfolding onlyListed
-  only-listed-length = length-map m _
-
-  only-listed-at : (w : ℕ) → getD (onlyListed m) w 0 ≡ cond (eqb (getD m w 0) 1) 1 0
-  unfolding onlyListed
-  only-listed-at w = List·getD-map (λ (x : ℕ). cond (eqb x 1) 1 0) m w 0
-
-  pub only-listed-one : (w : ℕ) → getD m w 0 ≡ 1 → getD (onlyListed m) w 0 ≡ 1
-  only-listed-one w e = only-listed-at w ∙ rw (eq-eqb _ _ e)
-
-  pub only-listed-zero : (w : ℕ) → getD m w 0 ≢ 1 → getD (onlyListed m) w 0 ≡ 0
-  only-listed-zero w ne = only-listed-at w ∙ rw (ne-eqb _ _ ne)
-
-  pub only-listed-true : (w : ℕ) → getD m w 0 ≡ 1 → listed (onlyListed m) w ≡ true
-  only-listed-true w e = let h = only-listed-one w e in listed-true (onlyListed m) w (λ z. absurd (omega arith))
-
-  pub only-listed-false : (w : ℕ) → getD m w 0 ≢ 1 → listed (onlyListed m) w ≡ false
-  only-listed-false w ne = listed-false (onlyListed m) w (only-listed-zero w ne)
-
-  -- a wire that is not listed may remember anything
-  pub only-listed-wait : (d v : ℕ) → getD m d 0 ≢ 1 → v ≢ 1 → onlyListed (set m d v) ≡ onlyListed m
-  unfolding onlyListed
-  only-listed-wait d v old new = map-set-same (λ (x : ℕ). cond (eqb x 1) 1 0) m d v 0 (rw (ne-eqb _ _ old, ne-eqb _ _ new))
-
-pub only-listed-list : (m : List ℕ) (w : ℕ) → onlyListed (set m w 1) ≡ set (onlyListed m) w 1
-unfolding onlyListed
-only-listed-list [] w = refl
-only-listed-list (x ∷ m) zero = refl
-only-listed-list (x ∷ m) (suc w) = ap (λ (t : List ℕ). cond (eqb x 1) 1 0 ∷ t) (only-listed-list m w)
-
-pub only-listed-zeros : (n : ℕ) → onlyListed (zeros n) ≡ zeros n
-unfolding onlyListed
-only-listed-zeros zero = refl
-only-listed-zeros (suc n) = ap (λ (t : List ℕ). 0 ∷ t) (only-listed-zeros n)
 
 -- ---- Chain
 
@@ -115,3 +76,17 @@ module _ (g : Graph) (m : List ℕ) (k : ℕ) where
         (λ other. getD-set-other m w (g .operand k j) 1 0 other ∙ s .before j lj) (eq-or-ne (g .operand k j) w);
     new = λ one. s .new (sym (getD-set-other m w e 1 0 ne) ∙ one);
   }
+
+-- where a row's wire is stuck
+module _ (rows : List ℕ) (w : ℕ) (row : Row) (is : row ≡ rowAt rows w) (count : ℕ) (many : count ≡ arityOf row) where
+  pub row-stuck : (m : List ℕ) (j d : ℕ) → j < count → d ≡ operandOf row j → ((k : ℕ) → k < j → getD m (operandOf row k) 0 ≡ 1) → getD m d 0 ≢ 1
+      → Stuck (graphOf rows) m w d
+  row-stuck m j d l e before new =
+      let q = row-arity rows w row is count many in
+      record {
+        place = j;
+        within = omega arith;
+        here = ap (λ (r : Row). operandOf r j) (sym is) ∙ sym e;
+        before = λ k lk. subst (λ (x : Row). getD m (operandOf x k) 0 ≡ 1) is (before k lk);
+        new = new;
+      }

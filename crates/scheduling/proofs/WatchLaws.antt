@@ -1,6 +1,6 @@
 -- What is kept of who waits (`Watched`) while a wire is looked at, made to wait, or listed.
 -- Main laws: `watched-start`, `watched-drop`, `watched-wait`, `watched-list`; `watched-idle`: who is not due is not ready.
-use mathlib.Core.Path.{_≡_, refl, sym, subst, _∙_}
+use mathlib.Core.Path.{_≡_, sym, subst, _∙_}
 use mathlib.Core.Bool.{Bool, true, false}
 use mathlib.Core.Logic.{_⊎_, inl, inr, ⊎-elim, _≢_}
 use mathlib.Core.List.{List, [], _∷_}
@@ -13,9 +13,11 @@ use Rattle.lists.proofs.CaseLaws.{cases, clash, eq-or-ne}
 use Rattle.lists.proofs.TableLaws.{zeros-length, zeros-at}
 use Rattle.netlist.specs.Graph.{Graph}
 use Rattle.netlist.specs.Order.{ready}
-use Rattle.scheduling.specs.Waiting.{onlyListed, Among, Chain, Stuck, Idle, no-wire, done, waits, Watched}
+use Rattle.netlist.specs.Marks.{onlyListed}
+use Rattle.scheduling.specs.Waiting.{Among, Chain, Stuck, Idle, no-wire, done, waits, Watched}
 use Rattle.netlist.proofs.ReadyLaws.{ready-no-wire, ready-listed}
-use Rattle.scheduling.proofs.WaitingLaws.{only-listed-true, chain-unique, chain-set, stuck-false, stuck-unique, stuck-wait, stuck-list}
+use Rattle.netlist.proofs.MarkLaws.{only-listed-true}
+use Rattle.scheduling.proofs.WaitingLaws.{chain-unique, chain-set, stuck-false, stuck-unique, stuck-wait, stuck-list}
 
 module _ (g : Graph) (n : ℕ) where
   -- at the start every wire is due

@@ -10,7 +10,8 @@ use lib.ListN.{length}
 use Rattle.bitset.specs.Bitset.{Bitset, has}
 use Rattle.netlist.specs.Graph.{Graph}
 use Rattle.netlist.specs.Order.{next}
-use Rattle.scheduling.specs.Waiting.{onlyListed, Among, Chain, Watched}
+use Rattle.netlist.specs.Marks.{onlyListed}
+use Rattle.scheduling.specs.Waiting.{Among, Chain, Watched}
 use Rattle.scheduling.specs.declared.order.Look.{Look}
 
 -- those that were woken, and those from `from` on

@@ -3,17 +3,12 @@
 -- A mark is 1 where the wire is listed; where it is not, k + 2 with k the wire that came last to wait for it, or 0. At a wire that waits,
 -- `links` has in the same way the one that came before it to wait for the same.
 use mathlib.Core.Path.{_≡_}
-use mathlib.Core.Bool.{Bool, false, cond}
+use mathlib.Core.Bool.{Bool, false}
 use mathlib.Core.Logic.{_⊎_, _≢_}
-use mathlib.Core.List.{List, [], _∷_, map}
+use mathlib.Core.List.{List, [], _∷_}
 use Prim.Native.Nat.{ℕ, _+_, _<_}
-use lib.Dec.{eqb}
 use lib.ListN.{length, getD}
 use Rattle.netlist.specs.Graph.{Graph}
-
--- the marks without who waits: 1 where the wire is listed, else 0
-unfoldable pub onlyListed : List ℕ → List ℕ
-onlyListed marks = map (λ (x : ℕ). cond (eqb x 1) 1 0) marks
 
 -- k is one of a list
 abbrev pub Among : ℕ → List ℕ → Type 0

@@ -7,7 +7,7 @@ ghost use lib.ListN.{length, drop};
 ghost use Rattle.netlist.specs.Graph.{Closed};
 ghost use Rattle.netlist.specs.Order.{order, orderMarks};
 ghost use Rattle.netlist.specs.Rows.{rowLength, graphOf};
-ghost use Rattle.scheduling.specs.Waiting.{onlyListed};
+ghost use Rattle.netlist.specs.Marks.{onlyListed};
 ghost use Rattle.scheduling.specs.Due.{Early, Taken, Resting, Found, Asleep, Woken};
 use bitset::NUMBERS;
 use bitset::WORDS;

@@ -25,7 +25,7 @@ use Rattle.config.specs.Blocks.{undecodableTile, decoded}
 use Rattle.equations.specs.Switches.{NoContention}
 use Rattle.equations.specs.Equations.{Depends}
 use Rattle.equations.specs.Routed.{Routed}
-use Rattle.equations.specs.Settling.{blockList, Inputs}
+use Rattle.equations.specs.Settling.{blockList}
 use Rattle.block.specs.declared.Built.{Built}
 use Rattle.block.specs.declared.Built.the-variants.{Listed, Refused}
 use Rattle.block.specs.Building.{listAnswer, bitsAnswer, buildAnswer}

@@ -17,7 +17,7 @@ use Rattle.digits.specs.Digits.{digit}
 use Rattle.digits.proofs.DigitLaws.{digit-past, from-digits-lt, digit-from-digits}
 use Rattle.digits.proofs.LowestLaws.{trailing-digit}
 use Rattle.routing.specs.LogicTile.{logicTile, carryInSet, carryChain}
-use Rattle.routing.specs.Table.{maxPositions, fieldAt, passiveAt, groupCount, widthOf, positionAt}
+use Rattle.routing.specs.Table.{fieldAt, passiveAt, groupCount, widthOf, positionAt}
 use Rattle.routing.specs.Rules.{TableRules}
 use Rattle.codec.specs.Bits.{bitAt}
 use Rattle.codec.specs.Settings.{fieldSetting, groupsFrom, cellsFrom, settingsLength}

@@ -1,5 +1,4 @@
 -- `digits::without_digit` meets its contract, by the laws of a set digit taken away in 8 digits. Assumes nothing.
-use native.Mathlib.Omega.{arith}
 use borrow.Author.Needs.{needs}
 use Rattle.digits.proofs.LowestLaws.{drop-le, drop-is, drop-lt}
 use Rattle.digits.proofs.without_digit.Statement.{statement}

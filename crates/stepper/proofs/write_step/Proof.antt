@@ -9,7 +9,6 @@ use Rattle.netlist.specs.Checking.{wireCount}
 use Rattle.stepper.proofs.SettledLaws.{marks-length, marks-count, settled-bits}
 use Rattle.stepper.specs.Clocking.{nextStates}
 use Rattle.stepper.specs.Settling.{portValues, PortBits}
-use borrow.Author.Needs.{needs}
 use Rattle.stepper.proofs.write_step.Statement.{statement}
 use Rattle.stepper.proofs.write_step.Tie as tie
 

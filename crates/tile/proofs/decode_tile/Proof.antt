@@ -6,7 +6,7 @@ use native.Mathlib.Omega.{arith}
 use borrow.Author.Needs.{needs}
 use lib.ListN.{set}
 use Rattle.lists.proofs.TableLaws.{Filled, filled-start, filled-step}
-use Rattle.routing.specs.Table.{maxGroups, groupCount}
+use Rattle.routing.specs.Table.{groupCount}
 use Rattle.routing.specs.LogicTile.{logicTile}
 use Rattle.codec.specs.Settings.{settingsLength, groupsFrom, cellsFrom}
 use Rattle.codec.specs.Decode.{settingAt}

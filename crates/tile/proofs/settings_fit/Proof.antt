@@ -1,16 +1,15 @@
 -- `settings_fit` meets its contract. Invariant: `fit` says whether the first n settings are within their limits. Measure: the settings left. Assumes
 -- nothing.
-use mathlib.Core.Bool.{true, false}
 use mathlib.Core.Logic.{⊎-elim}
 use mathlib.Core.Path.{_≡_, sym, ap, _∙_}
-use Prim.Native.Nat.{ℕ, _-_, _≤_}
+use Prim.Native.Nat.{_-_, _≤_}
 use native.Mathlib.Omega.{arith}
 use borrow.Author.Tests.{le-leb, lt-leb}
 use borrow.Author.Needs.{needs}
 use Rattle.lists.specs.Search.{all}
 use Rattle.lists.proofs.SomeLaws.{all-more-pass, all-more-fail}
 use Rattle.routing.specs.LogicTile.{logicTile}
-use Rattle.codec.specs.Limits.{bothCarries, withinAt}
+use Rattle.codec.specs.Limits.{withinAt}
 use Rattle.codec.specs.Settings.{settingsLength}
 use Rattle.codec.proofs.LimitLaws.{fit-carry-pair, fit-within}
 use Rattle.tile.proofs.settings_fit.Statement.{statement}

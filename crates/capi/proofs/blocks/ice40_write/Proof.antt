@@ -1,12 +1,11 @@
 -- `ice40_write` meets its contract: the answer of `write`, packed, and its bits. Assumes nothing.
 use Rattle.capi.specs.Packed.{packed}
-use Rattle.config.specs.Blocks.{decoded, encoded}
+use Rattle.config.specs.Blocks.{encoded}
 use Rattle.fabric.specs.Block.{block, tiles}
 use Rattle.refusal.specs.Memory.{output}
 use Rattle.refusal.specs.Grounds.{answerNumber, answerValue}
 use Rattle.refusal.specs.declared.Answer.{Answer}
 use Prim.Native.Nat.{ℕ}
-use mathlib.Core.List.{List}
 use mathlib.Core.Path.{sym, ap, _∙_}
 use borrow.Author.Needs.{needs}
 use Rattle.capi.proofs.blocks.ice40_write.Statement.{statement}

@@ -5,7 +5,6 @@ use Rattle.config.specs.Blocks.{decoded}
 use Rattle.fabric.specs.Block.{block, tiles}
 use Rattle.refusal.specs.Memory.{output, workRoom}
 use Prim.Native.Nat.{ℕ}
-use mathlib.Core.List.{List}
 use mathlib.Core.Path.{sym, ap, _∙_}
 use borrow.Author.Needs.{needs}
 use Rattle.capi.proofs.circuits.ice40_build.Statement.{statement}

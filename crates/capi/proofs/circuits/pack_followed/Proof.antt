@@ -1,7 +1,6 @@
 -- `pack_followed` meets its contract: both cases of the answer. Assumes nothing.
 use Rattle.capi.specs.Packed.{packed, packedFollowed}
 use Rattle.block.specs.Drivers.{followedNumber}
-use Prim.Native.Nat.{ℕ}
 use mathlib.Core.Path.{sym, ap, _∙_}
 use borrow.Author.Needs.{needs}
 use Rattle.capi.proofs.circuits.pack_followed.Statement.{statement}

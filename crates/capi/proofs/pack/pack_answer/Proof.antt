@@ -2,7 +2,7 @@
 use Rattle.capi.specs.Packed.{packed}
 use Rattle.refusal.specs.Grounds.{answerNumber, answerValue}
 use Rattle.refusal.specs.declared.Answer.{Answer}
-use mathlib.Core.Path.{sym, ap, ap₂, _∙_}
+use mathlib.Core.Path.{sym, ap, _∙_}
 use borrow.Author.Needs.{needs}
 use Rattle.capi.proofs.pack.pack_answer.Statement.{statement}
 use Rattle.capi.proofs.pack.pack_answer.Tie as tie

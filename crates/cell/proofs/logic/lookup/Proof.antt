@@ -3,7 +3,7 @@ use Rattle.cell.specs.declared.logic.Looked.the-variants.{Bit}
 use Rattle.cell.specs.Lookup.{lookedUp}
 use borrow.Author.Tests.{lt-ltb, le-ltb}
 use native.Mathlib.Omega.{arith}
-use mathlib.Core.Path.{ap, _∙_}
+use mathlib.Core.Path.{ap}
 use borrow.Author.Needs.{needs}
 use Rattle.cell.proofs.logic.lookup.Statement.{statement}
 use Rattle.cell.proofs.logic.lookup.Tie as tie

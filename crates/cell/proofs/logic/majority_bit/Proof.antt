@@ -1,7 +1,6 @@
 -- `majority_bit` meets its contract, by its test. Assumes nothing.
 use Rattle.cell.specs.Lookup.{majority}
 use borrow.Author.Tests.{le-leb, lt-leb}
-use native.Mathlib.Omega.{arith}
 use borrow.Author.Needs.{needs}
 use Rattle.cell.proofs.logic.majority_bit.Statement.{statement}
 use Rattle.cell.proofs.logic.majority_bit.Tie as tie

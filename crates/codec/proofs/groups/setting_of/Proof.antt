@@ -2,7 +2,6 @@
 use mathlib.Core.Path.{subst}
 use Prim.Native.Nat.{ℕ, _<_, _≤_}
 use native.Mathlib.Omega.{arith}
-use borrow.Author.Needs.{needs}
 use Rattle.routing.specs.LogicTile.{logicTile}
 use Rattle.codec.proofs.GroupLaws.{setting-off, setting-entry, setting-unlisted}
 use Rattle.codec.proofs.groups.setting_of.Statement.{statement}

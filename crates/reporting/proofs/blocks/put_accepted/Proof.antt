@@ -1,11 +1,10 @@
 -- `blocks::put_accepted` meets its contract: the settings that were read are routed, and their sources are the map. Assumes nothing.
-use Rattle.reporting.proofs.TextLaws.{Puts}
+use Rattle.lines.proofs.TextLaws.{Puts}
 use Rattle.reporting.specs.Report.{linesOf, acceptedLines}
 use Rattle.block.proofs.RoutedLaws.{routed-of-read}
 use Rattle.equations.specs.Sources.{sourcesOf}
 use Rattle.equations.specs.Routed.{Routed}
 use Rattle.fabric.specs.Block.{tiles}
-use lib.ListN.{length}
 use mathlib.Core.Path.{sym, subst}
 use borrow.Author.Needs.{needs}
 use Rattle.reporting.proofs.blocks.put_accepted.Statement.{statement}

@@ -1,9 +1,9 @@
 -- `blocks::put_lines` meets its contract: three parts, one behind the other, and all of them fit. Assumes nothing.
 use mathlib.Core.List.{_++_}
-use Rattle.reporting.proofs.LineLaws.{switch-long, cell-long}
-use Rattle.reporting.proofs.TextLaws.{Puts, puts-line, puts-three, joined-long}
-use Rattle.reporting.specs.Report.{switchPart, switchLines, cellPart, cellLines}
-use Rattle.reporting.specs.Lines.{answerLine}
+use Rattle.lines.proofs.LineLaws.{switch-long, cell-long}
+use Rattle.lines.proofs.TextLaws.{Puts, puts-line, puts-three, joined-long}
+use Rattle.lines.specs.Listing.{switchPart, switchLines, cellPart, cellLines}
+use Rattle.lines.specs.Lines.{answerLine}
 use lib.ListN.{length}
 use native.Mathlib.Omega.{arith}
 use mathlib.Core.Path.{_≡_, ap, subst}

@@ -1,6 +1,6 @@
 -- `blocks::put_refusal` meets its contract: the one line. Assumes nothing.
-use Rattle.reporting.proofs.TextLaws.{puts-line}
-use Rattle.reporting.specs.Lines.{answerLine}
+use Rattle.lines.proofs.TextLaws.{puts-line}
+use Rattle.lines.specs.Lines.{answerLine}
 use mathlib.Core.Path.{_∙_, ap₂}
 use borrow.Author.Needs.{needs}
 use Rattle.reporting.proofs.blocks.put_refusal.Statement.{statement}

@@ -8,7 +8,7 @@ use Rattle.netlist.specs.Rows.{graphOf}
 use lib.ListN.{length}
 use native.Mathlib.Omega.{arith}
 use mathlib.Core.List.{List}
-use mathlib.Core.Path.{_≡_, sym, subst, _∙_}
+use mathlib.Core.Path.{_≡_, sym, subst}
 use Prim.Native.Nat.{ℕ, _<_, _-_}
 use Rattle.scheduling.proofs.order.list_wires.Statement.{statement}
 use Rattle.scheduling.proofs.order.list_wires.Tie as tie

@@ -8,15 +8,16 @@ use Rattle.scheduling.specs.declared.order.Look.{Look}
 use Rattle.scheduling.proofs.DueLaws.{due-less}
 use Rattle.scheduling.proofs.Searching.{Searching, searching-take, searching-idle, searching-wait, searching-hit, searching-end}
 use Rattle.netlist.proofs.ValueLaws.{arity-le}
-use Rattle.scheduling.proofs.GraphLaws.{row-wire-true, row-wire-false, row-arity, row-reads, row-stuck}
+use Rattle.scheduling.proofs.WaitingLaws.{row-stuck}
+use Rattle.netlist.proofs.GraphLaws.{row-wire-true, row-wire-false, row-arity, row-reads}
 use Rattle.lists.specs.Search.{count}
 use borrow.Author.Count.{below-more}
 use lib.ListN.{length, getD}
 use native.Mathlib.Omega.{arith}
 use mathlib.Core.Logic.{⊎-elim}
 use mathlib.Core.List.{List}
-use mathlib.Core.Path.{_≡_, refl, sym, ap, subst, _∙_}
-use Prim.Native.Nat.{ℕ, _+_, _≤_, _<_, _-_}
+use mathlib.Core.Path.{_≡_, refl, ap, _∙_}
+use Prim.Native.Nat.{ℕ, _≤_, _<_, _-_}
 use Rattle.scheduling.proofs.order.next_ready.Statement.{statement}
 use Rattle.scheduling.proofs.order.next_ready.Tie as tie
 

@@ -5,7 +5,6 @@ use Rattle.bitset.specs.Bitset.{has, numbers}
 use Rattle.lists.specs.Search.{count}
 use native.Mathlib.Omega.{arith}
 use mathlib.Core.Bool.{not}
-use mathlib.Core.Path.{sym, subst}
 use Prim.Native.Nat.{ℕ}
 use Rattle.scheduling.proofs.order.wake.Statement.{statement}
 use Rattle.scheduling.proofs.order.wake.Tie as tie

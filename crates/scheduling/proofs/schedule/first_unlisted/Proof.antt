@@ -1,10 +1,9 @@
 -- `schedule::first_unlisted` meets its contract. Invariant: the search from w on is the whole search. Measure: the indices left. Assumes nothing.
 use borrow.Author.Needs.{needs}
-use Rattle.scheduling.proofs.GraphLaws.{row-wire-true, row-wire-false}
-use Rattle.scheduling.proofs.WaitingLaws.{only-listed-true, only-listed-false}
+use Rattle.netlist.proofs.GraphLaws.{row-wire-true, row-wire-false}
+use Rattle.netlist.proofs.MarkLaws.{only-listed-true, only-listed-false}
 use Rattle.netlist.specs.Rows.{graphOf}
-use Rattle.netlist.specs.Marks.{listed}
-use Rattle.scheduling.specs.Waiting.{onlyListed}
+use Rattle.netlist.specs.Marks.{listed, onlyListed}
 use Rattle.lists.proofs.SearchLaws.{first-turn-hit, first-turn-skip, first-turn-end}
 use Rattle.lists.proofs.CaseLaws.{and-true, and-false-left, and-false-right}
 use Rattle.lists.specs.Search.{first}

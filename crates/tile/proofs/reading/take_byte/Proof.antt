@@ -1,6 +1,6 @@
 -- `take_byte` meets its contract. Invariant: the settings know all that they knew, and the set digits that are no longer left are taken
 -- (`Passed`). Measure: what is left. Assumes nothing.
-use mathlib.Core.Path.{_≡_, refl, sym, _∙_}
+use mathlib.Core.Path.{refl, _∙_}
 use Prim.Native.Nat.{ℕ, _+_, _*_, _<_}
 use native.Mathlib.Omega.{arith}
 use borrow.Author.Tests.{not-false}

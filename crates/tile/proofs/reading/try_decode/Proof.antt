@@ -1,6 +1,6 @@
 -- `try_decode` meets its contract. Invariant: what is known is right, and the set bits of the first i bytes are taken. Measure: the bytes left.
 -- Assumes nothing.
-use mathlib.Core.Path.{_≡_, refl, sym, ap, _∙_}
+use mathlib.Core.Path.{refl, sym, ap, _∙_}
 use Prim.Native.Nat.{ℕ, _-_, _<_, _≤_}
 use native.Mathlib.Omega.{arith}
 use borrow.Author.Tests.{not-true, not-false}

@@ -1,7 +1,6 @@
 -- `FlipFlop::synchronous` meets its contract: each return is one way of `nextSync`. Assumes nothing.
-use Rattle.cell.specs.NextState.{nextSync}
 use Rattle.cell.proofs.NextStateLaws.{next-sync-still, next-sync-disabled, next-sync-reset, next-sync-lookup}
-use mathlib.Core.Path.{sym, _∙_, ap}
+use mathlib.Core.Path.{sym}
 use Rattle.cell.proofs.flip_flop.FlipFlop.synchronous.Statement.{statement}
 use Rattle.cell.proofs.flip_flop.FlipFlop.synchronous.Tie as tie
 

@@ -1,6 +1,4 @@
 -- `Cell::flags` meets its contract: the weights of the flags, which fit. Assumes nothing.
-use mathlib.Core.Path.{ap, _∙_}
-use native.Mathlib.Omega.{arith}
 use borrow.Author.Needs.{needs}
 use Rattle.cell.proofs.logic.Cell.flags.Statement.{statement}
 use Rattle.cell.proofs.logic.Cell.flags.Tie as tie

@@ -1,0 +1,57 @@
+-- `text::copy` meets its contract. Invariant: the first i bytes are the line's. Measure: the bytes left. Assumes nothing.
+use Prim.Native.Nat.{_-_}
+use mathlib.Core.Path.{refl, sym, _∙_}
+use native.Mathlib.Omega.{arith}
+use borrow.Author.Needs.{needs}
+use lib.ListN.{length, getD}
+use Rattle.lists.proofs.TableLaws.{Filled, filled-start, filled-step, filled-end, tabulate-is}
+use Rattle.lines.proofs.text.copy.Statement.{statement}
+use Rattle.lines.proofs.text.copy.Tie as tie
+
+abbrev Inv-loop : tie.InvT-loop
+Inv-loop line part₀ i₀ part i = Filled (λ k. getD line k 0) 0 (length part₀) i part
+
+abbrev μ-loop : tie.MeasureT-loop
+μ-loop line part₀ i₀ part i = length part₀ - i
+
+loop-holds : tie.Need-loop-holds Inv-loop μ-loop
+loop-holds c = filled-start _ _ _ _ refl
+
+shared-slice-read-part : tie.Need-shared-slice-read-part Inv-loop μ-loop
+shared-slice-read-part c = search needs
+
+slice-write-part : tie.Need-slice-write-part Inv-loop μ-loop
+slice-write-part c = search needs
+
+add-i : tie.Need-add-i Inv-loop μ-loop
+add-i c = search needs
+
+loop-less : tie.Need-loop-less Inv-loop μ-loop
+loop-less c = search needs
+
+loop-again : tie.Need-loop-again Inv-loop μ-loop
+loop-again c = filled-step _ _ _ _ _ _ (c .before .before .loop .inv) (omega arith) refl
+
+same-length : tie.Need-same-length Inv-loop μ-loop
+same-length c = c .before .loop .inv .long
+
+returns : tie.Need-returns Inv-loop μ-loop
+returns c =
+    let at-loop = c .before in
+    let at-start = at-loop .before in
+    filled-end _ _ _ _ _ (at-loop .loop .inv) (omega arith) ∙ sym (tabulate-is _ 0 _ _ (at-start .pre) (λ k l. refl))
+
+pub copy-spec : {M : Type 1} → statement M
+copy-spec =
+    tie.close
+    (tie.spec
+    Inv-loop
+    μ-loop
+    loop-holds
+    shared-slice-read-part
+    slice-write-part
+    add-i
+    loop-less
+    loop-again
+    same-length
+    returns)

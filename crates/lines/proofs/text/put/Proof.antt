@@ -1,0 +1,35 @@
+-- `text::put` meets its contract: the part that was lent comes back as the line. Assumes nothing.
+use mathlib.Core.Path.{refl}
+use lib.ListN.{length}
+use Rattle.lines.proofs.TextLaws.{put-is}
+use borrow.Author.Needs.{needs}
+use Rattle.lines.proofs.text.put.Statement.{statement}
+use Rattle.lines.proofs.text.put.Tie as tie
+
+add-end : tie.Need-add-end
+add-end c = search needs
+
+sub-copy : tie.Need-sub-copy
+sub-copy c = search needs
+
+part-copy-start : tie.Need-part-copy-start
+part-copy-start c = search needs
+
+part-copy-end : tie.Need-part-copy-end
+part-copy-end c = search needs
+
+copy-requires : tie.Need-copy-requires
+copy-requires c κs = search needs
+
+same-length : tie.Need-same-length
+same-length c = search needs
+
+returns : tie.Need-returns
+returns c =
+    let args = c .before .before .before .before .before .before .args in
+    (refl, put-is (args .at) (length (args .line .now)) (args .line .now) _ (args .out .now) (c .before .before .copy .ensures) refl)
+
+pub put-spec : {M : Type 1} → statement M
+put-spec =
+    tie.close
+    (tie.spec add-end sub-copy part-copy-start part-copy-end copy-requires same-length returns)

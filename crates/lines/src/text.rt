@@ -1,0 +1,98 @@
+// The lines of a report, by value, and putting one behind those that are written.
+ghost use mathlib.Core.Path.{_≡_};
+ghost use Prim.Native.Nat.{_+_, _≤_, min};
+ghost use lib.ListN.{length};
+ghost use Rattle.lines.specs.Lines.{switchLine, cellLine, answerLine, placed};
+use frames::hex::digit;
+
+// A line 06.
+pub fn switch_line(wire: u16, source: u16) -> [u8; 11]
+    ensures { λ r. ⌜ r ≡ switchLine wire source ⌝ }
+{
+    [
+        b'0',
+        b'6',
+        digit(wire / 256 / 16),
+        digit(wire / 256),
+        digit(wire / 16),
+        digit(wire),
+        digit(source / 256 / 16),
+        digit(source / 256),
+        digit(source / 16),
+        digit(source),
+        b'\n',
+    ]
+}
+
+// A line 07.
+pub fn cell_line(tile: u16, cell: u16, table: u16, flags: u16) -> [u8; 13]
+    ensures { λ r. ⌜ r ≡ cellLine tile cell table flags ⌝ }
+{
+    [
+        b'0',
+        b'7',
+        digit(tile / 16),
+        digit(tile),
+        digit(cell / 16),
+        digit(cell),
+        digit(table / 256 / 16),
+        digit(table / 256),
+        digit(table / 16),
+        digit(table),
+        digit(flags / 16),
+        digit(flags),
+        b'\n',
+    ]
+}
+
+// A place as four digits can say it.
+fn place_number(place: u32) -> u16
+    ensures { λ r. ⌜ r ≡ min place 65535 ⌝ }
+{
+    if place < 65535 {
+        return place as u16;
+    }
+    65535
+}
+
+// A line 08.
+pub fn answer_line(number: u8, place: u32) -> [u8; 9]
+    ensures { λ r. ⌜ r ≡ answerLine number place ⌝ }
+{
+    let n = number as u16;
+    let p = place_number(place);
+    [
+        b'0',
+        b'8',
+        digit(n / 16),
+        digit(n),
+        digit(p / 256 / 16),
+        digit(p / 256),
+        digit(p / 16),
+        digit(p),
+        b'\n',
+    ]
+}
+
+// The same bytes in a slice of the same length.
+fn copy(line: &[u8], part: &mut [u8])
+    requires { ⌜ length (now line) ≡ length (now part) ⌝ }
+    ensures { λ r. ⌜ now (part .exit) ≡ now (line .entry) ⌝ }
+{
+    let mut i = 0;
+    while i < part.len() {
+        part[i] = line[i];
+        i += 1;
+    }
+}
+
+// Puts a line at a position, and says where the next one goes.
+pub fn put(out: &mut [u8], at: usize, line: &[u8]) -> usize
+    requires { ⌜ at + length (now line) ≤ length (now out) ⌝ }
+    ensures next { λ r. ⌜ r ≡ at + length (now (line .entry)) ⌝ }
+    ensures out { λ r. ⌜ now (out .exit) ≡ placed at (now (line .entry)) (now (out .entry)) ⌝ }
+{
+    let end = at + line.len();
+    copy(line, &mut out[at..end]);
+    end
+}

@@ -4,20 +4,18 @@ use mathlib.Core.Path.{_≡_, refl, sym, subst}
 use mathlib.Core.Logic.{_↔_, inl, inr}
 use mathlib.Core.Bool.{true}
 use mathlib.Core.List.{List}
-use native.Mathlib.Omega.{arith}
-use borrow.Author.Tests.{leb-true, leb-false, ltb-true, ltb-false, not-false}
+use borrow.Author.Tests.{leb-true, leb-false, ltb-true, ltb-false}
 use lib.Dec.{ltb}
 use lib.ListN.{length}
 use Rattle.lists.proofs.CaseLaws.{clash}
-use Rattle.lists.proofs.SearchLaws.{first-before}
 use Rattle.fabric.specs.Block.{block, tiles, ports, portsPerTile, sized}
 use Rattle.fabric.proofs.BlockLaws.{sized-true, sized-exact, port-of-lt}
 use Rattle.fabric.proofs.WireLaws.{wire-within, wire-idempotent}
 use Rattle.routing.specs.LogicTile.{logicTile}
 use Rattle.routing.specs.TableCheck.{tableOk}
-use Rattle.routing.proofs.TableCheckLaws.{table-exact}
-use Rattle.config.specs.Blocks.{bitlessAt, bitlessTile}
-use Rattle.config.proofs.BlocksLaws.{bitless-lowest, fit-bits}
+use Rattle.routing.proofs.TableCheckLaws.{table-exact, table-broken}
+use Rattle.config.specs.Blocks.{bitlessTile}
+use Rattle.config.proofs.BlocksLaws.{bitless-lowest, none-bitless}
 use Rattle.equations.specs.Equations.{wire}
 use Rattle.equations.specs.Routed.{Routed}
 use Rattle.equations.specs.Sources.{contendedWire}
@@ -29,7 +27,6 @@ use Rattle.block.specs.Building.{none}
 use Rattle.block.specs.Drivers.{portAnswer, settingsAnswer, followAnswer}
 use Rattle.block.specs.DriverMeaning.{Writable, FollowSays}
 use Rattle.refusal.proofs.GroundsLaws.{unless-cases}
-use Rattle.block.proofs.CheckLaws.{table-broken}
 use Rattle.block.proofs.LengthLaws.{follow-long-exact}
 use Rattle.block.proofs.RoutedLaws.{routed-of-fit}
 use Rattle.block.proofs.MeaningLaws.{free-of}
@@ -61,14 +58,14 @@ module _ (w h : ℕ) (t st : List ℕ) (tile port wires sources marks : ℕ) whe
       ))))
 
   follow-means : Says (followAnswer w h t st tile port (followLengths (tiles (block w h)) (length t) (length st) wires sources marks))
-  unfolding followAnswer settingsAnswer bitlessAt
+  unfolding followAnswer settingsAnswer
   follow-means =
       unless-cases Says (sized (block w h)) _ _ (λ e S. clash (sized-true (block w h) S) e)
       (λ s. let size = sized-exact (block w h) .0 s in
       unless-cases Says (followLengths (tiles (block w h)) (length t) (length st) wires sources marks) _ _
       (λ e. (size, λ L. clash (long .1 L) e))
       (λ l. let L = long .0 l in
-      unless-cases Says (tableOk logicTile t) _ _ (λ e. (size, L, table-broken t e))
+      unless-cases Says (tableOk logicTile t) _ _ (λ e. (size, L, table-broken logicTile t e))
       (λ p. let rules = table-exact logicTile t (L .table-long) .0 p in
       unless-cases Says (none (tiles (block w h)) (bitlessTile t st (tiles (block w h)))) _ _
       (λ e. (size, L, rules, bitless-lowest t st (tiles (block w h)) rules (L .settings-long) (leb-false _ _ e)))
@@ -78,8 +75,7 @@ module _ (w h : ℕ) (t st : List ℕ) (tile port wires sources marks : ℕ) whe
         size = size;
         lengths = L;
         rules = rules;
-        has-bits = λ T z. fit-bits t st (tiles (block w h)) rules (L .settings-long) T z
-            (not-false _ (first-before (bitlessAt t st) 0 (tiles (block w h)) T (omega arith) (omega arith)));
+        has-bits = none-bitless t st (tiles (block w h)) rules (L .settings-long) pass;
       })
       (routed-of-fit (block w h) t st size rules (L .settings-long) pass)))))
     where

@@ -1,5 +1,4 @@
 -- The laws of `block` that its callers cite.
-pub mod CheckLaws  -- table-broken: ground 3 where it fails
 pub mod LengthLaws  -- build-long-exact, follow-long-exact: the tests of the lengths are the facts
 pub mod RoutedLaws  -- routed-of-fit, routed-of-read: what table and settings that pass their checks show (`Routed`)
 pub mod ScheduleLaws  -- scheduled-loop, listed-rows: what the schedule of a block's rows shows, and the list written from it

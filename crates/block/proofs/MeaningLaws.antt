@@ -18,7 +18,7 @@ use Rattle.loops.specs.Loops.{loopWire}
 use Rattle.loops.proofs.LoopWireLaws.{loop-wire-lowest}
 use Rattle.routing.specs.LogicTile.{logicTile}
 use Rattle.routing.specs.TableCheck.{tableOk}
-use Rattle.routing.proofs.TableCheckLaws.{table-exact}
+use Rattle.routing.proofs.TableCheckLaws.{table-exact, table-broken}
 use Rattle.config.specs.Blocks.{undecodableAt, undecodableTile, decoded}
 use Rattle.config.proofs.BlocksLaws.{undecodable-lowest, decoded-reads}
 use Rattle.equations.specs.Switches.{switches, NoContention}
@@ -39,7 +39,6 @@ use Rattle.block.specs.Lengths.{buildLengths, BuildLong}
 use Rattle.block.specs.Building.{none, listAnswer, bitsAnswer, buildAnswer}
 use Rattle.block.specs.Meaning.{NoDisabledCarry, NoCellClock, ListSays, Readable, BuildSays}
 use Rattle.refusal.proofs.GroundsLaws.{unless-cases}
-use Rattle.block.proofs.CheckLaws.{table-broken}
 use Rattle.block.proofs.LengthLaws.{build-long-exact}
 use Rattle.block.proofs.RoutedLaws.{routed-of-read}
 
@@ -127,7 +126,7 @@ module _ (w h : ℕ) (t bits : List ℕ) (list settings wires sources rows marks
       unless-cases Says (buildLengths (tiles (block w h)) (length t) (length bits) list settings wires sources rows marks queue) _ _
       (λ e. (size, λ L. clash (long .1 L) e))
       (λ l. let L = long .0 l in
-      unless-cases Says (tableOk logicTile t) _ _ (λ e. (size, L, table-broken t e))
+      unless-cases Says (tableOk logicTile t) _ _ (λ e. (size, L, table-broken logicTile t e))
       (λ p. let rules = table-exact logicTile t (L .table-long) .0 p in
       unless-cases Says (none (tiles (block w h)) (undecodableTile t bits (tiles (block w h)))) _ _
       (λ e. (size, L, rules, undecodable-lowest t bits (tiles (block w h)) rules (leb-false _ _ e)))

@@ -1,5 +1,5 @@
 -- The tiles of a block that was decoded or encoded, and what the tests of a tile say of it. Main laws: `decoded-at`, `decoded-reads`,
--- `undecodable-lowest`; `encoded-at`, `encoded-reads`, `bitless-lowest`. Assumes nothing.
+-- `undecodable-lowest`; `encoded-at`, `encoded-reads`, `bitless-lowest`, `none-bitless`. Assumes nothing.
 use mathlib.Core.Path.{_≡_, sym, subst}
 use mathlib.Core.Bool.{true, false}
 use mathlib.Core.List.{List}
@@ -117,6 +117,10 @@ module _ (table settings : List ℕ) (n : ℕ) where
           (not-true _ (first-true (bitlessAt table settings) 0 n (omega arith)));
       lower = λ s l. fit-bits s (omega arith) (not-false _ (first-before (bitlessAt table settings) 0 n s (omega arith) l));
     }
+
+    pub none-bitless : n ≤ bitlessTile table settings n → (t : ℕ) → t < n → HasBits table (settingsAt settings t)
+    unfolding bitlessAt
+    none-bitless pass t h = fit-bits t h (not-false _ (first-before (bitlessAt table settings) 0 n t (omega arith) (omega arith)))
 
     -- what is encoded reads to the settings
     pub encoded-reads : ((t : ℕ) → t < n → settingsFit table (settingsAt settings t) ≡ true) → TilesRead table (encoded table settings n) settings n

@@ -6,9 +6,8 @@ use mathlib.Core.Bool.{true, false}
 use mathlib.Core.List.{List}
 use Prim.Native.Nat.{ℕ, _*_, _<_, _≤_}
 use borrow.Author.Tests.{eq-eqb, ne-eqb, le-leb, lt-leb, eqb-true}
-use lib.Dec.{eqb}
 use lib.ListN.{length}
-use Rattle.lists.proofs.CaseLaws.{and-left, and-right, and-true}
+use Rattle.lists.proofs.CaseLaws.{equal-and, and-equal}
 use Rattle.refusal.specs.declared.Refusal.the-variants.{Size, Length, Table, Undecodable, NoSuchSettings}
 use Rattle.refusal.specs.declared.Answer.the-variants.{Done, Refused}
 use Rattle.fabric.specs.Block.{Sized, block, tiles, sized}
@@ -27,20 +26,17 @@ use Rattle.config.specs.Facts.{ExactLengths, Checked}
 module _ (n table bits settings : ℕ) where
   pub lengths-true : ExactLengths n table bits settings → lengthsOk n table bits settings ≡ true
   lengths-true l =
-      and-true (eq-eqb table (tableLength logicTile) (l .table-long))
-      (and-true (eq-eqb bits (tileBytes * n) (l .bits-long)) (eq-eqb settings (settingsLength logicTile * n) (l .settings-long)))
+      and-equal table (tableLength logicTile) (l .table-long)
+      (and-equal bits (tileBytes * n) (l .bits-long) (eq-eqb settings (settingsLength logicTile * n) (l .settings-long)))
 
   pub lengths-exact : (lengthsOk n table bits settings ≡ true) ↔ ExactLengths n table bits settings
   lengths-exact = (facts, lengths-true)
     where
       facts : lengthsOk n table bits settings ≡ true → ExactLengths n table bits settings
       facts e =
-          let rest = and-right (eqb table (tableLength logicTile)) _ e in
-          record {
-            table-long = eqb-true _ _ (and-left (eqb table (tableLength logicTile)) _ e);
-            bits-long = eqb-true _ _ (and-left (eqb bits (tileBytes * n)) _ rest);
-            settings-long = eqb-true _ _ (and-right (eqb bits (tileBytes * n)) _ rest);
-          }
+          let a = equal-and table (tableLength logicTile) _ e in
+          let b = equal-and bits (tileBytes * n) _ (a .1) in
+          record { table-long = a .0; bits-long = b .0; settings-long = eqb-true settings (settingsLength logicTile * n) (b .1) }
 
 -- a table that keeps the rules passes the check, in the check's terms
 table-true : (w h : ℕ) (table : List ℕ) (bits settings : ℕ) → Checked w h table bits settings → tableOk logicTile table ≡ true

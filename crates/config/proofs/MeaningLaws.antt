@@ -1,15 +1,14 @@
 -- Every answer of `read` and `write` says what specs/Meaning.antt has it say. Main laws: `read-means`, `write-means`. Assumes nothing.
 use mathlib.Core.Path.{_≡_, refl, sym, subst}
-use mathlib.Core.Logic.{⊎-elim}
 use mathlib.Core.Bool.{true, false}
 use mathlib.Core.List.{List}
-use Prim.Native.Nat.{ℕ, _<_, _≤_}
+use Prim.Native.Nat.{ℕ}
 use native.Mathlib.Omega.{arith}
-use borrow.Author.Tests.{leb-true, leb-false, eqb-false, not-false}
+use borrow.Author.Tests.{leb-true, leb-false, not-false}
 use lib.Dec.{leb}
 use lib.ListN.{length}
-use Rattle.lists.proofs.CaseLaws.{clash, lt-or-le}
-use Rattle.lists.proofs.SearchLaws.{first-le, first-before}
+use Rattle.lists.proofs.CaseLaws.{clash}
+use Rattle.lists.proofs.SearchLaws.{first-before}
 use Rattle.refusal.specs.Grounds.{answerNumber}
 use Rattle.refusal.specs.Memory.{output}
 use Rattle.refusal.specs.declared.Refusal.the-variants.{Undecodable, NoSuchSettings}
@@ -17,8 +16,8 @@ use Rattle.refusal.specs.declared.Answer.{Answer}
 use Rattle.fabric.specs.Block.{block, tiles, sized}
 use Rattle.fabric.proofs.BlockLaws.{sized-exact, sized-true}
 use Rattle.routing.specs.LogicTile.{logicTile}
-use Rattle.routing.specs.TableCheck.{breaks, faultyPart, partCount, tableOk}
-use Rattle.routing.proofs.TableCheckLaws.{faulty-part-exact}
+use Rattle.routing.specs.TableCheck.{faultyPart, tableOk}
+use Rattle.routing.proofs.TableCheckLaws.{table-broken}
 use Rattle.config.specs.Blocks.{undecodableAt, undecodableTile, decoded, bitlessAt, bitlessTile, encoded}
 use Rattle.config.specs.Entry.{lengthsOk, readAnswer, writeAnswer}
 use Rattle.config.specs.Facts.{NoSize, NoLength, NoTable}
@@ -38,15 +37,7 @@ module _ (w h : ℕ) (table : List ℕ) (bits settings : ℕ) where
 
   no-table : sized (block w h) ≡ true → lengthsOk (tiles (block w h)) (length table) bits settings ≡ true → tableOk logicTile table ≡ false
       → NoTable w h table bits settings (faultyPart logicTile table)
-  no-table s l t =
-      (sized-exact (block w h) .0 s, lengths-exact (tiles (block w h)) (length table) bits settings .0 l, faulty-part-exact logicTile table (faultyPart logicTile table) .0 (refl, less))
-    where
-      less : faultyPart logicTile table < partCount logicTile table
-      less =
-          ⊎-elim (λ (a : faultyPart logicTile table < partCount logicTile table). a)
-          (λ (a : partCount logicTile table ≤ faultyPart logicTile table).
-          absurd (eqb-false (faultyPart logicTile table) (partCount logicTile table) t (omega (arith, first-le (breaks logicTile table) 0 (partCount logicTile table)))))
-          (lt-or-le (faultyPart logicTile table) (partCount logicTile table))
+  no-table s l t = (sized-exact (block w h) .0 s, lengths-exact (tiles (block w h)) (length table) bits settings .0 l, table-broken logicTile table t)
 
 -- ---- reading
 

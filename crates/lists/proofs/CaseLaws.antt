@@ -6,6 +6,8 @@ use Prim.Native.Nat.{ℕ, zero, suc, _<_, _≤_}
 use native.Mathlib.Nat.{eq-or-lt-of-le, le-of-suc-le-suc}
 use native.Mathlib.Omega.{arith}
 use native.Mathlib.Decide.{decLt, ℕ-discrete}
+use borrow.Author.Tests.{eqb-true, eq-eqb}
+use lib.Dec.{eqb}
 
 pub cases : (b : Bool) → (b ≡ true) ⊎ (b ≡ false)
 cases true = inl refl
@@ -37,6 +39,13 @@ and-right false b e = clash refl (sym e)
 
 pub and-true : {a b : Bool} → a ≡ true → b ≡ true → a && b ≡ true
 and-true p q = rw (p, q)
+
+-- two numbers are equal, and the rest holds
+pub equal-and : (x n : ℕ) (rest : Bool) → eqb x n && rest ≡ true → (x ≡ n) × (rest ≡ true)
+equal-and x n rest e = (eqb-true x n (and-left (eqb x n) rest e), and-right (eqb x n) rest e)
+
+pub and-equal : (x n : ℕ) {rest : Bool} → x ≡ n → rest ≡ true → eqb x n && rest ≡ true
+and-equal x n e r = and-true (eq-eqb x n e) r
 
 pub and-false-left : (a b : Bool) → a ≡ false → a && b ≡ false
 and-false-left a b p = rw p

@@ -1,17 +1,17 @@
 -- The computed check of a table and the paper's rules, part by part and as a whole. Main laws: `part-exact`, `table-exact`;
--- `faulty-part-exact`: the place of ground 3 is the first part that breaks a rule; `faulty-part-over`: 514. Assumes nothing.
+-- `faulty-part-exact`: the place of ground 3 is the first part that breaks a rule; `faulty-part-over`: 514; `table-broken`. Assumes nothing.
 use mathlib.Core.Path.{_≡_, refl, sym, ap, _∙_, subst}
 use mathlib.Core.Logic.{_↔_, ⊎-elim}
 use mathlib.Core.Bool.{true, false}
 use mathlib.Core.List.{List}
 use Prim.Native.Nat.{ℕ, zero, suc, _+_, _-_, _<_, _≤_}
 use native.Mathlib.Omega.{arith}
-use borrow.Author.Tests.{eq-eqb, ne-eqb, lt-ltb, le-ltb, le-leb, leb-true, eqb-true, not-true, not-false}
+use borrow.Author.Tests.{eq-eqb, ne-eqb, lt-ltb, le-ltb, le-leb, leb-true, eqb-true, eqb-false, not-true, not-false}
 use lib.Dec.{leb}
 use lib.ListN.{length}
 use Rattle.lists.specs.Search.{all}
 use Rattle.lists.proofs.CaseLaws.{cases, clash, and-left, and-right, and-true, lt-or-le}
-use Rattle.lists.proofs.SearchLaws.{first-at, first-none, first-true, first-before}
+use Rattle.lists.proofs.SearchLaws.{first-le, first-at, first-none, first-true, first-before}
 use Rattle.routing.specs.TileKind.{TileKind}
 use Rattle.routing.specs.Table.{maxPassives, maxGroups, tableLength, passiveCount, groupCount}
 use Rattle.routing.specs.Slots.{fieldSlots, passiveSlots}
@@ -109,6 +109,13 @@ module _ (K : TileKind) (table : List ℕ) where
     },
     λ F. (first-at (breaks K table) i (partCount K table) (F .counted) (breaks-exact i .1 (F .broken)) (λ j h. kept j (F .earlier j h)), F .counted),
   )
+
+  -- where the check fails, the part that it names is the first that breaks a rule
+  pub table-broken : tableOk K table ≡ false → FirstBroken K table (faultyPart K table)
+  table-broken e =
+      let differ = eqb-false (faultyPart K table) (partCount K table) e in
+      let less : faultyPart K table < partCount K table = omega (arith, first-le (breaks K table) 0 (partCount K table)) in
+      faulty-part-exact (faultyPart K table) .0 (refl, less)
 
   -- "a group count above 512: 514", unless an earlier part breaks a rule
   pub faulty-part-over : maxGroups < groupCount K table → ((i : ℕ) → i < 2 + maxGroups → PartRules K table i) → faultyPart K table ≡ 514

@@ -10,6 +10,7 @@ ghost use Rattle.fabric.specs.Block.{block, tiles};
 ghost use Rattle.stepper.specs.Settling.{settledBy, portValues};
 ghost use Rattle.stepper.specs.Clocking.{nextStates};
 ghost use Rattle.sim.specs.Stepping.{stepLengths, stepAnswer};
+ghost use Rattle.sim.specs.Meaning.{StepSays};
 use fabric::Block;
 use refusal::Answer;
 use refusal::Refusal;
@@ -47,6 +48,7 @@ pub fn step(
     ensures marks { λ r. ⌜ now (marks .exit) ≡ workRoom (answerNumber r) (now (marks .entry)) ⌝ }
     ensures first { λ r. ⌜ now (first .exit) ≡ workRoom (answerNumber r) (now (first .entry)) ⌝ }
     ensures second { λ r. ⌜ now (second .exit) ≡ workRoom (answerNumber r) (now (second .entry)) ⌝ }
+    ensures says { λ r. ⌜ StepSays w h (now (table .entry)) (now (settings .entry)) (now (list .entry)) (now (state .entry)) (now (before .entry)) (now (after .entry)) (length (now (values .entry))) (length (now (next .entry))) (length (now (wires .entry))) (length (now (own .entry))) (length (now (marks .entry))) (length (now (first .entry))) (length (now (second .entry))) r ⌝ }
 {
     let b = Block { w, h };
     if !fabric::is_sized(b) {

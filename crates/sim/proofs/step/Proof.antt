@@ -11,6 +11,7 @@ use Rattle.refusal.specs.Memory.{workRoom}
 use Rattle.fabric.proofs.BlockLaws.{sized-exact, tiles-le}
 use Rattle.fabric.specs.Block.{block, sized}
 use Rattle.sim.proofs.StepLaws.{step-size, step-length, step-inputs, room-cleared}
+use Rattle.sim.proofs.MeaningLaws.{step-says}
 use borrow.Author.Tests.{not-true, not-false}
 use borrow.Author.Needs.{needs}
 use Rattle.sim.proofs.step.Statement.{statement}
@@ -21,9 +22,12 @@ is-sized-requires c κs = search needs
 
 returns : tie.Need-returns
 returns c =
-    let at-is-sized = c .before in (
-      step-size _ _ _ _ _ _ _ _ _ (sym (at-is-sized .is-sized .ensures) ∙ not-true _ (c .if1 .taken)),
-      (refl, (refl, (refl, (refl, (refl, (refl, refl)))))),
+    let at-is-sized = c .before in
+    let at-start = at-is-sized .before .before .before .before .before .before .before .before .before .before .before .before .before .before in
+    let a = at-start .args in
+    let answer = step-size (a .w) (a .h) _ _ _ _ _ _ _ (sym (at-is-sized .is-sized .ensures) ∙ not-true _ (c .if1 .taken)) in (
+      answer,
+      (refl, (refl, (refl, (refl, (refl, (refl, (refl, step-says (a .w) (a .h) _ _ _ _ _ _ _ _ _ _ _ _ _ _ answer))))))),
     )
 
 mul-n : tie.Need-mul-n
@@ -62,9 +66,10 @@ returns-2 c =
     let at-is-sized = at-if1 .before in
     let at-start = at-is-sized .before .before .before .before .before .before .before .before .before .before .before .before .before .before in
     let a = at-start .args in
-    let is : sized (block (a .w) (a .h)) ≡ true = sym (at-is-sized .is-sized .ensures) ∙ not-false _ (at-if1 .if1 .left) in (
-      step-length _ _ _ _ _ _ _ _ _ is (sym (at-step-lengths .step-lengths .ensures .0) ∙ not-true _ (c .if2 .taken)),
-      (refl, (refl, (refl, (refl, (refl, (refl, refl)))))),
+    let is : sized (block (a .w) (a .h)) ≡ true = sym (at-is-sized .is-sized .ensures) ∙ not-false _ (at-if1 .if1 .left) in
+    let answer = step-length (a .w) (a .h) _ _ _ _ _ _ _ is (sym (at-step-lengths .step-lengths .ensures .0) ∙ not-true _ (c .if2 .taken)) in (
+      answer,
+      (refl, (refl, (refl, (refl, (refl, (refl, (refl, step-says (a .w) (a .h) _ _ _ _ _ _ _ _ _ _ _ _ _ _ answer))))))),
     )
 
 step-checked-requires : tie.Need-step-checked-requires
@@ -156,8 +161,9 @@ returns-3 c =
     let kept = at-step-checked .step-checked .kept in
     let r = at-step-checked .step-checked .result in
     let cleared : (old : List ℕ) (n : ℕ) → n ≡ length old → zeros n ≡ workRoom (answerNumber r) old =
-    λ old n l. room-cleared (block (a .w) (a .h)) (a .table .now) (a .settings .now) (a .list .now) (a .state .now) (a .before .now) (a .after .now) old r n (done .0) l in (
-      done .0 ∙ step-inputs _ _ _ _ _ _ _ _ _ is long,
+    λ old n l. room-cleared (block (a .w) (a .h)) (a .table .now) (a .settings .now) (a .list .now) (a .state .now) (a .before .now) (a .after .now) old r n (done .0) l in
+    let answer = done .0 ∙ step-inputs (a .w) (a .h) _ _ _ _ _ _ _ is long in (
+      answer,
       (
         done .1 .0,
         (
@@ -170,7 +176,10 @@ returns-3 c =
                 at-clear3 .clear3 .ensures ∙ cleared (a .marks .now) _ (kept .1 .1 .1 .1 .1 .1 .1 .1 .1 .1 .1 .0),
                 (
                   at-clear-bytes .clear-bytes .ensures ∙ cleared (a .first .now) _ (kept .1 .1 .1 .1 .1 .1 .1 .1 .1 .1 .1 .1 .0),
-                  at-clear-bytes2 .clear-bytes2 .ensures ∙ cleared (a .second .now) _ (kept .1 .1 .1 .1 .1 .1 .1 .1 .1 .1 .1 .1 .1 .0),
+                  (
+                    at-clear-bytes2 .clear-bytes2 .ensures ∙ cleared (a .second .now) _ (kept .1 .1 .1 .1 .1 .1 .1 .1 .1 .1 .1 .1 .1 .0),
+                    step-says (a .w) (a .h) _ _ _ _ _ _ _ _ _ _ _ _ _ _ answer,
+                  ),
                 ),
               ),
             ),

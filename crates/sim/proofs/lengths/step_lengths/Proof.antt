@@ -24,7 +24,7 @@ returns-2 c =
     let at-input-lengths = at-if1 .before in
     let inputs = sym (at-input-lengths .input-lengths .ensures) ∙ not-false _ (at-if1 .if1 .left) in (
       c .room-lengths .ensures ∙ rw inputs,
-      λ e. (input-lengths-exact _ _ _ _ _ _ _ inputs, room-lengths-exact _ _ _ _ _ _ _ _ (sym (c .room-lengths .ensures) ∙ e)),
+      λ e. (input-lengths-exact _ _ _ _ _ _ _ .0 inputs, room-lengths-exact _ _ _ _ _ _ _ _ .0 (sym (c .room-lengths .ensures) ∙ e)),
     )
 
 pub step-lengths-spec : {M : Type 1} → statement M

@@ -74,18 +74,6 @@ pub fn answer_line(number: u8, place: u32) -> [u8; 9]
     ]
 }
 
-// The same bytes in a slice of the same length.
-fn copy(line: &[u8], part: &mut [u8])
-    requires { ⌜ length (now line) ≡ length (now part) ⌝ }
-    ensures { λ r. ⌜ now (part .exit) ≡ now (line .entry) ⌝ }
-{
-    let mut i = 0;
-    while i < part.len() {
-        part[i] = line[i];
-        i += 1;
-    }
-}
-
 // Puts a line at a position, and says where the next one goes.
 pub fn put(out: &mut [u8], at: usize, line: &[u8]) -> usize
     requires { ⌜ at + length (now line) ≤ length (now out) ⌝ }
@@ -93,6 +81,6 @@ pub fn put(out: &mut [u8], at: usize, line: &[u8]) -> usize
     ensures out { λ r. ⌜ now (out .exit) ≡ placed at (now (line .entry)) (now (out .entry)) ⌝ }
 {
     let end = at + line.len();
-    copy(line, &mut out[at..end]);
+    lists::copy_bytes(line, &mut out[at..end]);
     end
 }

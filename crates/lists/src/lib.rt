@@ -39,3 +39,15 @@ pub fn copy(from: &[u16], to: &mut [u16])
         i += 1;
     }
 }
+
+// The same for bytes.
+pub fn copy_bytes(from: &[u8], to: &mut [u8])
+    requires { ⌜ length (now from) ≡ length (now to) ⌝ }
+    ensures { λ r. ⌜ now (to .exit) ≡ now (from .entry) ⌝ }
+{
+    let mut i = 0;
+    while i < to.len() {
+        to[i] = from[i];
+        i += 1;
+    }
+}

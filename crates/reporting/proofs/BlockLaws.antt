@@ -1,11 +1,11 @@
 -- What building's answer shows of the report. Main laws: `refused-lines`, `listed-lines`; `listed-decodable`.
 use Prim.Native.Nat.{ℕ, _≤_}
-use mathlib.Core.Path.{_≡_, refl, sym, ap, _∙_}
-use mathlib.Core.Bool.{Bool, true, false}
+use mathlib.Core.Path.{_≡_, sym, ap, _∙_}
+use mathlib.Core.Bool.{Bool, true}
 use mathlib.Core.List.{List}
 use native.Mathlib.Omega.{arith}
 use borrow.Author.Tests.{leb-true}
-use Rattle.refusal.specs.Grounds.{numberOf, placeOf, unless}
+use Rattle.refusal.specs.Grounds.{numberOf, placeOf}
 use Rattle.refusal.specs.declared.Refusal.{Refusal}
 use Rattle.fabric.specs.Block.{block, tiles, sized}
 use Rattle.routing.specs.LogicTile.{logicTile}
@@ -14,13 +14,9 @@ use Rattle.config.specs.Blocks.{undecodableTile, decoded}
 use Rattle.block.specs.declared.Built.{Built}
 use Rattle.block.specs.declared.Built.the-variants.{Listed, Refused}
 use Rattle.block.specs.Building.{builtNumber, none, bitsAnswer, buildAnswer}
+use Rattle.refusal.proofs.GroundsLaws.{unless-passed}
 use Rattle.lines.specs.Lines.{answerLine}
 use Rattle.reporting.specs.Report.{builtLines, acceptedLines, blockLines}
-
--- a check that a yes lies behind has passed
-passed : (b : Bool) (refusal : Refusal) (later : Built) (k : ℕ) → (numberOf refusal ≡ 0 → ⊥) → unless b (Refused refusal) later ≡ Listed k → (b ≡ true) × (later ≡ Listed k)
-passed true refusal later k some e = (refl, e)
-passed false refusal later k some e = absurd (some (ap builtNumber e))
 
 module _ (w h : ℕ) (t bits : List ℕ) (lengths : Bool) (r : Built) (e : r ≡ buildAnswer w h t bits lengths) (exact : lengths ≡ true) where
   answer-is : r ≡ buildAnswer w h t bits true
@@ -37,7 +33,7 @@ module _ (w h : ℕ) (t bits : List ℕ) (lengths : Bool) (r : Built) (e : r ≡
   pub listed-decodable : (k : ℕ) → r ≡ Listed k → tiles (block w h) ≤ undecodableTile t bits (tiles (block w h))
   unfolding buildAnswer bitsAnswer
   listed-decodable k q =
-      let size = passed (sized (block w h)) _ _ k (λ z. absurd (omega arith)) (sym answer-is ∙ q) in
-      let table = passed (tableOk logicTile t) _ _ k (λ z. absurd (omega arith)) (size .1) in
-      let tiles-read = passed (none (tiles (block w h)) (undecodableTile t bits (tiles (block w h)))) _ _ k (λ z. absurd (omega arith)) (table .1) in
+      let size = unless-passed builtNumber (sized (block w h)) _ _ (Listed k) (λ z. absurd (omega arith)) (sym answer-is ∙ q) in
+      let table = unless-passed builtNumber (tableOk logicTile t) _ _ (Listed k) (λ z. absurd (omega arith)) (size .1) in
+      let tiles-read = unless-passed builtNumber (none (tiles (block w h)) (undecodableTile t bits (tiles (block w h)))) _ _ (Listed k) (λ z. absurd (omega arith)) (table .1) in
       leb-true _ _ (tiles-read .0)

@@ -1,39 +1,32 @@
 -- An input of any length has the report of its first 131,072 bytes. Main law: `report-prefix`.
 use Prim.Native.Nat.{ℕ, _≤_}
 use mathlib.Core.Path.{_≡_, refl, ap, _∙_}
-use mathlib.Core.Bool.{Bool, true, false, _&&_}
+use mathlib.Core.Bool.{_&&_}
 use mathlib.Core.List.{List}
 use native.Mathlib.Omega.{arith}
 use borrow.Author.Tests.{eqb-true}
 use lib.Dec.{eqb, leb}
 use lib.ListN.{length, take}
 use lib.Seq.{take-all}
-use Rattle.refusal.specs.Grounds.{unless, numberOf}
-use Rattle.refusal.specs.declared.Refusal.{Refusal}
 use Rattle.frames.specs.declared.input.Parsed.{Parsed}
 use Rattle.frames.specs.declared.input.Parsed.the-variants.{Block, Refused}
 use Rattle.frames.specs.Lines.{fieldsLine, passiveLine, sizeLine}
 use Rattle.frames.specs.Input.{sizeAt, width, height, small, tilesDue, tileAt, tileCount, parsed, parsedNumber}
 use Rattle.frames.proofs.SmallLaws.{small-of, small-due}
 use Rattle.frames.proofs.PrefixLaws.{parsed-prefix, size-at-le}
+use Rattle.refusal.proofs.GroundsLaws.{unless-passed}
 use Rattle.reporting.specs.Report.{parsedLines, reportOf}
-
--- a check that a yes lies behind has passed
-passed : (b : Bool) (refusal : Refusal) (later : Parsed) (w h : ℕ) → (numberOf refusal ≡ 0 → ⊥) → unless b (Refused refusal) later ≡ Block w h
-    → (b ≡ true) × (later ≡ Block w h)
-passed true refusal later w h some e = (refl, e)
-passed false refusal later w h some e = absurd (some (ap parsedNumber e))
 
 -- an input that is taken is short
 block-short : (s : List ℕ) (w h : ℕ) → parsed s ≡ Block w h → length s ≤ 131072
 unfolding parsed
 block-short s w h e =
-    let one = passed (fieldsLine s) _ _ w h (λ z. absurd (omega arith)) e in
-    let two = passed (passiveLine s) _ _ w h (λ z. absurd (omega arith)) (one .1) in
-    let three = passed (sizeLine s (sizeAt s)) _ _ w h (λ z. absurd (omega arith)) (two .1) in
-    let four = passed (small (width s) && small (height s)) _ _ w h (λ z. absurd (omega arith)) (three .1) in
-    let five = passed (leb (tilesDue s) (tileCount s)) _ _ w h (λ z. absurd (omega arith)) (four .1) in
-    let six = passed (eqb (length s) (tileAt s (tilesDue s))) _ _ w h (λ z. absurd (omega arith)) (five .1) in
+    let one = unless-passed parsedNumber (fieldsLine s) _ _ (Block w h) (λ z. absurd (omega arith)) e in
+    let two = unless-passed parsedNumber (passiveLine s) _ _ (Block w h) (λ z. absurd (omega arith)) (one .1) in
+    let three = unless-passed parsedNumber (sizeLine s (sizeAt s)) _ _ (Block w h) (λ z. absurd (omega arith)) (two .1) in
+    let four = unless-passed parsedNumber (small (width s) && small (height s)) _ _ (Block w h) (λ z. absurd (omega arith)) (three .1) in
+    let five = unless-passed parsedNumber (leb (tilesDue s) (tileCount s)) _ _ (Block w h) (λ z. absurd (omega arith)) (four .1) in
+    let six = unless-passed parsedNumber (eqb (length s) (tileAt s (tilesDue s))) _ _ (Block w h) (λ z. absurd (omega arith)) (five .1) in
     let long = eqb-true (length s) (tileAt s (tilesDue s)) (six .0) in
     let few = small-due (width s) (height s) (small-of (width s) (height s) (four .0)) in
     omega (arith, size-at-le s)

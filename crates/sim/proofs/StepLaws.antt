@@ -3,16 +3,15 @@
 use Prim.Native.Nat.{ℕ, _*_, _<_, _≤_}
 use mathlib.Core.Path.{_≡_, refl, sym, _∙_, ap}
 use mathlib.Core.Bool.{Bool, true, false}
-use mathlib.Core.Logic.{⊎-elim}
 use mathlib.Core.List.{List, _++_}
 use native.Mathlib.Omega.{arith}
-use borrow.Author.Tests.{le-leb, lt-leb}
+use borrow.Author.Tests.{le-leb, lt-leb, leb-true}
 use lib.Dec.{leb}
 use lib.ListN.{length}
 use Rattle.lists.specs.Tables.{zeros}
-use Rattle.lists.proofs.CaseLaws.{cases, lt-or-le}
 use Rattle.refusal.specs.Grounds.{unless, answerNumber}
 use Rattle.refusal.specs.Memory.{workRoom}
+use Rattle.refusal.proofs.GroundsLaws.{unless-passed}
 use Rattle.refusal.specs.declared.Refusal.{Refusal}
 use Rattle.refusal.specs.declared.Refusal.the-variants.{Size, Length, Table, NoSuchSettings, NotABit, Row}
 use Rattle.refusal.specs.declared.Answer.{Answer}
@@ -57,17 +56,18 @@ module _ (B : Block) (list state before after : List ℕ) where
     run-done l = rw (le-leb _ _ stands, le-leb _ _ l)
 
   module _ (done : runAnswer B list state before after ≡ Done) where
+    checks-passed : (ports B ≤ badRow B list) × (length joined ≤ badByte joined)
+    unfolding runAnswer
+    checks-passed =
+        let row = unless-passed answerNumber (leb (ports B) (badRow B list)) _ _ Done (λ z. absurd (omega arith)) done in
+        let byte = unless-passed answerNumber (leb (length joined) (badByte joined)) _ _ Done (λ z. absurd (omega arith)) (row .1) in
+        (leb-true _ _ (row .0), leb-true _ _ (byte .0))
+
     run-passed : badRow B list ≡ ports B
-    run-passed =
-        let a = bad-row-le in
-        ⊎-elim (λ (l : badRow B list < ports B). absurd (never-done _ (run-row l ∙ done))) (λ (l : ports B ≤ badRow B list). omega arith)
-        (lt-or-le (badRow B list) (ports B))
+    run-passed = let l = checks-passed .0 in omega (arith, bad-row-le)
 
     run-bits : Bits state × Bits before × Bits after
-    run-bits =
-        let p = run-passed in
-        ⊎-elim (λ (l : badByte joined < length joined). absurd (never-done _ (run-byte (omega arith) l ∙ done)))
-        (λ (l : length joined ≤ badByte joined). bits-of-joined state before after l) (lt-or-le (badByte joined) (length joined))
+    run-bits = bits-of-joined state before after (checks-passed .1)
 
     -- a yes: the list can be run on before and on after
     pub run-shows : length list ≡ rowLength * ports B → length state ≡ 8 * tiles B → length before ≡ ports B → length after ≡ ports B
@@ -96,12 +96,11 @@ module _ (B : Block) (t st list state before after : List ℕ) where
 
   pub inputs-shows : inputsAnswer B t st list state before after ≡ Done
       → (tableOk logicTile t ≡ true) × (tiles B ≤ bitlessTile t st (tiles B)) × (runAnswer B list state before after ≡ Done)
-  inputs-shows e = ⊎-elim ok (λ (f : tableOk logicTile t ≡ false). absurd (never-done _ (inputs-table f ∙ e))) (cases (tableOk logicTile t))
-    where
-      ok : tableOk logicTile t ≡ true → (tableOk logicTile t ≡ true) × (tiles B ≤ bitlessTile t st (tiles B)) × (runAnswer B list state before after ≡ Done)
-      ok k =
-          ⊎-elim (λ (l : bitlessTile t st (tiles B) < tiles B). absurd (never-done _ (inputs-settings k l ∙ e)))
-          (λ (l : tiles B ≤ bitlessTile t st (tiles B)). (k, l, inputs-run k l ∙ e)) (lt-or-le (bitlessTile t st (tiles B)) (tiles B))
+  unfolding inputsAnswer
+  inputs-shows e =
+      let table = unless-passed answerNumber (tableOk logicTile t) _ _ Done (λ z. absurd (omega arith)) e in
+      let settings = unless-passed answerNumber (leb (tiles B) (bitlessTile t st (tiles B))) _ _ Done (λ z. absurd (omega arith)) (table .1) in
+      (table .0, leb-true _ _ (settings .0), settings .1)
 
 -- ---- grounds 1 and 2
 

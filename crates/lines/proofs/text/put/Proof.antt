@@ -9,17 +9,17 @@ use Rattle.lines.proofs.text.put.Tie as tie
 add-end : tie.Need-add-end
 add-end c = search needs
 
-sub-copy : tie.Need-sub-copy
-sub-copy c = search needs
+sub-copy-bytes : tie.Need-sub-copy-bytes
+sub-copy-bytes c = search needs
 
-part-copy-start : tie.Need-part-copy-start
-part-copy-start c = search needs
+part-copy-bytes-start : tie.Need-part-copy-bytes-start
+part-copy-bytes-start c = search needs
 
-part-copy-end : tie.Need-part-copy-end
-part-copy-end c = search needs
+part-copy-bytes-end : tie.Need-part-copy-bytes-end
+part-copy-bytes-end c = search needs
 
-copy-requires : tie.Need-copy-requires
-copy-requires c κs = search needs
+copy-bytes-requires : tie.Need-copy-bytes-requires
+copy-bytes-requires c κs = search needs
 
 same-length : tie.Need-same-length
 same-length c = search needs
@@ -27,9 +27,9 @@ same-length c = search needs
 returns : tie.Need-returns
 returns c =
     let args = c .before .before .before .before .before .before .args in
-    (refl, put-is (args .at) (length (args .line .now)) (args .line .now) _ (args .out .now) (c .before .before .copy .ensures) refl)
+    (refl, put-is (args .at) (length (args .line .now)) (args .line .now) _ (args .out .now) (c .before .before .copy-bytes .ensures) refl)
 
 pub put-spec : {M : Type 1} → statement M
 put-spec =
     tie.close
-    (tie.spec add-end sub-copy part-copy-start part-copy-end copy-requires same-length returns)
+    (tie.spec add-end sub-copy-bytes part-copy-bytes-start part-copy-bytes-end copy-bytes-requires same-length returns)

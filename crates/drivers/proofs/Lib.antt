@@ -11,4 +11,3 @@ pub mod CarryPass  -- the loops of `carry_read_wire`
 pub mod CarryPorts  -- low-port-no-carry: a port before carry_in has no cout's wire
 pub mod SwitchTurns  -- the switch of a tile's group; sourced-tile: a tile's switches are done
 pub mod ClockTurns  -- the loops and arms of the clock check
-pub mod MapLaws  -- tile-settings: the settings are long enough for each tile

@@ -2,4 +2,3 @@
 pub mod Following  -- DrivenBy: where following a driver ends, in the paper's words; driverOf: the same, computed
 pub mod CarryReads  -- carryReadWire: the lowest disabled carry that is read, computed (ground 6)
 pub mod Clocks  -- FromCell: a clock or reset that comes from a cell; clockedTile, computed (ground 8)
-pub mod Maps  -- TileInside: the settings are long enough for a tile

@@ -9,11 +9,10 @@ ghost use Rattle.netlist.specs.Rows.{arityOf};
 ghost use Rattle.equations.specs.Routed.{Routed, Driven};
 ghost use Rattle.equations.specs.WireRows.{wireRows};
 ghost use Rattle.drivers.specs.CarryReads.{isDisabledCarry, OperandsWithin, lowerCarry, lowerCarries, carryReadWire};
-use crate::maps::PORTS_PER_TILE;
-use crate::maps::cell_at;
-use crate::maps::number;
 use equations::drives::Drive;
 use equations::drives::drive_of;
+use equations::tiles::PORTS_PER_TILE;
+use equations::tiles::cell_at;
 use fabric::Block;
 use netlist::row;
 use netlist::row::Row;
@@ -48,8 +47,8 @@ fn lower_carry(b: Block, st: &[u16], low: usize, w: u16) -> usize
     if !is_disabled_carry(b, st, d) {
         return low;
     }
-    if number(w) < low {
-        return number(w);
+    if row::wide(w) < low {
+        return row::wide(w);
     }
     low
 }

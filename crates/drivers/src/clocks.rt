@@ -4,21 +4,17 @@ ghost use mathlib.Core.Bool.{not, _&&_};
 ghost use Prim.Native.Nat.{_<_};
 ghost use lib.ListN.{length};
 ghost use Rattle.fabric.specs.Block.{tiles, ports, portsPerTile};
-ghost use Rattle.equations.specs.Tiles.{flopOn};
+ghost use Rattle.equations.specs.Tiles.{TileInside, flopOn};
 ghost use Rattle.equations.specs.Routed.{Mapped};
 ghost use Rattle.drivers.specs.Following.{Bounded};
-ghost use Rattle.drivers.specs.Maps.{TileInside};
 ghost use Rattle.drivers.specs.Clocks.{asyncFlopOn, isOutside, anyCell, drivenOutside, clockedAt, clockedTile};
 use crate::follow::Driver;
 use crate::follow::driver_of;
-use crate::maps::cell_at;
-use crate::maps::number;
-use crate::maps::wire_at;
+use equations::tiles::cell_at;
+use equations::tiles::wire_at;
 use fabric::Block;
-
-const CLK: u16 = fabric::ports::CLK as u16;
-
-const S_R: u16 = fabric::ports::S_R as u16;
+use fabric::ports;
+use netlist::row::wide;
 
 const CELLS: usize = 8;
 
@@ -72,7 +68,7 @@ fn is_from_cell(
     wires: &[u16],
     sources: &[u16],
     tile: usize,
-    q: u16,
+    q: u32,
     asked: bool,
     marks: &mut [u16],
 ) -> bool
@@ -82,7 +78,7 @@ fn is_from_cell(
     if !asked {
         return false;
     }
-    let wire = number(wire_at(b, wires, tile, q));
+    let wire = wide(wire_at(b, wires, tile, q));
     let d = driver_of(b, sources, wire, marks);
     !clock_ok(d)
 }
@@ -100,11 +96,11 @@ fn is_clocked(
     ensures { λ r. ⌜ r ≡ clockedAt b (now (st .entry)) (now (sources .entry)) tile ⌝ }
 {
     let flop = has_flop(st, tile);
-    if is_from_cell(b, st, wires, sources, tile, CLK, flop, marks) {
+    if is_from_cell(b, st, wires, sources, tile, ports::CLK, flop, marks) {
         return true;
     }
     let async_flop = has_async_flop(st, tile);
-    is_from_cell(b, st, wires, sources, tile, S_R, async_flop, marks)
+    is_from_cell(b, st, wires, sources, tile, ports::S_R, async_flop, marks)
 }
 
 // The lowest tile whose clock or reset comes from a cell, or the number of tiles. `marks` is work room, and holds marks afterwards.

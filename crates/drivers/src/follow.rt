@@ -8,10 +8,10 @@ ghost use Rattle.fabric.specs.Block.{Sized, ports};
 ghost use Rattle.netlist.specs.Marks.{listed};
 ghost use Rattle.drivers.specs.declared.follow.Trace.the-variants.{End};
 ghost use Rattle.drivers.specs.Following.{Bounded, endDriver, traced, tracedMarks, ringLowest, driverOf};
-use crate::maps::number;
 use equations::drives::Drive;
 use equations::drives::drive_of;
 use fabric::Block;
+use netlist::row::wide;
 
 // How many steps a walk goes without marks.
 const SHORT: usize = 64;
@@ -39,7 +39,7 @@ fn walk(sources: &[u16], start: usize, marks: &mut [u16]) -> Trace
     lists::clear(marks);
     let mut u = start;
     loop {
-        let s = number(sources[u]);
+        let s = wide(sources[u]);
         if s == 0 {
             return Trace::End(u as u16);
         }
@@ -99,7 +99,7 @@ fn short_walk(sources: &[u16], start: usize) -> usize
     let mut u = start;
     let mut k = 0;
     while k < SHORT {
-        let s = number(sources[u]);
+        let s = wide(sources[u]);
         if s == 0 {
             return u;
         }
@@ -116,7 +116,7 @@ fn marked_driver(b: Block, sources: &[u16], wire: usize, marks: &mut [u16]) -> D
 {
     match walk(sources, wire, marks) {
         Trace::End(u) => end_driver(u, drive_of(b, u as u32)),
-        Trace::Again(u) => Driver::Ring(ring_lowest(sources, number(u), marks) as u16),
+        Trace::Again(u) => Driver::Ring(ring_lowest(sources, wide(u), marks) as u16),
     }
 }
 

@@ -6,5 +6,4 @@
 pub mod carry;
 pub mod clocks;
 pub mod follow;
-mod maps;
 pub mod sources;

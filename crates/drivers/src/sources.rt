@@ -8,10 +8,10 @@ ghost use Rattle.routing.specs.LogicTile.{logicTile};
 ghost use Rattle.routing.specs.Table.{maxGroups, groupCount};
 ghost use Rattle.equations.specs.Routed.{Routed};
 ghost use Rattle.equations.specs.Sources.{sourcesOf, contendedWire, Sourced};
-use crate::maps::group_at;
-use crate::maps::number;
-use crate::maps::wire_at;
+use equations::tiles::group_at;
+use equations::tiles::wire_at;
 use fabric::Block;
+use netlist::row::wide;
 use routing::table;
 
 // One switch more: that of group g of a tile. The answer is the lowest wire on which two end so far.
@@ -33,8 +33,8 @@ fn take_switch(
     if e == 0 {
         return low;
     }
-    let u = number(wire_at(b, wires, tile, table::destination(table, g)));
-    let source = wire_at(b, wires, tile, table::source(table, g, e - 1)) + 1;
+    let u = wide(wire_at(b, wires, tile, table::destination(table, g) as u32));
+    let source = wire_at(b, wires, tile, table::source(table, g, e - 1) as u32) + 1;
     let old = sources[u];
     if old == 0 {
         sources[u] = source;

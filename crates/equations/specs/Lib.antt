@@ -1,5 +1,5 @@
 -- The equations of a block and the rows that say the same. A reader starts with Switches and Equations.
-pub mod Tiles  -- the settings of a block, tile by tile
+pub mod Tiles  -- the settings of a block, tile by tile. TileInside: they are long enough for a tile
 pub mod Switches  -- the enabled switches in order of tile and group; Contention
 pub mod Equations  -- Meets: every equation, sentence by sentence; ReadsWire, Depends
 pub mod DisabledCarry  -- ground 6: a disabled carry output that is read

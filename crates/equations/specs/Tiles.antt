@@ -1,12 +1,16 @@
 -- The settings of a block: `settingsLength` numbers for each tile, by its index (codec/specs/Settings.antt has the layout within a tile).
-use Prim.Native.Nat.{ℕ, _+_, _*_}
+use Prim.Native.Nat.{ℕ, _+_, _*_, _≤_}
 use mathlib.Core.Bool.{Bool}
 use mathlib.Core.List.{List}
 use lib.Dec.{eqb}
-use lib.ListN.{getD}
+use lib.ListN.{getD, length}
 use Rattle.digits.specs.Digits.{isSet}
 use Rattle.routing.specs.LogicTile.{logicTile, negClk, carryInSet, carryChain}
 use Rattle.codec.specs.Settings.{settingsLength, groupsFrom, cellsFrom}
+
+-- the settings of tile T are among st
+abbrev pub TileInside : List ℕ → ℕ → Type 0
+TileInside st T = settingsLength logicTile * T + settingsLength logicTile ≤ length st
 
 -- number n of the settings of tile T
 abbrev pub settingOf : List ℕ → ℕ → ℕ → ℕ

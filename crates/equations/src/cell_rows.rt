@@ -1,19 +1,14 @@
 // The rows of what a cell drives: its lookup, out, cout, and its tile's carry_in_mux, from the settings and the wire of each port.
 ghost use mathlib.Core.Path.{_≡_};
-ghost use Prim.Native.Nat.{_*_, _<_};
-ghost use Rattle.fabric.specs.Block.{tiles, portOf, portsPerTile};
-ghost use Rattle.fabric.specs.Wire.{wireOf};
-ghost use Rattle.cell.specs.Settings.{cellOf};
-ghost use Rattle.routing.specs.LogicTile.{logicTile};
-ghost use Rattle.codec.specs.Settings.{settingsLength};
+ghost use Prim.Native.Nat.{_<_};
+ghost use Rattle.fabric.specs.Block.{tiles, portsPerTile};
 ghost use Rattle.equations.specs.declared.drives.Drive.the-variants.{CellOut, CellCout, CarryMux};
-ghost use Rattle.equations.specs.Tiles.{settingOf, tableOf, flagsAt};
 ghost use Rattle.equations.specs.Equations.{carryPort};
 ghost use Rattle.equations.specs.Routed.{Mapped};
 ghost use Rattle.equations.specs.WireRows.{plainRow, lookupRow, majorityRow, driveRow};
-use cell::logic::Cell;
-use codec::cells::CELLS_FROM;
-use codec::settings::SETTINGS_LENGTH;
+use crate::tiles::cell_at;
+use crate::tiles::setting_at;
+use crate::tiles::wire_at;
 use fabric::Block;
 use fabric::ports;
 use netlist::row;
@@ -26,32 +21,6 @@ const CARRY_CHAIN: usize = 2;
 
 // Cells in a tile.
 const CELLS: usize = 8;
-
-// Number n of the settings of a tile.
-pub fn setting_at(b: Block, st: &[u16], wires: &[u16], tile: usize, n: usize) -> u16
-    requires { ⌜ Mapped b (now st) (now wires) × (tile < tiles b) × (n < settingsLength logicTile) ⌝ }
-    ensures { λ r. ⌜ r ≡ settingOf (now (st .entry)) tile n ⌝ }
-{
-    st[SETTINGS_LENGTH * tile + n]
-}
-
-// A cell's settings.
-pub fn cell_at(b: Block, st: &[u16], wires: &[u16], tile: usize, i: usize) -> Cell
-    requires { ⌜ Mapped b (now st) (now wires) × (tile < tiles b) × (i < 8) ⌝ }
-    ensures { λ r. ⌜ r ≡ cellOf (tableOf (now (st .entry)) tile i) (flagsAt (now (st .entry)) tile i) ⌝ }
-{
-    let table = setting_at(b, st, wires, tile, CELLS_FROM + 2 * i);
-    let flags = setting_at(b, st, wires, tile, CELLS_FROM + 2 * i + 1);
-    Cell::new(table, flags)
-}
-
-// The wire of port q of a tile.
-pub fn port_wire(b: Block, st: &[u16], wires: &[u16], tile: usize, q: u32) -> u16
-    requires { ⌜ Mapped b (now st) (now wires) × (tile < tiles b) × (q < portsPerTile) ⌝ }
-    ensures { λ r. ⌜ r ≡ wireOf b (portOf tile q) ⌝ }
-{
-    wires[ports::PORTS_PER_TILE as usize * tile + q as usize]
-}
 
 // A row with no table and at most one operand.
 pub fn plain_row(kind: u16, wire: u16, a: u16) -> Row
@@ -74,11 +43,11 @@ pub fn lookup_row(b: Block, st: &[u16], wires: &[u16], w: u16, tile: usize, i: u
     ensures { λ r. ⌜ r ≡ lookupRow b (now (st .entry)) w tile i ⌝ }
 {
     let q = ports::IN + 4 * i;
-    let in0 = port_wire(b, st, wires, tile, q);
-    let in1 = port_wire(b, st, wires, tile, q + 1);
-    let in2 = port_wire(b, st, wires, tile, q + 2);
-    let in3 = port_wire(b, st, wires, tile, q + 3);
-    let cell = cell_at(b, st, wires, tile, i as usize);
+    let in0 = wire_at(b, wires, tile, q);
+    let in1 = wire_at(b, wires, tile, q + 1);
+    let in2 = wire_at(b, wires, tile, q + 2);
+    let in3 = wire_at(b, wires, tile, q + 3);
+    let cell = cell_at(st, tile, i as usize);
     Row {
         kind: row::LOOKUP,
         wire: w,
@@ -107,9 +76,9 @@ fn majority_row(b: Block, st: &[u16], wires: &[u16], w: u16, tile: usize, i: u32
     ensures { λ r. ⌜ r ≡ majorityRow b w tile i ⌝ }
 {
     let q = ports::IN + 4 * i;
-    let in1 = port_wire(b, st, wires, tile, q + 1);
-    let in2 = port_wire(b, st, wires, tile, q + 2);
-    let carry = port_wire(b, st, wires, tile, carry_port(i));
+    let in1 = wire_at(b, wires, tile, q + 1);
+    let in2 = wire_at(b, wires, tile, q + 2);
+    let carry = wire_at(b, wires, tile, carry_port(i));
     Row {
         kind: row::MAJORITY,
         wire: w,
@@ -126,7 +95,7 @@ pub fn out_row(b: Block, st: &[u16], wires: &[u16], w: u16, tile: usize, i: u32)
     requires { ⌜ Mapped b (now st) (now wires) × (tile < tiles b) × (i < 8) ⌝ }
     ensures { λ r. ⌜ r ≡ driveRow b (now (st .entry)) w (CellOut tile i) ⌝ }
 {
-    let cell = cell_at(b, st, wires, tile, i as usize);
+    let cell = cell_at(st, tile, i as usize);
     if cell.flipflop {
         return plain_row(row::FLIP_FLOP, w, (CELLS * tile + i as usize) as u16);
     }
@@ -138,7 +107,7 @@ pub fn cout_row(b: Block, st: &[u16], wires: &[u16], w: u16, tile: usize, i: u32
     requires { ⌜ Mapped b (now st) (now wires) × (tile < tiles b) × (i < 8) ⌝ }
     ensures { λ r. ⌜ r ≡ driveRow b (now (st .entry)) w (CellCout tile i) ⌝ }
 {
-    let cell = cell_at(b, st, wires, tile, i as usize);
+    let cell = cell_at(st, tile, i as usize);
     if cell.carry {
         return majority_row(b, st, wires, w, tile, i);
     }
@@ -150,11 +119,11 @@ pub fn mux_row(b: Block, st: &[u16], wires: &[u16], w: u16, tile: usize) -> Row
     requires { ⌜ Mapped b (now st) (now wires) × (tile < tiles b) ⌝ }
     ensures { λ r. ⌜ r ≡ driveRow b (now (st .entry)) w (CarryMux tile) ⌝ }
 {
-    if setting_at(b, st, wires, tile, CARRY_IN_SET) == 1 {
+    if setting_at(st, tile, CARRY_IN_SET) == 1 {
         return plain_row(row::ONE, w, 0);
     }
-    if setting_at(b, st, wires, tile, CARRY_CHAIN) == 1 {
-        return plain_row(row::COPY, w, port_wire(b, st, wires, tile, ports::CARRY_IN));
+    if setting_at(st, tile, CARRY_CHAIN) == 1 {
+        return plain_row(row::COPY, w, wire_at(b, wires, tile, ports::CARRY_IN));
     }
     plain_row(row::ZERO, w, 0)
 }

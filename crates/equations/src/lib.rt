@@ -6,3 +6,4 @@
 pub mod cell_rows;
 pub mod drives;
 pub mod rows;
+pub mod tiles;

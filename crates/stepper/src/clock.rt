@@ -10,9 +10,9 @@ use cell::flip_flop::Control;
 use cell::flip_flop::FlipFlop;
 use cell::flip_flop::is_tick;
 use cell::logic::lookup_bit;
-use equations::cell_rows::cell_at;
-use equations::cell_rows::port_wire;
-use equations::cell_rows::setting_at;
+use equations::tiles::cell_at;
+use equations::tiles::setting_at;
+use equations::tiles::wire_at;
 use fabric::Block;
 use fabric::ports;
 use netlist::row::wide;
@@ -27,7 +27,7 @@ fn value_at(b: Block, st: &[u16], wires: &[u16], values: &[u8], tile: usize, q: 
     requires { ⌜ Mapped b (now st) (now wires) × (tile < tiles b) × (q < portsPerTile) × (length (now values) ≡ ports b) ⌝ }
     ensures { λ r. ⌜ r ≡ valueAt b (now (st .entry)) (now (values .entry)) tile q ⌝ }
 {
-    let w = wide(port_wire(b, st, wires, tile, q));
+    let w = wide(wire_at(b, wires, tile, q));
     values[w]
 }
 
@@ -41,7 +41,7 @@ fn lookup_at(b: Block, st: &[u16], wires: &[u16], values: &[u8], tile: usize, i:
     let in1 = value_at(b, st, wires, values, tile, q + 1);
     let in2 = value_at(b, st, wires, values, tile, q + 2);
     let in3 = value_at(b, st, wires, values, tile, q + 3);
-    let cell = cell_at(b, st, wires, tile, i);
+    let cell = cell_at(st, tile, i);
     lookup_bit(cell.table, in0, in1, in2, in3)
 }
 
@@ -58,7 +58,7 @@ fn control_at(
     requires { ⌜ Mapped b (now st) (now wires) × (tile < tiles b) × (length (now before) ≡ ports b) × (length (now after) ≡ ports b) ⌝ }
     ensures { λ r. ⌜ r ≡ controlOf b (now (st .entry)) (now (before .entry)) (now (after .entry)) tile ⌝ }
 {
-    let inverted = setting_at(b, st, wires, tile, NEG_CLK) == 1;
+    let inverted = setting_at(st, tile, NEG_CLK) == 1;
     let old = value_at(b, st, wires, before, tile, ports::CLK);
     let new = value_at(b, st, wires, after, tile, ports::CLK);
     let tick = is_tick(inverted, old, new);
@@ -88,7 +88,7 @@ fn next_cell(
 {
     let tile = c / CELLS;
     let i = c % CELLS;
-    let cell = cell_at(b, st, wires, tile, i);
+    let cell = cell_at(st, tile, i);
     let control = control_at(b, st, wires, before, after, tile);
     let lookup = lookup_at(b, st, wires, before, tile, i);
     let old = FlipFlop { value: state[c] };

@@ -1,11 +1,11 @@
 -- `carry::is_disabled_carry` meets its contract: only a cout can be one. Assumes nothing.
 use Rattle.drivers.proofs.CarryPass.{disabled-other}
-use Rattle.drivers.proofs.MapLaws.{tile-settings}
 use Rattle.drivers.specs.CarryReads.{isDisabledCarry}
 use Rattle.equations.specs.Routed.{Driven}
 use Rattle.cell.specs.declared.logic.Cell.{Cell}
 use mathlib.Core.Bool.{not}
 use mathlib.Core.Path.{sym, ap, subst, _∙_}
+use native.Mathlib.Omega.{arith}
 use borrow.Author.Needs.{needs}
 use Rattle.drivers.proofs.carry.is_disabled_carry.Statement.{statement}
 use Rattle.drivers.proofs.carry.is_disabled_carry.Tie as tie
@@ -25,7 +25,7 @@ cell-at-requires c κs =
     let a = at-start .args in
     let p = at-start .pre in
     let w = subst (Driven (a .b)) (c .before .d .given .1) (p .1) in
-    (w .1, tile-settings (a .b) (a .st .now) (p .0) _ (w .0))
+    (w .1, omega (arith, w .0))
 
 returns : tie.Need-returns
 returns c =

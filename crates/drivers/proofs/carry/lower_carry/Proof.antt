@@ -39,11 +39,11 @@ returns-2 c =
     let is = c .before .is-disabled-carry .ensures ∙ ap (isDisabledCarry st) (c .before .before .drive-of .ensures) in
     lower-carry-other B st low w (sym is ∙ not-true _ (c .if2 .taken))
 
-number-requires : tie.Need-number-requires
-number-requires c κs = search needs
+wide-requires : tie.Need-wide-requires
+wide-requires c κs = search needs
 
-number-requires-2 : tie.Need-number-requires-2
-number-requires-2 c κs = search needs
+wide-requires-2 : tie.Need-wide-requires-2
+wide-requires-2 c κs = search needs
 
 returns-3 : tie.Need-returns-3
 returns-3 c =
@@ -55,7 +55,7 @@ returns-3 c =
     let low = a .low in
     let p = at-start .pre in
     let is = c .before .before .before .before .is-disabled-carry .ensures ∙ ap (isDisabledCarry st) (c .before .before .before .before .before .drive-of .ensures) in
-    c .number2 .ensures ∙ lower-carry-lower B st low w (sym is ∙ not-false _ (c .before .before .before .if2 .left)) (let e = c .before .before .number .ensures in let l = c .before .if3 .taken in omega arith)
+    c .wide2 .ensures ∙ lower-carry-lower B st low w (sym is ∙ not-false _ (c .before .before .before .if2 .left)) (let e = c .before .before .wide .ensures in let l = c .before .if3 .taken in omega arith)
 
 returns-4 : tie.Need-returns-4
 returns-4 c =
@@ -67,7 +67,7 @@ returns-4 c =
     let low = a .low in
     let p = at-start .pre in
     let is = c .before .before .before .is-disabled-carry .ensures ∙ ap (isDisabledCarry st) (c .before .before .before .before .drive-of .ensures) in
-    lower-carry-higher B st low w (sym is ∙ not-false _ (c .before .before .if2 .left)) (let e = c .before .number .ensures in let l = c .if3 .left in omega arith)
+    lower-carry-higher B st low w (sym is ∙ not-false _ (c .before .before .if2 .left)) (let e = c .before .wide .ensures in let l = c .if3 .left in omega arith)
 
 pub lower-carry-spec : {M : Type 1} → statement M
 lower-carry-spec =
@@ -77,7 +77,7 @@ lower-carry-spec =
     drive-of-requires
     is-disabled-carry-requires
     returns-2
-    number-requires
-    number-requires-2
+    wide-requires
+    wide-requires-2
     returns-3
     returns-4)

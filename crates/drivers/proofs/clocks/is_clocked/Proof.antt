@@ -1,6 +1,5 @@
 -- `clocks::is_clocked` meets its contract: first the clock, then the reset. Assumes nothing.
 use Rattle.drivers.proofs.ClockTurns.{clocked-clock, clocked-reset}
-use Rattle.drivers.proofs.MapLaws.{tile-settings}
 use Rattle.drivers.specs.Clocks.{drivenOutside}
 use Rattle.fabric.specs.PortIndex.{clk, sR}
 use native.Mathlib.Omega.{arith}
@@ -11,14 +10,7 @@ use Rattle.drivers.proofs.clocks.is_clocked.Statement.{statement}
 use Rattle.drivers.proofs.clocks.is_clocked.Tie as tie
 
 has-flop-requires : tie.Need-has-flop-requires
-has-flop-requires c κs =
-    let at-start = c .before .before .before .before in
-    let a = at-start .args in
-    let B = a .b in
-    let st = a .st .now in
-    let T = a .tile in
-    let p = at-start .pre in
-    (tile-settings B st (p .0 .settings-long) T (p .3))
+has-flop-requires c κs = search needs
 
 is-from-cell-requires : tie.Need-is-from-cell-requires
 is-from-cell-requires c κs =
@@ -41,14 +33,7 @@ returns c =
     clocked-clock B st s T (sym clock ∙ c .if1 .taken)
 
 has-async-flop-requires : tie.Need-has-async-flop-requires
-has-async-flop-requires c κs =
-    let at-start = c .before .before .before .before .before .before .before .before .before .before in
-    let a = at-start .args in
-    let B = a .b in
-    let st = a .st .now in
-    let T = a .tile in
-    let p = at-start .pre in
-    (tile-settings B st (p .0 .settings-long) T (p .3))
+has-async-flop-requires c κs = search needs
 
 is-from-cell-requires-2 : tie.Need-is-from-cell-requires-2
 is-from-cell-requires-2 c κs =

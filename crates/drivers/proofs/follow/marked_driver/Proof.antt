@@ -43,8 +43,8 @@ end-driver-requires c κs = search needs
 enum-known-u-2 : tie.Need-enum-known-u-2
 enum-known-u-2 c = search needs
 
-number-requires : tie.Need-number-requires
-number-requires c κs = search needs
+wide-requires : tie.Need-wide-requires
+wide-requires c κs = search needs
 
 ring-lowest-requires : tie.Need-ring-lowest-requires
 ring-lowest-requires c κs =
@@ -55,7 +55,7 @@ ring-lowest-requires c κs =
     let few = ports-le (a .b) (at-start .pre .0) in
     let l = at-start .pre .3 in
     let m = at-start .pre .4 in
-    (let k = trace-lt s (a .wire) (at-start .pre .2) (omega arith) _ (c .before .before .before .before .before .before .before .walk .ensures .0) (c .before .before .before .u2 .given .0 .0) (inr (c .before .before .before .u2 .given .1)) in let e = c .before .number .ensures in omega arith, omega arith, at-start .pre .2, omega arith)
+    (let k = trace-lt s (a .wire) (at-start .pre .2) (omega arith) _ (c .before .before .before .before .before .before .before .walk .ensures .0) (c .before .before .before .u2 .given .0 .0) (inr (c .before .before .before .u2 .given .1)) in let e = c .before .wide .ensures in omega arith, omega arith, at-start .pre .2, omega arith)
 
 cast-t17 : tie.Need-cast-t17
 cast-t17 c =
@@ -66,7 +66,7 @@ cast-t17 c =
     let few = ports-le (a .b) (at-start .pre .0) in
     let l = at-start .pre .3 in
     let m = at-start .pre .4 in
-    let k = ring-lowest-le s (a .wire) (c .before .before .before .before .number .result) in
+    let k = ring-lowest-le s (a .wire) (c .before .before .before .before .wide .result) in
     let e = c .before .before .ring-lowest .ensures in
     omega arith
 
@@ -90,7 +90,7 @@ returns-2 c =
     let a = at-start .args in
     let s = a .sources .now in
     let m = at-start .pre .4 in
-    ap Ring (c .before .before .ring-lowest .ensures ∙ ap (ringLowest s) (c .before .before .before .before .number .ensures)) ∙ ap (traceDriver (a .b) s) (sym (c .before .before .before .before .before .before .u2 .given .1)) ∙ driver-trace s (a .wire) (a .b) _ (c .before .before .before .before .before .before .before .before .before .before .walk .ensures .0)
+    ap Ring (c .before .before .ring-lowest .ensures ∙ ap (ringLowest s) (c .before .before .before .before .wide .ensures)) ∙ ap (traceDriver (a .b) s) (sym (c .before .before .before .before .before .before .u2 .given .1)) ∙ driver-trace s (a .wire) (a .b) _ (c .before .before .before .before .before .before .before .before .before .before .walk .ensures .0)
 
 pub marked-driver-spec : {M : Type 1} → statement M
 marked-driver-spec =
@@ -102,7 +102,7 @@ marked-driver-spec =
     drive-of-requires
     end-driver-requires
     enum-known-u-2
-    number-requires
+    wide-requires
     ring-lowest-requires
     cast-t17
     same-length

@@ -19,14 +19,14 @@ abbrev μ-loop : tie.MeasureT-loop
 loop-holds : tie.Need-loop-holds Inv-loop μ-loop
 loop-holds c = (c .before .pre .0, inl refl)
 
-mul-number : tie.Need-mul-number Inv-loop μ-loop
-mul-number c = search needs
+mul-wide : tie.Need-mul-wide Inv-loop μ-loop
+mul-wide c = search needs
 
-shared-slice-read-number : tie.Need-shared-slice-read-number Inv-loop μ-loop
-shared-slice-read-number c = search needs
+shared-slice-read-wide : tie.Need-shared-slice-read-wide Inv-loop μ-loop
+shared-slice-read-wide c = search needs
 
-number-requires : tie.Need-number-requires Inv-loop μ-loop
-number-requires c κs = search needs
+wide-requires : tie.Need-wide-requires Inv-loop μ-loop
+wide-requires c κs = search needs
 
 returns : tie.Need-returns Inv-loop μ-loop
 returns c =
@@ -51,9 +51,9 @@ loop-again c =
     let at-start = at-loop .before .before in
     let s = at-start .args .sources .now in
     let u = at-loop .loop .u in
-    let e = c .before .number .ensures in
+    let e = c .before .wide .ensures in
     let l = at-start .pre .1 u in
-    let d : getD s u 0 ≡ suc (c .before .number .result - 1) = omega arith in
+    let d : getD s u 0 ≡ suc (c .before .wide .result - 1) = omega arith in
     (omega arith, inr (gets-on s (at-loop .loop .inv .1) d))
 
 returns-2 : tie.Need-returns-2 Inv-loop μ-loop
@@ -71,9 +71,9 @@ short-walk-spec =
     Inv-loop
     μ-loop
     loop-holds
-    mul-number
-    shared-slice-read-number
-    number-requires
+    mul-wide
+    shared-slice-read-wide
+    wide-requires
     returns
     sub-u
     add-k

@@ -26,8 +26,8 @@ clear-requires c κs = search needs
 loop-holds : tie.Need-loop-holds Inv-loop μ-loop
 loop-holds c = subst (λ (x : List ℕ). Tracing (c .before .before .before .before .before .before .args .sources .now) (c .before .before .before .before .before .before .args .start) x (c .before .before .before .before .before .before .args .start)) (sym (c .before .before .clear .ensures ∙ ap zeros (c .before .before .before .before .before .before .pre .3))) (tracing-start (c .before .before .before .before .before .before .args .sources .now) (c .before .before .before .before .before .before .args .start) (c .before .before .before .before .before .before .pre .0))
 
-mul-number : tie.Need-mul-number Inv-loop μ-loop
-mul-number c =
+mul-wide : tie.Need-mul-wide Inv-loop μ-loop
+mul-wide c =
     let at-start = c .before .before .before .before .before .before .before in
     let i = c .loop .inv in
     let u = c .loop .u in
@@ -37,8 +37,8 @@ mul-number c =
     let few = at-start .pre .1 in
     omega arith
 
-shared-slice-read-number : tie.Need-shared-slice-read-number Inv-loop μ-loop
-shared-slice-read-number c =
+shared-slice-read-wide : tie.Need-shared-slice-read-wide Inv-loop μ-loop
+shared-slice-read-wide c =
     let at-start = c .before .before .before .before .before .before .before .before in
     let i = c .before .loop .inv in
     let u = c .before .loop .u in
@@ -48,8 +48,8 @@ shared-slice-read-number c =
     let few = at-start .pre .1 in
     omega arith
 
-number-requires : tie.Need-number-requires Inv-loop μ-loop
-number-requires c κs = search needs
+wide-requires : tie.Need-wide-requires Inv-loop μ-loop
+wide-requires c κs = search needs
 
 cast-t13 : tie.Need-cast-t13 Inv-loop μ-loop
 cast-t13 c =
@@ -82,7 +82,7 @@ returns c =
     let q = i .walking .within in
     let z = at-start .pre .3 in
     let y = at-start .pre .2 u in
-    tracing-end s (at-start .args .start) (c .before .before .before .loop .marks) u i (sym (c .before .number .ensures) ∙ c .if1 .taken)
+    tracing-end s (at-start .args .start) (c .before .before .before .loop .marks) u i (sym (c .before .wide .ensures) ∙ c .if1 .taken)
 
 mul-if2 : tie.Need-mul-if2 Inv-loop μ-loop
 mul-if2 c =
@@ -137,7 +137,7 @@ returns-2 c =
     let q = i .walking .within in
     let z = at-start .pre .3 in
     let y = at-start .pre .2 u in
-    let nz : getD s u 0 ≢ 0 = λ e. c .before .before .if1 .left (c .before .before .before .number .ensures ∙ e) in
+    let nz : getD s u 0 ≢ 0 = λ e. c .before .before .if1 .left (c .before .before .before .wide .ensures ∙ e) in
     tracing-again s (at-start .args .start) (c .before .before .before .before .before .loop .marks) u i nz (listed-true (c .before .before .before .before .before .loop .marks) u (c .if2 .taken))
 
 mul-marks : tie.Need-mul-marks Inv-loop μ-loop
@@ -185,8 +185,8 @@ loop-again c =
     let q = i .walking .within in
     let z = at-start .pre .3 in
     let y = at-start .pre .2 u in
-    let nz : getD s u 0 ≢ 0 = λ e. c .before .before .if1 .left (c .before .before .before .number .ensures ∙ e) in
-    subst (λ (k : ℕ). Tracing s (at-start .args .start) (set (c .before .before .before .before .before .loop .marks) u 1) (k - 1)) (sym (c .before .before .before .number .ensures)) (tracing-step s (at-start .args .start) (c .before .before .before .before .before .loop .marks) u i (at-start .pre .2) nz (listed-false (c .before .before .before .before .before .loop .marks) u (c .if2 .left)))
+    let nz : getD s u 0 ≢ 0 = λ e. c .before .before .if1 .left (c .before .before .before .wide .ensures ∙ e) in
+    subst (λ (k : ℕ). Tracing s (at-start .args .start) (set (c .before .before .before .before .before .loop .marks) u 1) (k - 1)) (sym (c .before .before .before .wide .ensures)) (tracing-step s (at-start .args .start) (c .before .before .before .before .before .loop .marks) u i (at-start .pre .2) nz (listed-false (c .before .before .before .before .before .loop .marks) u (c .if2 .left)))
 
 pub walk-spec : {M : Type 1} → statement M
 walk-spec =
@@ -196,9 +196,9 @@ walk-spec =
     μ-loop
     clear-requires
     loop-holds
-    mul-number
-    shared-slice-read-number
-    number-requires
+    mul-wide
+    shared-slice-read-wide
+    wide-requires
     cast-t13
     same-length
     returns

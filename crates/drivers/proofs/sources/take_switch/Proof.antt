@@ -2,7 +2,6 @@
 -- one counts for the answer, whatever it comes from. Assumes nothing.
 use Rattle.drivers.proofs.SwitchTurns.{switch-off, switch-on, switch-target, switch-origin, switch-target-port, switch-origin-port, switch-entry-lt, switch-target-lt, switch-origin-lt, sourced-next}
 use Rattle.fabric.proofs.BlockLaws.{ports-le}
-use Rattle.drivers.proofs.MapLaws.{tile-settings}
 use Rattle.equations.proofs.Sourcing.{sourced-skip, sourced-new, sourced-lower, sourced-higher}
 use Rattle.equations.specs.Switches.{enabled, target, origin}
 use Rattle.equations.specs.Tiles.{groupOf}
@@ -21,16 +20,12 @@ use Rattle.drivers.proofs.sources.take_switch.Tie as tie
 group-at-requires : tie.Need-group-at-requires
 group-at-requires c κs =
     let at-start = c .before .before .before .before in
-    let a = at-start .args in
-    let B = a .b in
-    let st = a .st .now in
-    let T = a .tile in
-    let g = a .g in
+    let g = at-start .args .g in
     let ok = at-start .pre .0 .0 in
     let lT = at-start .pre .0 .2 in
     let lc = at-start .pre .0 .3 in
     let lg : g < maxGroups = (let f = ok .few-groups in omega arith) in
-    (lg, tile-settings B st (ok .settings-long) T lT)
+    (lg, let long = ok .settings-long in omega arith)
 
 returns : tie.Need-returns
 returns c =
@@ -59,6 +54,9 @@ destination-requires c κs =
     let lg : g < maxGroups = (let f = ok .few-groups in omega arith) in
     (ok .table-long, lg)
 
+cast-wire-at : tie.Need-cast-wire-at
+cast-wire-at c = search needs
+
 wire-at-requires : tie.Need-wire-at-requires
 wire-at-requires c κs =
     let at-start = c .before .before .before .before .before .before .before in
@@ -75,8 +73,8 @@ wire-at-requires c κs =
     let on : enabled t st (maxGroups * T + g) ≡ true = switch-on T g lg t st lc (λ z. c .before .if1 .left (c .before .before .group-at .ensures ∙ z)) in
     (at-start .pre .0 .1, subst (λ (q : ℕ). portOf T q < ports B) (sym (c .destination .ensures)) (switch-target-port T g lg B t st ok lT on))
 
-number-requires : tie.Need-number-requires
-number-requires c κs = search needs
+wide-requires : tie.Need-wide-requires
+wide-requires c κs = search needs
 
 sub-source : tie.Need-sub-source
 sub-source c = omega arith
@@ -96,6 +94,9 @@ source-requires c κs =
     let lg : g < maxGroups = (let f = ok .few-groups in omega arith) in
     let on : enabled t st (maxGroups * T + g) ≡ true = switch-on T g lg t st lc (λ z. c .before .before .before .if1 .left (c .before .before .before .before .group-at .ensures ∙ z)) in
     (ok .table-long, lg, let e = c .before .before .before .before .group-at .ensures in let l = switch-entry-lt T g lg B t st ok lT on in omega arith)
+
+cast-wire-at-2 : tie.Need-cast-wire-at-2
+cast-wire-at-2 c = search needs
 
 wire-at-requires-2 : tie.Need-wire-at-requires-2
 wire-at-requires-2 c κs =
@@ -149,8 +150,8 @@ mul-old c =
     let lc = at-start .pre .0 .3 in
     let lg : g < maxGroups = (let f = ok .few-groups in omega arith) in
     let on : enabled t st (maxGroups * T + g) ≡ true = switch-on T g lg t st lc (λ z. c .before .before .before .before .before .if1 .left (c .before .before .before .before .before .before .group-at .ensures ∙ z)) in
-    let u = c .before .before .number .result in
-    let is : u ≡ target B t (maxGroups * T + g) = c .before .before .number .ensures ∙ c .before .before .before .wire-at .ensures ∙ ap (λ (q : ℕ). wireOf B (portOf T q)) (c .before .before .before .before .destination .ensures) ∙ switch-target T g lg B t in
+    let u = c .before .before .wide .result in
+    let is : u ≡ target B t (maxGroups * T + g) = c .before .before .wide .ensures ∙ c .before .before .before .wire-at .ensures ∙ ap (λ (q : ℕ). wireOf B (portOf T q)) (c .before .before .before .before .destination .ensures) ∙ switch-target T g lg B t in
     let lu : u < ports B = subst (λ (x : ℕ). x < ports B) (sym is) (switch-target-lt T g lg B t st ok lT on) in
     let n = at-start .pre .1 .long in
     let few = ports-le B (ok .size) in
@@ -170,8 +171,8 @@ slice-read-old c =
     let lc = at-start .pre .0 .3 in
     let lg : g < maxGroups = (let f = ok .few-groups in omega arith) in
     let on : enabled t st (maxGroups * T + g) ≡ true = switch-on T g lg t st lc (λ z. c .before .before .before .before .before .before .if1 .left (c .before .before .before .before .before .before .before .group-at .ensures ∙ z)) in
-    let u = c .before .before .before .number .result in
-    let is : u ≡ target B t (maxGroups * T + g) = c .before .before .before .number .ensures ∙ c .before .before .before .before .wire-at .ensures ∙ ap (λ (q : ℕ). wireOf B (portOf T q)) (c .before .before .before .before .before .destination .ensures) ∙ switch-target T g lg B t in
+    let u = c .before .before .before .wide .result in
+    let is : u ≡ target B t (maxGroups * T + g) = c .before .before .before .wide .ensures ∙ c .before .before .before .before .wire-at .ensures ∙ ap (λ (q : ℕ). wireOf B (portOf T q)) (c .before .before .before .before .before .destination .ensures) ∙ switch-target T g lg B t in
     let lu : u < ports B = subst (λ (x : ℕ). x < ports B) (sym is) (switch-target-lt T g lg B t st ok lT on) in
     let n = at-start .pre .1 .long in
     let few = ports-le B (ok .size) in
@@ -191,8 +192,8 @@ mul-sources c =
     let lc = at-start .pre .0 .3 in
     let lg : g < maxGroups = (let f = ok .few-groups in omega arith) in
     let on : enabled t st (maxGroups * T + g) ≡ true = switch-on T g lg t st lc (λ z. c .before .before .before .before .before .before .before .if1 .left (c .before .before .before .before .before .before .before .before .group-at .ensures ∙ z)) in
-    let u = c .before .before .before .before .number .result in
-    let is : u ≡ target B t (maxGroups * T + g) = c .before .before .before .before .number .ensures ∙ c .before .before .before .before .before .wire-at .ensures ∙ ap (λ (q : ℕ). wireOf B (portOf T q)) (c .before .before .before .before .before .before .destination .ensures) ∙ switch-target T g lg B t in
+    let u = c .before .before .before .before .wide .result in
+    let is : u ≡ target B t (maxGroups * T + g) = c .before .before .before .before .wide .ensures ∙ c .before .before .before .before .before .wire-at .ensures ∙ ap (λ (q : ℕ). wireOf B (portOf T q)) (c .before .before .before .before .before .before .destination .ensures) ∙ switch-target T g lg B t in
     let lu : u < ports B = subst (λ (x : ℕ). x < ports B) (sym is) (switch-target-lt T g lg B t st ok lT on) in
     let n = at-start .pre .1 .long in
     let few = ports-le B (ok .size) in
@@ -212,8 +213,8 @@ slice-write-sources c =
     let lc = at-start .pre .0 .3 in
     let lg : g < maxGroups = (let f = ok .few-groups in omega arith) in
     let on : enabled t st (maxGroups * T + g) ≡ true = switch-on T g lg t st lc (λ z. c .before .before .before .before .before .before .before .if1 .left (c .before .before .before .before .before .before .before .before .group-at .ensures ∙ z)) in
-    let u = c .before .before .before .before .number .result in
-    let is : u ≡ target B t (maxGroups * T + g) = c .before .before .before .before .number .ensures ∙ c .before .before .before .before .before .wire-at .ensures ∙ ap (λ (q : ℕ). wireOf B (portOf T q)) (c .before .before .before .before .before .before .destination .ensures) ∙ switch-target T g lg B t in
+    let u = c .before .before .before .before .wide .result in
+    let is : u ≡ target B t (maxGroups * T + g) = c .before .before .before .before .wide .ensures ∙ c .before .before .before .before .before .wire-at .ensures ∙ ap (λ (q : ℕ). wireOf B (portOf T q)) (c .before .before .before .before .before .before .destination .ensures) ∙ switch-target T g lg B t in
     let lu : u < ports B = subst (λ (x : ℕ). x < ports B) (sym is) (switch-target-lt T g lg B t st ok lT on) in
     let n = at-start .pre .1 .long in
     let few = ports-le B (ok .size) in
@@ -237,8 +238,8 @@ returns-2 c =
     let lg : g < maxGroups = (let f = ok .few-groups in omega arith) in
     let s = maxGroups * T + g in
     let on : enabled t st (maxGroups * T + g) ≡ true = switch-on T g lg t st lc (λ z. c .before .before .before .before .before .before .before .if1 .left (c .before .before .before .before .before .before .before .before .group-at .ensures ∙ z)) in
-    let u = c .before .before .before .before .number .result in
-    let is : u ≡ target B t (maxGroups * T + g) = c .before .before .before .before .number .ensures ∙ c .before .before .before .before .before .wire-at .ensures ∙ ap (λ (q : ℕ). wireOf B (portOf T q)) (c .before .before .before .before .before .before .destination .ensures) ∙ switch-target T g lg B t in
+    let u = c .before .before .before .before .wide .result in
+    let is : u ≡ target B t (maxGroups * T + g) = c .before .before .before .before .wide .ensures ∙ c .before .before .before .before .before .wire-at .ensures ∙ ap (λ (q : ℕ). wireOf B (portOf T q)) (c .before .before .before .before .before .before .destination .ensures) ∙ switch-target T g lg B t in
     let lu : u < ports B = subst (λ (x : ℕ). x < ports B) (sym is) (switch-target-lt T g lg B t st ok lT on) in
     let from : c .before .before .before .source .result ≡ sourceAt logicTile t g (groupOf st T g - 1) = c .before .before .before .source .ensures ∙ ap (λ (e : ℕ). sourceAt logicTile t g (e - 1)) (c .before .before .before .before .before .before .before .before .group-at .ensures) in
     let o : c .before .before .wire-at2 .result ≡ origin B t st (maxGroups * T + g) = c .before .before .wire-at2 .ensures ∙ ap (λ (q : ℕ). wireOf B (portOf T q)) from ∙ switch-origin T g lg B t st in
@@ -259,8 +260,8 @@ returns-3 c =
     let lg : g < maxGroups = (let f = ok .few-groups in omega arith) in
     let s = maxGroups * T + g in
     let on : enabled t st (maxGroups * T + g) ≡ true = switch-on T g lg t st lc (λ z. c .before .before .before .before .before .before .before .before .if1 .left (c .before .before .before .before .before .before .before .before .before .group-at .ensures ∙ z)) in
-    let u = c .before .before .before .before .before .number .result in
-    let is : u ≡ target B t (maxGroups * T + g) = c .before .before .before .before .before .number .ensures ∙ c .before .before .before .before .before .before .wire-at .ensures ∙ ap (λ (q : ℕ). wireOf B (portOf T q)) (c .before .before .before .before .before .before .before .destination .ensures) ∙ switch-target T g lg B t in
+    let u = c .before .before .before .before .before .wide .result in
+    let is : u ≡ target B t (maxGroups * T + g) = c .before .before .before .before .before .wide .ensures ∙ c .before .before .before .before .before .before .wire-at .ensures ∙ ap (λ (q : ℕ). wireOf B (portOf T q)) (c .before .before .before .before .before .before .before .destination .ensures) ∙ switch-target T g lg B t in
     let lu : u < ports B = subst (λ (x : ℕ). x < ports B) (sym is) (switch-target-lt T g lg B t st ok lT on) in
     sourced-next B t st T g (sourced-lower B t st s (a .low) _ (at-start .pre .1) u on is lu (c .before .if2 .left) (c .if3 .taken))
 
@@ -279,8 +280,8 @@ returns-4 c =
     let lg : g < maxGroups = (let f = ok .few-groups in omega arith) in
     let s = maxGroups * T + g in
     let on : enabled t st (maxGroups * T + g) ≡ true = switch-on T g lg t st lc (λ z. c .before .before .before .before .before .before .before .before .if1 .left (c .before .before .before .before .before .before .before .before .before .group-at .ensures ∙ z)) in
-    let u = c .before .before .before .before .before .number .result in
-    let is : u ≡ target B t (maxGroups * T + g) = c .before .before .before .before .before .number .ensures ∙ c .before .before .before .before .before .before .wire-at .ensures ∙ ap (λ (q : ℕ). wireOf B (portOf T q)) (c .before .before .before .before .before .before .before .destination .ensures) ∙ switch-target T g lg B t in
+    let u = c .before .before .before .before .before .wide .result in
+    let is : u ≡ target B t (maxGroups * T + g) = c .before .before .before .before .before .wide .ensures ∙ c .before .before .before .before .before .before .wire-at .ensures ∙ ap (λ (q : ℕ). wireOf B (portOf T q)) (c .before .before .before .before .before .before .before .destination .ensures) ∙ switch-target T g lg B t in
     let lu : u < ports B = subst (λ (x : ℕ). x < ports B) (sym is) (switch-target-lt T g lg B t st ok lT on) in
     sourced-next B t st T g (sourced-higher B t st s (a .low) _ (at-start .pre .1) u on is lu (c .before .if2 .left) (c .if3 .left))
 
@@ -291,10 +292,12 @@ take-switch-spec =
     group-at-requires
     returns
     destination-requires
+    cast-wire-at
     wire-at-requires
-    number-requires
+    wide-requires
     sub-source
     source-requires
+    cast-wire-at-2
     wire-at-requires-2
     add-source
     mul-old

@@ -12,44 +12,44 @@ mul-q c = search needs
 add-q : tie.Need-add-q
 add-q c = search needs
 
-port-wire-requires : tie.Need-port-wire-requires
-port-wire-requires c κs = search needs
+wire-at-requires : tie.Need-wire-at-requires
+wire-at-requires c κs = search needs
 
-add-port-wire : tie.Need-add-port-wire
-add-port-wire c = search needs
+add-wire-at : tie.Need-add-wire-at
+add-wire-at c = search needs
 
-port-wire-requires-2 : tie.Need-port-wire-requires-2
-port-wire-requires-2 c κs = search needs
+wire-at-requires-2 : tie.Need-wire-at-requires-2
+wire-at-requires-2 c κs = search needs
 
-add-port-wire-2 : tie.Need-add-port-wire-2
-add-port-wire-2 c = search needs
+add-wire-at-2 : tie.Need-add-wire-at-2
+add-wire-at-2 c = search needs
 
-port-wire-requires-3 : tie.Need-port-wire-requires-3
-port-wire-requires-3 c κs = search needs
+wire-at-requires-3 : tie.Need-wire-at-requires-3
+wire-at-requires-3 c κs = search needs
 
-add-port-wire-3 : tie.Need-add-port-wire-3
-add-port-wire-3 c = search needs
+add-wire-at-3 : tie.Need-add-wire-at-3
+add-wire-at-3 c = search needs
 
-port-wire-requires-4 : tie.Need-port-wire-requires-4
-port-wire-requires-4 c κs = search needs
+wire-at-requires-4 : tie.Need-wire-at-requires-4
+wire-at-requires-4 c κs = search needs
 
 cell-at-requires : tie.Need-cell-at-requires
 cell-at-requires c κs = search needs
 
 returns : tie.Need-returns
 returns c =
-    let at-port-wire4 = c .before in
-    let at-port-wire3 = c .before .before in
-    let at-port-wire2 = c .before .before .before in
-    let at-port-wire = c .before .before .before .before in
+    let at-wire-at4 = c .before in
+    let at-wire-at3 = c .before .before in
+    let at-wire-at2 = c .before .before .before in
+    let at-wire-at = c .before .before .before .before in
     let at-start = c .before .before .before .before .before .before .before in
     let a = at-start .args in
-    let in0 = at-port-wire .port-wire .ensures ∙ in-first (a .b) (a .tile) (a .i) in
+    let in0 = at-wire-at .wire-at .ensures ∙ in-first (a .b) (a .tile) (a .i) in
     let table = ap (λ (cell : Cell). cell .table) (c .cell-at .ensures) in
-    rw (in0, at-port-wire2 .port-wire2 .ensures, at-port-wire3 .port-wire3 .ensures, at-port-wire4 .port-wire4 .ensures, table)
+    rw (in0, at-wire-at2 .wire-at2 .ensures, at-wire-at3 .wire-at3 .ensures, at-wire-at4 .wire-at4 .ensures, table)
 
 pub lookup-row-spec : {M : Type 1} → statement M
 lookup-row-spec =
     tie.close
-    (tie.spec mul-q add-q port-wire-requires add-port-wire port-wire-requires-2 add-port-wire-2 port-wire-requires-3 add-port-wire-3
-    port-wire-requires-4 cell-at-requires returns)
+    (tie.spec mul-q add-q wire-at-requires add-wire-at wire-at-requires-2 add-wire-at-2 wire-at-requires-3 add-wire-at-3
+    wire-at-requires-4 cell-at-requires returns)

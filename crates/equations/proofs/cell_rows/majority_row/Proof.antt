@@ -13,36 +13,36 @@ mul-q c = search needs
 add-q : tie.Need-add-q
 add-q c = search needs
 
-add-port-wire : tie.Need-add-port-wire
-add-port-wire c = search needs
+add-wire-at : tie.Need-add-wire-at
+add-wire-at c = search needs
 
-port-wire-requires : tie.Need-port-wire-requires
-port-wire-requires c κs = search needs
+wire-at-requires : tie.Need-wire-at-requires
+wire-at-requires c κs = search needs
 
-add-port-wire-2 : tie.Need-add-port-wire-2
-add-port-wire-2 c = search needs
+add-wire-at-2 : tie.Need-add-wire-at-2
+add-wire-at-2 c = search needs
 
-port-wire-requires-2 : tie.Need-port-wire-requires-2
-port-wire-requires-2 c κs = search needs
+wire-at-requires-2 : tie.Need-wire-at-requires-2
+wire-at-requires-2 c κs = search needs
 
 carry-port-requires : tie.Need-carry-port-requires
 carry-port-requires c κs = search needs
 
-port-wire-requires-3 : tie.Need-port-wire-requires-3
-port-wire-requires-3 c κs = search needs
+wire-at-requires-3 : tie.Need-wire-at-requires-3
+wire-at-requires-3 c κs = search needs
 
 returns : tie.Need-returns
 returns c =
     let at-carry-port = c .before in
-    let at-port-wire2 = c .before .before in
-    let at-port-wire = c .before .before .before in
+    let at-wire-at2 = c .before .before in
+    let at-wire-at = c .before .before .before in
     let at-start = c .before .before .before .before .before .before in
     let a = at-start .args in
-    let carry = c .port-wire3 .ensures ∙ ap (λ (q : ℕ). wireOf (a .b) (portOf (a .tile) q)) (at-carry-port .carry-port .ensures .0) in
-    rw (at-port-wire .port-wire .ensures, at-port-wire2 .port-wire2 .ensures, carry)
+    let carry = c .wire-at3 .ensures ∙ ap (λ (q : ℕ). wireOf (a .b) (portOf (a .tile) q)) (at-carry-port .carry-port .ensures .0) in
+    rw (at-wire-at .wire-at .ensures, at-wire-at2 .wire-at2 .ensures, carry)
 
 pub majority-row-spec : {M : Type 1} → statement M
 majority-row-spec =
     tie.close
-    (tie.spec mul-q add-q add-port-wire port-wire-requires add-port-wire-2 port-wire-requires-2 carry-port-requires
-    port-wire-requires-3 returns)
+    (tie.spec mul-q add-q add-wire-at wire-at-requires add-wire-at-2 wire-at-requires-2 carry-port-requires
+    wire-at-requires-3 returns)

@@ -26,8 +26,8 @@ returns c =
 setting-at-requires-2 : tie.Need-setting-at-requires-2
 setting-at-requires-2 c κs = search needs
 
-port-wire-requires : tie.Need-port-wire-requires
-port-wire-requires c κs = search needs
+wire-at-requires : tie.Need-wire-at-requires
+wire-at-requires c κs = search needs
 
 plain-row-requires-2 : tie.Need-plain-row-requires-2
 plain-row-requires-2 c κs = search needs
@@ -35,14 +35,14 @@ plain-row-requires-2 c κs = search needs
 -- switched
 returns-2 : tie.Need-returns-2
 returns-2 c =
-    let at-port-wire = c .before in
+    let at-wire-at = c .before in
     let at-if2 = c .before .before in
     let at-setting-at2 = c .before .before .before in
     let at-if1 = c .before .before .before .before in
     let at-setting-at = c .before .before .before .before .before in
     let at-start = c .before .before .before .before .before .before .before .before in
     let a = at-start .args in
-    c .plain-row2 .ensures ∙ ap (plainRow copyKind (a .w)) (at-port-wire .port-wire .ensures)
+    c .plain-row2 .ensures ∙ ap (plainRow copyKind (a .w)) (at-wire-at .wire-at .ensures)
     ∙ sym
     (chain-row (a .b) (a .st .now) (a .w) (a .tile) (ne-eqb _ _ (λ e. at-if1 .if1 .left (at-setting-at .setting-at .ensures ∙ e)))
     (eq-eqb _ _ (sym (at-setting-at2 .setting-at2 .ensures) ∙ at-if2 .if2 .taken)))
@@ -67,5 +67,5 @@ returns-3 c =
 pub mux-row-spec : {M : Type 1} → statement M
 mux-row-spec =
     tie.close
-    (tie.spec setting-at-requires plain-row-requires returns setting-at-requires-2 port-wire-requires plain-row-requires-2 returns-2
+    (tie.spec setting-at-requires plain-row-requires returns setting-at-requires-2 wire-at-requires plain-row-requires-2 returns-2
     plain-row-requires-3 returns-3)

@@ -1,32 +1,28 @@
-// The lent settings and the map of wires, read by tile.
+// The settings of a block and the map of its wires, read by tile.
 ghost use mathlib.Core.Path.{_≡_};
 ghost use Prim.Native.Nat.{_<_};
 ghost use Rattle.fabric.specs.Block.{ports, portOf};
 ghost use Rattle.fabric.specs.Wire.{wireOf, wiresOf};
 ghost use Rattle.cell.specs.Settings.{cellOf};
+ghost use Rattle.routing.specs.LogicTile.{logicTile};
 ghost use Rattle.routing.specs.Table.{maxGroups};
-ghost use Rattle.equations.specs.Tiles.{groupOf, tableOf, flagsAt};
-ghost use Rattle.drivers.specs.Maps.{TileInside};
+ghost use Rattle.codec.specs.Settings.{settingsLength};
+ghost use Rattle.equations.specs.Tiles.{TileInside, settingOf, groupOf, tableOf, flagsAt};
 use cell::logic::Cell;
 use codec::cells::CELLS_FROM;
 use codec::settings::GROUPS_FROM;
 use codec::settings::SETTINGS_LENGTH;
 use fabric::Block;
+use netlist::row::wide;
 
 pub const PORTS_PER_TILE: usize = fabric::ports::PORTS_PER_TILE as usize;
 
-pub fn number(x: u16) -> usize
-    ensures { λ r. ⌜ r ≡ x ⌝ }
+// Number n of the settings of a tile.
+pub fn setting_at(st: &[u16], tile: usize, n: usize) -> u16
+    requires { ⌜ TileInside (now st) tile × (n < settingsLength logicTile) ⌝ }
+    ensures { λ r. ⌜ r ≡ settingOf (now (st .entry)) tile n ⌝ }
 {
-    x as usize
-}
-
-// The wire of port q of a tile.
-pub fn wire_at(b: Block, wires: &[u16], tile: usize, q: u16) -> u16
-    requires { ⌜ (now wires ≡ wiresOf b) × (portOf tile q < ports b) ⌝ }
-    ensures { λ r. ⌜ r ≡ wireOf b (portOf tile q) ⌝ }
-{
-    wires[PORTS_PER_TILE * tile + number(q)]
+    st[SETTINGS_LENGTH * tile + n]
 }
 
 // The setting of group g of a tile: 0 for off, else an entry from 1.
@@ -34,7 +30,7 @@ pub fn group_at(st: &[u16], tile: usize, g: usize) -> usize
     requires { ⌜ (g < maxGroups) × TileInside (now st) tile ⌝ }
     ensures { λ r. ⌜ r ≡ groupOf (now (st .entry)) tile g ⌝ }
 {
-    number(st[SETTINGS_LENGTH * tile + (GROUPS_FROM + g)])
+    wide(setting_at(st, tile, GROUPS_FROM + g))
 }
 
 // A cell's settings.
@@ -47,4 +43,12 @@ pub fn cell_at(st: &[u16], tile: usize, i: usize) -> Cell
         st[at + (CELLS_FROM + 2 * i)],
         st[at + (CELLS_FROM + 2 * i + 1)],
     )
+}
+
+// The wire of port q of a tile.
+pub fn wire_at(b: Block, wires: &[u16], tile: usize, q: u32) -> u16
+    requires { ⌜ (now wires ≡ wiresOf b) × (portOf tile q < ports b) ⌝ }
+    ensures { λ r. ⌜ r ≡ wireOf b (portOf tile q) ⌝ }
+{
+    wires[PORTS_PER_TILE * tile + q as usize]
 }

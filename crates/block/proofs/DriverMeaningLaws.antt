@@ -25,7 +25,7 @@ use Rattle.block.specs.declared.Followed.{Followed}
 use Rattle.block.specs.Lengths.{followLengths, FollowLong}
 use Rattle.block.specs.Building.{none}
 use Rattle.block.specs.Drivers.{portAnswer, settingsAnswer, followAnswer}
-use Rattle.block.specs.DriverMeaning.{Writable, FollowSays}
+use Rattle.block.specs.DriverMeaning.{Prepared, FollowSays}
 use Rattle.refusal.proofs.GroundsLaws.{unless-cases}
 use Rattle.block.proofs.LengthLaws.{follow-long-exact}
 use Rattle.block.proofs.RoutedLaws.{routed-of-fit}
@@ -36,7 +36,7 @@ module _ (w h : ℕ) (t st : List ℕ) (tile port wires sources marks : ℕ) whe
   Says = FollowSays w h t st tile port wires sources marks
 
   -- grounds 5 and 20, and where following ends
-  port-means : Writable w h t st tile port wires sources marks → Routed (block w h) t st → Says (portAnswer (block w h) t st tile port)
+  port-means : Prepared w h t st tile port wires sources marks → Routed (block w h) t st → Says (portAnswer (block w h) t st tile port)
   unfolding portAnswer
   port-means can ok =
       unless-cases Says (none (ports (block w h)) (contendedWire (block w h) t st)) _ _

@@ -39,7 +39,7 @@ module _ (w h : ℕ) (t st : List ℕ) (tile port wires sources marks : ℕ) whe
   Exact = FollowLong (tiles (block w h)) (length t) (length st) wires sources marks
 
   -- none of grounds 1, 2, 3 and 9
-  pub record Writable : Type 0 where
+  pub record Prepared : Type 0 where
     pub size : Sized (block w h)
     pub lengths : Exact
     pub rules : TableRules logicTile t
@@ -51,8 +51,8 @@ module _ (w h : ℕ) (t st : List ℕ) (tile port wires sources marks : ℕ) whe
   FollowRefusalSays Length = Sized (block w h) × (Exact → ⊥)
   FollowRefusalSays (Table part) = Sized (block w h) × Exact × FirstBroken logicTile t part
   FollowRefusalSays (NoSuchSettings T) = Sized (block w h) × Exact × TableRules logicTile t × LowestBitless t st (tiles (block w h)) T
-  FollowRefusalSays (Contention x) = Writable × LowestContention (block w h) t st x
-  FollowRefusalSays (OutOfRange number) = Writable × NoContention (block w h) t st × OutOfBlock (block w h) t st tile port number
+  FollowRefusalSays (Contention x) = Prepared × LowestContention (block w h) t st x
+  FollowRefusalSays (OutOfRange number) = Prepared × NoContention (block w h) t st × OutOfBlock (block w h) t st tile port number
   FollowRefusalSays (Undecodable T) = ⊥
   FollowRefusalSays (DisabledCarry x) = ⊥
   FollowRefusalSays (Loop x) = ⊥
@@ -62,5 +62,5 @@ module _ (w h : ℕ) (t st : List ℕ) (tile port wires sources marks : ℕ) whe
   FollowRefusalSays (Row row) = ⊥
 
   abbrev pub FollowSays : Followed → Type 0
-  FollowSays (Driven driver) = Writable × FollowedTo (block w h) t st tile port driver
+  FollowSays (Driven driver) = Prepared × FollowedTo (block w h) t st tile port driver
   FollowSays (Refused refusal) = FollowRefusalSays refusal

@@ -1,13 +1,13 @@
 -- An answer as one 64-bit number: the ground's number times 2 ^ 32 plus its place, or the value of a yes, whose number is 0.
 use Prim.Native.Nat.{ℕ, _+_, _*_, _/_, _^_}
 use Rattle.refusal.specs.declared.Answer.{Answer}
-use Rattle.refusal.specs.Grounds.{placeOf, answerNumber, answerValue}
+use Rattle.refusal.specs.Grounds.{answerNumber, answerValue}
 use Rattle.drivers.specs.declared.follow.Driver.{Driver}
 use Rattle.block.specs.declared.Built.{Built}
 use Rattle.block.specs.declared.Followed.{Followed}
 use Rattle.block.specs.declared.Followed.the-variants.{Driven, Refused}
 use Rattle.block.specs.Building.{builtNumber, builtValue}
-use Rattle.block.specs.Drivers.{followedNumber, driverKind, driverWire}
+use Rattle.block.specs.Drivers.{followedNumber, followedValue, driverKind, driverWire}
 
 abbrev pub packed : ℕ → ℕ → ℕ
 packed number value = number * 2 ^ 32 + value
@@ -27,9 +27,9 @@ packedBuilt answer = packed (builtNumber answer) (builtValue answer)
 abbrev pub driverCode : Driver → ℕ
 driverCode driver = driverKind driver * 2 ^ 16 + driverWire driver
 
-abbrev pub followedValue : Followed → ℕ
-followedValue (Driven driver) = driverCode driver
-followedValue (Refused refusal) = placeOf refusal
+abbrev pub followedCode : Followed → ℕ
+followedCode (Driven driver) = driverCode driver
+followedCode (Refused refusal) = followedValue (Refused refusal)
 
 abbrev pub packedFollowed : Followed → ℕ
-packedFollowed answer = packed (followedNumber answer) (followedValue answer)
+packedFollowed answer = packed (followedNumber answer) (followedCode answer)

@@ -1,4 +1,5 @@
--- The bits of a tile in their lent form. Only this file, `src/bits.rt` and their laws know the form, and `bitsOf` (Encode.antt), which makes it.
+-- The bits of a tile in their lent form. Only this file, `src/bits.rt` and their laws know the form, `bitsOf` (Encode.antt), which makes it, and
+-- `take_byte` of `tile`, which goes through a tile byte by byte.
 use Prim.Native.Nat.{ℕ, zero, suc, _+_, _/_, _%_, _<_, _^_}
 use mathlib.Core.Bool.{Bool}
 use mathlib.Core.List.{List}

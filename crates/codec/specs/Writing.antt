@@ -1,4 +1,4 @@
--- A tile's bits while they are written, slot by slot: what the functions that fill them promise each other.
+-- A tile's bits while they are written, slot by slot: what the functions of `tile` that fill them promise each other.
 use Prim.Native.Nat.{ℕ, _<_}
 use mathlib.Core.Path.{_≡_}
 use mathlib.Core.Logic.{_≢_}

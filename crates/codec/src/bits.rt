@@ -1,4 +1,4 @@
-// The bits of a tile, by position. Only this file knows in which form they are lent (specs/Bits.antt).
+// The bits of a tile, by position. In which form they are lent is for specs/Bits.antt to say, and who knows it.
 ghost use mathlib.Core.Path.{_≡_};
 ghost use Prim.Native.Nat.{_+_, _/_, _%_, _<_, _≤_};
 ghost use lib.ListN.{length};

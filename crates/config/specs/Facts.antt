@@ -1,4 +1,5 @@
--- What the grounds of `read` and `write` say, and what a yes says, sentence by sentence (document 01, 'Grounds for a no').
+-- What the grounds of `read` and `write` say, and what a yes says, sentence by sentence (document 01, 'Grounds for a no'). `LowestBitless`, ground 9,
+-- serves `follow` and `step` too.
 use Prim.Native.Nat.{ℕ, _*_, _<_}
 use mathlib.Core.Path.{_≡_}
 use mathlib.Core.List.{List}
@@ -18,7 +19,7 @@ pub record ExactLengths (n table bits settings : ℕ) : Type 0 where
   pub bits-long : bits ≡ tileBytes * n
   pub settings-long : settings ≡ settingsLength logicTile * n
 
--- the grounds that every call with a table checks first; `bits` and `settings` are lengths
+-- the grounds that `read` and `write` check first; `bits` and `settings` are lengths
 module _ (w h : ℕ) (table : List ℕ) (bits settings : ℕ) where
   -- "1: W or H not 1 to 8"
   abbrev pub NoSize : Type 0

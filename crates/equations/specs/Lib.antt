@@ -5,6 +5,6 @@ pub mod Equations  -- Meets: every equation, sentence by sentence; ReadsWire, De
 pub mod DisabledCarry  -- ground 6: a disabled carry output that is read
 pub mod Drives  -- driveOf: what drives a wire where no switch does
 pub mod WireRows  -- rowOf: the row of each wire, computed
-pub mod Sources  -- wiresOf, sourcesOf, contendedWire: maps that a pass over the switches computes
+pub mod Sources  -- sourcesOf, contendedWire: maps that a pass over the switches computes
 pub mod Routed  -- what the checks of table and settings show
 pub mod Settling  -- Settles: running the list of a block gives the one choice of values that its equations allow

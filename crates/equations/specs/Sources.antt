@@ -1,4 +1,4 @@
--- Maps over a block's ports: the wire of each, and for each wire where its switch comes from; the rows by that map; and the lowest wire with two
+-- A map over a block's ports: for each wire where its switch comes from; the rows by that map; and the lowest wire with two
 -- switches. A pass over the switches in their order computes map and lowest wire (`Sourced`).
 use Prim.Native.Nat.{ℕ, zero, suc, _+_, _-_, _<_}
 use mathlib.Core.Path.{_≡_}

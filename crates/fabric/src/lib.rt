@@ -2,7 +2,7 @@
 // joins make one wire, and the number of a wire. Nothing here knows of routing tables, settings or values.
 //
 // `wire_number` takes any input. The other functions ask for a block of a right size and a port of it. The contracts cite
-// specs/, and callers cite the laws of proofs/PortLaws.antt and proofs/WireLaws.antt.
+// specs/, and callers cite laws of proofs/, most of all BlockLaws.antt and WireLaws.antt; proofs/Lib.antt lists them.
 ghost use mathlib.Core.Path.{_≡_};
 ghost use Rattle.fabric.specs.Block.{block, portOf, sized};
 ghost use Rattle.fabric.specs.WireNumber.{wireNumber, IsWire};

@@ -8,7 +8,7 @@ use mathlib.Core.List.{List}
 use lib.Dec.{eqb, leb}
 use lib.ListN.{length}
 use Rattle.lists.specs.Search.{first}
-use Rattle.refusal.specs.Grounds.{unless, numberOf}
+use Rattle.refusal.specs.Grounds.{unless, numberOf, placeOf}
 use Rattle.refusal.specs.declared.Refusal.the-variants.{Size, Line}
 use Rattle.frames.specs.Hex.{pairAt}
 use Rattle.frames.specs.Lines.{fieldsLine, passiveCount, passiveLine, groupDigits, groupLine, sizeLine, tileLine}
@@ -70,3 +70,8 @@ parsed s =
 abbrev pub parsedNumber : Parsed → ℕ
 parsedNumber (Block w h) = 0
 parsedNumber (Refused refusal) = numberOf refusal
+
+-- the place that comes with it in a frame 08; a yes has w and h, and frame 08 says 0
+abbrev pub parsedPlace : Parsed → ℕ
+parsedPlace (Block w h) = 0
+parsedPlace (Refused refusal) = placeOf refusal

@@ -111,7 +111,8 @@ fn find_loop(rows: &[u16], marks: &mut [u16], queue: &mut [u16], listed: &[u16])
     search_loop(rows, marks, queue, listed)
 }
 
-// The same, from the marks as `list_wires` leaves them; `listed` is a room for what they say of listed wires.
+// The same, from marks that are 1 where a wire is listed and may say something else elsewhere (`onlyListed`); `listed` is a room for what they
+// say of listed wires.
 // Rules out: a wire that only hangs on a loop; a loop's highest wire.
 pub fn lowest_loop(rows: &[u16], marks: &mut [u16], queue: &mut [u16], listed: &mut [u16]) -> usize
     requires { ⌜ length (now rows) ≡ rowLength * length (now marks) ⌝ }

@@ -3,8 +3,8 @@ ghost use mathlib.Core.Path.{_≡_};
 ghost use lib.ListN.{length};
 ghost use Rattle.netlist.specs.Marks.{onlyListed};
 
-// Writes which wires are listed: who waits for whom is left out.
-// Rules out: a wire that others wait for taken for a listed one.
+// Writes which wires are listed: what else a mark may say is left out.
+// Rules out: a wire with another mark taken for a listed one.
 pub fn write_listed(marks: &[u16], listed: &mut [u16])
     requires { ⌜ length (now listed) ≡ length (now marks) ⌝ }
     ensures { λ r. ⌜ now (listed .exit) ≡ onlyListed (now (marks .entry)) ⌝ }

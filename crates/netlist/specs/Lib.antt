@@ -7,4 +7,4 @@ pub mod Kinds  -- the seven kinds of rows
 pub mod Rows  -- rowAt, operandOf, arityOf, graphOf, rowsOf: a row as a record, and a list as its rows
 pub mod OrderedRows  -- listOf: the list of the rows in order
 pub mod Running  -- rowValue, runFrom, RowFits: what rows give
-pub mod Checking  -- RowGood, FirstBad and the test that computes them: ground 12
+pub mod Checking  -- RowGood, RowStands, FirstBad and the test that computes them: ground 12

@@ -2,17 +2,16 @@
 use Prim.Native.Nat.{ℕ, _*_}
 use mathlib.Core.Bool.{true}
 use mathlib.Core.List.{List, _++_}
-use Rattle.refusal.specs.Grounds.{numberOf, placeOf}
 use Rattle.fabric.specs.declared.Block.{Block}
 use Rattle.fabric.specs.Block.{block, tiles, portsPerTile}
 use Rattle.config.specs.Blocks.{decoded}
 use Rattle.equations.specs.Sources.{sourcesOf}
 use Rattle.block.specs.declared.Built.{Built}
 use Rattle.block.specs.declared.Built.the-variants as built
-use Rattle.block.specs.Building.{buildAnswer}
+use Rattle.block.specs.Building.{builtNumber, builtValue, buildAnswer}
 use Rattle.frames.specs.declared.input.Parsed.{Parsed}
 use Rattle.frames.specs.declared.input.Parsed.the-variants as parse
-use Rattle.frames.specs.Input.{parsed}
+use Rattle.frames.specs.Input.{parsed, parsedNumber, parsedPlace}
 use Rattle.frames.specs.Contents.{bitsOf}
 use Rattle.frames.specs.Contents as contents
 use Rattle.lines.specs.Lines.{answerLine}
@@ -32,7 +31,7 @@ acceptedLines B t st = linesOf (sourcesOf B t st) st (tiles B)
 -- "After a no only the 08 line is printed."
 abbrev pub builtLines : Block → List ℕ → List ℕ → Built → List ℕ
 builtLines B t st (built.Listed rows) = acceptedLines B t st
-builtLines B t st (built.Refused refusal) = answerLine (numberOf refusal) (placeOf refusal)
+builtLines B t st (built.Refused refusal) = answerLine (builtNumber (built.Refused refusal)) (builtValue (built.Refused refusal))
 
 -- the report of a block's bits; every lent length is exact
 unfoldable pub blockLines : ℕ → ℕ → List ℕ → List ℕ → List ℕ
@@ -40,7 +39,7 @@ blockLines w h t bits = builtLines (block w h) t (decoded t bits (tiles (block w
 
 abbrev pub parsedLines : List ℕ → Parsed → List ℕ
 parsedLines s (parse.Block w h) = blockLines w h (contents.tableOf s) (bitsOf s (h * w))
-parsedLines s (parse.Refused refusal) = answerLine (numberOf refusal) (placeOf refusal)
+parsedLines s (parse.Refused refusal) = answerLine (parsedNumber (parse.Refused refusal)) (parsedPlace (parse.Refused refusal))
 
 -- the whole report
 unfoldable pub reportOf : List ℕ → List ℕ

@@ -24,7 +24,7 @@ use Rattle.config.proofs.BlocksLaws.{bitless-lowest, none-bitless}
 use Rattle.stepper.specs.Settling.{wireMarks, badRow}
 use Rattle.stepper.proofs.SettledLaws.{marks-length}
 use Rattle.sim.specs.Stepping.{aboveOne, badByte, stepLengths, runAnswer, inputsAnswer, stepAnswer}
-use Rattle.sim.specs.Meaning.{FirstAbove, Exact, Writable, Stands, StepSays}
+use Rattle.sim.specs.Meaning.{FirstAbove, Exact, Prepared, Stands, StepSays}
 use Rattle.sim.proofs.ByteLaws.{bits-of-joined}
 use Rattle.sim.proofs.LengthLaws.{step-lengths-exact}
 
@@ -48,7 +48,7 @@ module _ (w h : ℕ) (t st list state before after : List ℕ) (values next wire
       (first-bad-exact list (8 * tiles (block w h)) (wireMarks (block w h)))
 
   -- grounds 12 and 10
-  run-means : Writable w h t st list state before after values next wires own marks first second
+  run-means : Prepared w h t st list state before after values next wires own marks first second
       → Says (runAnswer (block w h) list state before after)
   unfolding runAnswer
   run-means can =

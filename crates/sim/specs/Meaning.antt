@@ -31,13 +31,14 @@ module _ (w h : ℕ) (t st list state before after : List ℕ) (values next wire
       × RoomLong (tiles (block w h)) values next wires own marks first second
 
   -- none of grounds 1, 2, 3 and 9
-  pub record Writable : Type 0 where
+  pub record Prepared : Type 0 where
     pub size : Sized (block w h)
     pub lengths : Exact
     pub rules : TableRules logicTile t
     pub has-bits : (T : ℕ) → T < tiles (block w h) → HasBits t (settingsAt st T)
 
-  -- nor ground 12: every row may stand where it does
+  -- nor ground 12: every row may stand where it does. A block's wire is a port that is the lowest of its chain of joins (`wire-own-exact`,
+  -- fabric/proofs/WireLaws.antt).
   abbrev pub Stands : Type 0
   Stands = (i : ℕ) → i < ports (block w h) → RowStands list (8 * tiles (block w h)) (wireMarks (block w h)) i
 
@@ -47,8 +48,8 @@ module _ (w h : ℕ) (t st list state before after : List ℕ) (values next wire
   StepRefusalSays Length = Sized (block w h) × (Exact → ⊥)
   StepRefusalSays (Table part) = Sized (block w h) × Exact × FirstBroken logicTile t part
   StepRefusalSays (NoSuchSettings T) = Sized (block w h) × Exact × TableRules logicTile t × LowestBitless t st (tiles (block w h)) T
-  StepRefusalSays (Row row) = Writable × (row < ports (block w h)) × FirstBad list (8 * tiles (block w h)) (wireMarks (block w h)) (ports (block w h)) row
-  StepRefusalSays (NotABit index) = Writable × Stands × FirstAbove (state ++ before ++ after) index
+  StepRefusalSays (Row row) = Prepared × (row < ports (block w h)) × FirstBad list (8 * tiles (block w h)) (wireMarks (block w h)) (ports (block w h)) row
+  StepRefusalSays (NotABit index) = Prepared × Stands × FirstAbove (state ++ before ++ after) index
   StepRefusalSays (Undecodable T) = ⊥
   StepRefusalSays (Contention x) = ⊥
   StepRefusalSays (DisabledCarry x) = ⊥
@@ -57,7 +58,7 @@ module _ (w h : ℕ) (t st list state before after : List ℕ) (values next wire
   StepRefusalSays (Line line) = ⊥
   StepRefusalSays (OutOfRange number) = ⊥
 
-  -- a yes: none of them holds
+  -- a yes: none of them holds; what it writes is in the clauses `values` and `next`
   abbrev pub StepSays : Answer → Type 0
-  StepSays Done = Writable × Stands × Bits state × Bits before × Bits after
+  StepSays Done = Prepared × Stands × Bits state × Bits before × Bits after
   StepSays (Refused refusal) = StepRefusalSays refusal

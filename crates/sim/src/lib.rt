@@ -1,7 +1,7 @@
 // A step of a block (document 01, 'The list and a step') as a call that takes any input: the checks, then what `stepper` writes, which assumes them.
 //
-// `step` takes any input and has no `requires`; specs/Stepping.antt has the grounds in their order. It takes any list that ground 12
-// lets pass, the block's own or not. What a step means for a block's own list is the theorem of demand 3, above this crate.
+// `step` takes any input and has no `requires`; specs/Stepping.antt has the grounds in their order, specs/Meaning.antt what each answer
+// says. It takes any list that ground 12 lets pass, the block's own or not. What a step means for a block's own list is the theorem of demand 3, above this crate.
 ghost use mathlib.Core.Path.{_≡_};
 ghost use lib.ListN.{length};
 ghost use Rattle.refusal.specs.Grounds.{answerNumber};

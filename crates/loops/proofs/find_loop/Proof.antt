@@ -7,7 +7,7 @@ use lib.ListN.{length}
 use native.Mathlib.Omega.{arith}
 use mathlib.Core.List.{List}
 use mathlib.Core.Logic.{⊎-elim}
-use mathlib.Core.Path.{_≡_, sym, ap, subst}
+use mathlib.Core.Path.{_≡_, sym, ap, subst, _∙_}
 use Prim.Native.Nat.{ℕ, _<_}
 use borrow.Author.Needs.{needs}
 use Rattle.loops.proofs.find_loop.Statement.{statement}
@@ -62,10 +62,14 @@ first-level-requires c κs =
     let e = long at-marks in (omega (arith, at-start at-marks .pre .0), (closed at-marks, listed-long at-marks))
 
 same-length : tie.Need-same-length
-same-length c = search needs
+same-length c =
+    let at-rank-wires = c .before .before .before .before .before .before .before .before .before .before in
+    at-rank-wires .rank-wires .kept .1 .0
 
 same-length-2 : tie.Need-same-length-2
-same-length-2 c = search needs
+same-length-2 c =
+    let at-rank-wires = c .before .before .before .before .before .before .before .before .before .before in
+    at-rank-wires .rank-wires .kept .1 .1 .0
 
 -- no wire reads one of its own rank: none depends on itself
 returns : tie.Need-returns
@@ -103,10 +107,16 @@ depends-on-itself-requires c κs =
     )
 
 same-length-3 : tie.Need-same-length-3
-same-length-3 c = search needs
+same-length-3 c =
+    let at-depends-on-itself = c .before .before .before .before .before in
+    let at-rank-wires = at-depends-on-itself .before .before .before .before .before .before .before .before .before .before .before .before .before in
+    at-depends-on-itself .depends-on-itself .kept .1 .1 .0 ∙ at-rank-wires .rank-wires .kept .1 .0
 
 same-length-4 : tie.Need-same-length-4
-same-length-4 c = search needs
+same-length-4 c =
+    let at-depends-on-itself = c .before .before .before .before .before in
+    let at-rank-wires = at-depends-on-itself .before .before .before .before .before .before .before .before .before .before .before .before .before in
+    at-depends-on-itself .depends-on-itself .kept .1 .1 .1 .0 ∙ at-rank-wires .rank-wires .kept .1 .1 .0
 
 -- the lowest wire that reads one of its own rank depends on itself
 returns-2 : tie.Need-returns-2

@@ -34,13 +34,19 @@ find-loop-requires c κs =
     )
 
 same-length : tie.Need-same-length
-same-length c = search needs
+same-length c =
+    let at-find-loop = c .before .before .before .before in
+    at-find-loop .find-loop .kept .1 .0
 
 same-length-2 : tie.Need-same-length-2
-same-length-2 c = search needs
+same-length-2 c =
+    let at-find-loop = c .before .before .before .before in
+    at-find-loop .find-loop .kept .1 .1 .0
 
 same-length-3 : tie.Need-same-length-3
-same-length-3 c = search needs
+same-length-3 c =
+    let at-write-listed = c .before .before .before .before .before .before .before .before .before .before in
+    at-write-listed .write-listed .kept .1 .0
 
 returns : tie.Need-returns
 returns c = search needs

@@ -83,7 +83,9 @@ cast-t27 c =
     omega (arith, tiles-le (at-start .args .b) (at-start .pre .0 .0))
 
 same-length : tie.Need-same-length
-same-length c = search needs
+same-length c =
+    let at-read-block = c .before .before .before in
+    at-read-block .read-block .kept .1 .1 .1 .0
 
 -- a tile cannot be decoded
 returns-2 : tie.Need-returns-2
@@ -117,25 +119,39 @@ list-settings-requires c κs =
     (subst (λ (s : List ℕ). Routed B table s) (sym read) (routed-of-read B table bits (at-start .pre .0 .0) rules pass), at-start .pre .1)
 
 same-length-2 : tie.Need-same-length-2
-same-length-2 c = search needs
+same-length-2 c =
+    let at-list-settings = c .before .before .before .before .before .before .before .before .before .before .before .before in
+    at-list-settings .list-settings .kept .1 .1 .1 .0
 
 same-length-3 : tie.Need-same-length-3
-same-length-3 c = search needs
+same-length-3 c =
+    let at-read-block = c .before .before .before .before .before .before .before .before .before .before .before .before .before .before .before .before .before .before .before .before .before .before .before in
+    at-read-block .read-block .kept .1 .1 .1 .0
 
 same-length-4 : tie.Need-same-length-4
-same-length-4 c = search needs
+same-length-4 c =
+    let at-list-settings = c .before .before .before .before .before .before .before .before .before .before .before .before in
+    at-list-settings .list-settings .kept .1 .1 .1 .1 .0
 
 same-length-5 : tie.Need-same-length-5
-same-length-5 c = search needs
+same-length-5 c =
+    let at-list-settings = c .before .before .before .before .before .before .before .before .before .before .before .before in
+    at-list-settings .list-settings .kept .1 .1 .1 .1 .1 .0
 
 same-length-6 : tie.Need-same-length-6
-same-length-6 c = search needs
+same-length-6 c =
+    let at-list-settings = c .before .before .before .before .before .before .before .before .before .before .before .before in
+    at-list-settings .list-settings .kept .1 .1 .1 .1 .1 .1 .0
 
 same-length-7 : tie.Need-same-length-7
-same-length-7 c = search needs
+same-length-7 c =
+    let at-list-settings = c .before .before .before .before .before .before .before .before .before .before .before .before in
+    at-list-settings .list-settings .kept .1 .1 .1 .1 .1 .1 .1 .0
 
 same-length-8 : tie.Need-same-length-8
-same-length-8 c = search needs
+same-length-8 c =
+    let at-list-settings = c .before .before .before .before .before .before .before .before .before .before .before .before in
+    at-list-settings .list-settings .kept .1 .1 .1 .1 .1 .1 .1 .1 .0
 
 -- the answer for the settings that were read
 returns-3 : tie.Need-returns-3

@@ -98,13 +98,20 @@ cast-t31 c =
     omega arith
 
 same-length : tie.Need-same-length
-same-length c = search needs
+same-length c =
+    let at-schedule = c .before .before .before .before .before .before .before .before .before .before in
+    at-schedule .schedule .kept .1 .1 .1 .0
 
 same-length-2 : tie.Need-same-length-2
-same-length-2 c = search needs
+same-length-2 c =
+    let at-schedule = c .before .before .before .before .before .before .before .before .before .before in
+    let at-clocked-tile = at-schedule .before .before .before .before .before .before in
+    at-schedule .schedule .kept .1 .0 ∙ at-clocked-tile .clocked-tile .kept .1 .1 .1 .1 .0
 
 same-length-3 : tie.Need-same-length-3
-same-length-3 c = search needs
+same-length-3 c =
+    let at-schedule = c .before .before .before .before .before .before .before .before .before .before in
+    at-schedule .schedule .kept .1 .1 .0
 
 -- a clock from a cell
 returns : tie.Need-returns
@@ -167,13 +174,20 @@ cast-t38 c =
     omega (arith, listed .fits, room .queue-long)
 
 same-length-4 : tie.Need-same-length-4
-same-length-4 c = search needs
+same-length-4 c =
+    let at-schedule = c .before .before .before .before .before .before .before .before .before in
+    at-schedule .schedule .kept .1 .1 .1 .0
 
 same-length-5 : tie.Need-same-length-5
-same-length-5 c = search needs
+same-length-5 c =
+    let at-schedule = c .before .before .before .before .before .before .before .before .before in
+    let at-clocked-tile = at-schedule .before .before .before .before .before .before in
+    at-schedule .schedule .kept .1 .0 ∙ at-clocked-tile .clocked-tile .kept .1 .1 .1 .1 .0
 
 same-length-6 : tie.Need-same-length-6
-same-length-6 c = search needs
+same-length-6 c =
+    let at-schedule = c .before .before .before .before .before .before .before .before .before in
+    at-schedule .schedule .kept .1 .1 .0
 
 -- a loop
 returns-2 : tie.Need-returns-2
@@ -196,16 +210,25 @@ returns-2 c =
     (list-loop B table st (at-start .pre .0 .1) (at-start .pre .0 .2) _ (loop .1) (loop .0), refl)
 
 same-length-7 : tie.Need-same-length-7
-same-length-7 c = search needs
+same-length-7 c =
+    let at-schedule = c .before .before .before .before .before .before .before .before .before .before .before .before .before .before .before in
+    at-schedule .schedule .kept .1 .1 .1 .0
 
 same-length-8 : tie.Need-same-length-8
-same-length-8 c = search needs
+same-length-8 c =
+    let at-write-list = c .before .before in
+    at-write-list .write-list .kept .1 .1 .1 .1 .0
 
 same-length-9 : tie.Need-same-length-9
-same-length-9 c = search needs
+same-length-9 c =
+    let at-schedule = c .before .before .before .before .before .before .before .before .before .before .before .before .before .before .before in
+    let at-clocked-tile = at-schedule .before .before .before .before .before .before in
+    at-schedule .schedule .kept .1 .0 ∙ at-clocked-tile .clocked-tile .kept .1 .1 .1 .1 .0
 
 same-length-10 : tie.Need-same-length-10
-same-length-10 c = search needs
+same-length-10 c =
+    let at-schedule = c .before .before .before .before .before .before .before .before .before .before .before .before .before .before .before in
+    at-schedule .schedule .kept .1 .1 .0
 
 -- the list is written
 returns-3 : tie.Need-returns-3

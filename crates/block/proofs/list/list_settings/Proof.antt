@@ -2,7 +2,7 @@
 use Rattle.block.proofs.BuildingLaws.{list-contended}
 use Rattle.fabric.proofs.BlockLaws.{tiles-le}
 use native.Mathlib.Omega.{arith}
-use mathlib.Core.Path.{refl}
+use mathlib.Core.Path.{refl, _∙_}
 use borrow.Author.Needs.{needs}
 use Rattle.block.proofs.list.list_settings.Statement.{statement}
 use Rattle.block.proofs.list.list_settings.Tie as tie
@@ -20,10 +20,14 @@ cast-t20 c =
     omega (arith, tiles-le (at-start .args .b) (at-start .pre .0 .size), room .wires-long)
 
 same-length : tie.Need-same-length
-same-length c = search needs
+same-length c =
+    let at-fill-wires = c .before .before .before .before .before .before .before .before in
+    at-fill-wires .fill-wires .kept .1 .0
 
 same-length-2 : tie.Need-same-length-2
-same-length-2 c = search needs
+same-length-2 c =
+    let at-find-sources = c .before .before .before in
+    at-find-sources .find-sources .kept .1 .1 .1 .1 .0
 
 -- contention
 returns : tie.Need-returns
@@ -43,22 +47,35 @@ list-sources-requires c κs =
     ((at-start .pre .0, omega (arith, at-find-sources .find-sources .ensures .0, room .wires-long)), ((at-fill-wires .fill-wires .ensures, at-find-sources .find-sources .ensures .1), record { list-long = room .list-long; wires-long = omega (arith, room .wires-long); sources-long = omega (arith, room .sources-long); rows-long = room .rows-long; marks-long = room .marks-long; queue-long = room .queue-long }))
 
 same-length-3 : tie.Need-same-length-3
-same-length-3 c = search needs
+same-length-3 c =
+    let at-list-sources = c .before .before .before .before .before .before .before .before .before .before in
+    at-list-sources .list-sources .kept .1 .1 .1 .1 .1 .0
 
 same-length-4 : tie.Need-same-length-4
-same-length-4 c = search needs
+same-length-4 c =
+    let at-fill-wires = c .before .before .before .before .before .before .before .before .before .before .before .before .before .before .before .before .before .before .before .before .before .before .before .before .before in
+    at-fill-wires .fill-wires .kept .1 .0
 
 same-length-5 : tie.Need-same-length-5
-same-length-5 c = search needs
+same-length-5 c =
+    let at-list-sources = c .before .before .before .before .before .before .before .before .before .before in
+    let at-find-sources = at-list-sources .before .before .before .before .before .before .before .before .before .before in
+    at-list-sources .list-sources .kept .1 .1 .1 .1 .0 ∙ at-find-sources .find-sources .kept .1 .1 .1 .1 .0
 
 same-length-6 : tie.Need-same-length-6
-same-length-6 c = search needs
+same-length-6 c =
+    let at-list-sources = c .before .before .before .before .before .before .before .before .before .before in
+    at-list-sources .list-sources .kept .1 .1 .1 .1 .1 .1 .0
 
 same-length-7 : tie.Need-same-length-7
-same-length-7 c = search needs
+same-length-7 c =
+    let at-list-sources = c .before .before .before .before .before .before .before .before .before .before in
+    at-list-sources .list-sources .kept .1 .1 .1 .1 .1 .1 .1 .0
 
 same-length-8 : tie.Need-same-length-8
-same-length-8 c = search needs
+same-length-8 c =
+    let at-list-sources = c .before .before .before .before .before .before .before .before .before .before in
+    at-list-sources .list-sources .kept .1 .1 .1 .1 .1 .1 .1 .1 .0
 
 returns-2 : tie.Need-returns-2
 returns-2 c = search needs

@@ -30,10 +30,12 @@ cast-t20 c =
     omega (arith, tiles-le (at-start .args .b) (at-start .pre .0 .0 .size), room .wires-long)
 
 same-length : tie.Need-same-length
-same-length c = search needs
+same-length c = refl
 
 same-length-2 : tie.Need-same-length-2
-same-length-2 c = search needs
+same-length-2 c =
+    let at-write-rows = c .before .before .before .before .before in
+    at-write-rows .write-rows .kept .1 .1 .1 .1 .0
 
 -- a disabled carry is read
 returns : tie.Need-returns
@@ -59,19 +61,29 @@ list-rows-requires c κs =
     ((at-start .pre .0 .0, at-start .pre .0 .1, omega (arith, at-carry-read-wire .carry-read-wire .ensures, room .wires-long)), ((at-start .pre .1 .0 .0, at-start .pre .1 .0 .1, written), record { list-long = room .list-long; wires-long = room .wires-long; sources-long = room .sources-long; rows-long = omega (arith, room .rows-long); marks-long = room .marks-long; queue-long = room .queue-long }))
 
 same-length-3 : tie.Need-same-length-3
-same-length-3 c = search needs
+same-length-3 c =
+    let at-list-rows = c .before .before .before .before .before .before .before .before in
+    at-list-rows .list-rows .kept .1 .1 .1 .1 .0
 
 same-length-4 : tie.Need-same-length-4
-same-length-4 c = search needs
+same-length-4 c =
+    let at-list-rows = c .before .before .before .before .before .before .before .before in
+    at-list-rows .list-rows .kept .1 .1 .1 .1 .1 .1 .0
 
 same-length-5 : tie.Need-same-length-5
-same-length-5 c = search needs
+same-length-5 c =
+    let at-write-rows = c .before .before .before .before .before .before .before .before .before .before .before .before .before .before .before .before .before .before .before in
+    at-write-rows .write-rows .kept .1 .1 .1 .1 .0
 
 same-length-6 : tie.Need-same-length-6
-same-length-6 c = search needs
+same-length-6 c =
+    let at-list-rows = c .before .before .before .before .before .before .before .before in
+    at-list-rows .list-rows .kept .1 .1 .1 .1 .1 .1 .1 .0
 
 same-length-7 : tie.Need-same-length-7
-same-length-7 c = search needs
+same-length-7 c =
+    let at-list-rows = c .before .before .before .before .before .before .before .before in
+    at-list-rows .list-rows .kept .1 .1 .1 .1 .1 .1 .1 .1 .0
 
 returns-2 : tie.Need-returns-2
 returns-2 c = search needs

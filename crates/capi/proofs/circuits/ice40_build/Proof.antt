@@ -17,25 +17,39 @@ pack-built-requires : tie.Need-pack-built-requires
 pack-built-requires c κs = search needs
 
 same-length : tie.Need-same-length
-same-length c = search needs
+same-length c =
+    let at-build = c .before .before .before .before .before .before .before .before .before .before .before .before .before .before .before in
+    at-build .build .kept .1 .1 .1 .1 .0
 
 same-length-2 : tie.Need-same-length-2
-same-length-2 c = search needs
+same-length-2 c =
+    let at-build = c .before .before .before .before .before .before .before .before .before .before .before .before .before .before .before in
+    at-build .build .kept .1 .1 .1 .1 .1 .0
 
 same-length-3 : tie.Need-same-length-3
-same-length-3 c = search needs
+same-length-3 c =
+    let at-build = c .before .before .before .before .before .before .before .before .before .before .before .before .before .before .before in
+    at-build .build .kept .1 .1 .1 .1 .1 .1 .0
 
 same-length-4 : tie.Need-same-length-4
-same-length-4 c = search needs
+same-length-4 c =
+    let at-build = c .before .before .before .before .before .before .before .before .before .before .before .before .before .before .before in
+    at-build .build .kept .1 .1 .1 .1 .1 .1 .1 .0
 
 same-length-5 : tie.Need-same-length-5
-same-length-5 c = search needs
+same-length-5 c =
+    let at-build = c .before .before .before .before .before .before .before .before .before .before .before .before .before .before .before in
+    at-build .build .kept .1 .1 .1 .1 .1 .1 .1 .1 .0
 
 same-length-6 : tie.Need-same-length-6
-same-length-6 c = search needs
+same-length-6 c =
+    let at-build = c .before .before .before .before .before .before .before .before .before .before .before .before .before .before .before in
+    at-build .build .kept .1 .1 .1 .1 .1 .1 .1 .1 .1 .0
 
 same-length-7 : tie.Need-same-length-7
-same-length-7 c = search needs
+same-length-7 c =
+    let at-build = c .before .before .before .before .before .before .before .before .before .before .before .before .before .before .before in
+    at-build .build .kept .1 .1 .1 .1 .1 .1 .1 .1 .1 .1 .0
 
 returns : tie.Need-returns
 returns c = (c .pack-built .ensures .0 ∙ ap packedBuilt (c .before .before .before .before .before .before .before .before .before .before .before .before .before .before .before .build .ensures .0), (c .before .before .before .before .before .before .before .before .before .before .before .before .before .before .before .build .ensures .1 .0 ∙ ap (λ (x : ℕ). output x (c .before .before .before .before .before .before .before .before .before .before .before .before .before .before .before .before .before .before .before .before .before .before .before .before .before .before .before .before .before .before .before .before .args .list .now) (blockList (block (c .before .before .before .before .before .before .before .before .before .before .before .before .before .before .before .before .before .before .before .before .before .before .before .before .before .before .before .before .before .before .before .before .args .w) (c .before .before .before .before .before .before .before .before .before .before .before .before .before .before .before .before .before .before .before .before .before .before .before .before .before .before .before .before .before .before .before .before .args .h)) (c .before .before .before .before .before .before .before .before .before .before .before .before .before .before .before .before .before .before .before .before .before .before .before .before .before .before .before .before .before .before .before .before .args .table .now) (decoded (c .before .before .before .before .before .before .before .before .before .before .before .before .before .before .before .before .before .before .before .before .before .before .before .before .before .before .before .before .before .before .before .before .args .table .now) (c .before .before .before .before .before .before .before .before .before .before .before .before .before .before .before .before .before .before .before .before .before .before .before .before .before .before .before .before .before .before .before .before .args .bits .now) (tiles (block (c .before .before .before .before .before .before .before .before .before .before .before .before .before .before .before .before .before .before .before .before .before .before .before .before .before .before .before .before .before .before .before .before .args .w) (c .before .before .before .before .before .before .before .before .before .before .before .before .before .before .before .before .before .before .before .before .before .before .before .before .before .before .before .before .before .before .before .before .args .h)))))) (sym (c .pack-built .ensures .1)), (c .before .before .before .before .before .before .before .before .before .before .before .before .before .before .before .build .ensures .1 .1 .0 ∙ ap (λ (x : ℕ). workRoom x (c .before .before .before .before .before .before .before .before .before .before .before .before .before .before .before .before .before .before .before .before .before .before .before .before .before .before .before .before .before .before .before .before .args .settings .now)) (sym (c .pack-built .ensures .1)), (c .before .before .before .before .before .before .before .before .before .before .before .before .before .before .before .build .ensures .1 .1 .1 .0 ∙ ap (λ (x : ℕ). workRoom x (c .before .before .before .before .before .before .before .before .before .before .before .before .before .before .before .before .before .before .before .before .before .before .before .before .before .before .before .before .before .before .before .before .args .wires .now)) (sym (c .pack-built .ensures .1)), (c .before .before .before .before .before .before .before .before .before .before .before .before .before .before .before .build .ensures .1 .1 .1 .1 .0 ∙ ap (λ (x : ℕ). workRoom x (c .before .before .before .before .before .before .before .before .before .before .before .before .before .before .before .before .before .before .before .before .before .before .before .before .before .before .before .before .before .before .before .before .args .sources .now)) (sym (c .pack-built .ensures .1)), (c .before .before .before .before .before .before .before .before .before .before .before .before .before .before .before .build .ensures .1 .1 .1 .1 .1 .0 ∙ ap (λ (x : ℕ). workRoom x (c .before .before .before .before .before .before .before .before .before .before .before .before .before .before .before .before .before .before .before .before .before .before .before .before .before .before .before .before .before .before .before .before .args .rows .now)) (sym (c .pack-built .ensures .1)), (c .before .before .before .before .before .before .before .before .before .before .before .before .before .before .before .build .ensures .1 .1 .1 .1 .1 .1 .0 ∙ ap (λ (x : ℕ). workRoom x (c .before .before .before .before .before .before .before .before .before .before .before .before .before .before .before .before .before .before .before .before .before .before .before .before .before .before .before .before .before .before .before .before .args .marks .now)) (sym (c .pack-built .ensures .1)), c .before .before .before .before .before .before .before .before .before .before .before .before .before .before .before .build .ensures .1 .1 .1 .1 .1 .1 .1 .0 ∙ ap (λ (x : ℕ). workRoom x (c .before .before .before .before .before .before .before .before .before .before .before .before .before .before .before .before .before .before .before .before .before .before .before .before .before .before .before .before .before .before .before .before .args .queue .now)) (sym (c .pack-built .ensures .1)))))))))

@@ -10,7 +10,7 @@ use native.Mathlib.Omega.{arith}
 use lib.ListN.{length}
 use Prim.Native.Nat.{ℕ}
 use mathlib.Core.List.{List}
-use mathlib.Core.Path.{_≡_, sym, subst}
+use mathlib.Core.Path.{_≡_, sym, subst, _∙_}
 use borrow.Author.Needs.{needs}
 use Rattle.scheduling.proofs.schedule.schedule.Statement.{statement}
 use Rattle.scheduling.proofs.schedule.schedule.Tie as tie
@@ -26,13 +26,19 @@ first-unlisted-requires : tie.Need-first-unlisted-requires
 first-unlisted-requires c κs = search needs
 
 same-length : tie.Need-same-length
-same-length c = search needs
+same-length c =
+    let at-list-wires = c .before .before .before .before .before .before .before .before .before in
+    at-list-wires .list-wires .kept .1 .0
 
 same-length-2 : tie.Need-same-length-2
-same-length-2 c = search needs
+same-length-2 c =
+    let at-list-wires = c .before .before .before .before .before .before .before .before .before in
+    at-list-wires .list-wires .kept .1 .1 .1 .0
 
 same-length-3 : tie.Need-same-length-3
-same-length-3 c = search needs
+same-length-3 c =
+    let at-list-wires = c .before .before .before .before .before .before .before .before .before in
+    at-list-wires .list-wires .kept .1 .1 .0
 
 -- all are listed
 returns : tie.Need-returns
@@ -62,13 +68,22 @@ lowest-loop-requires c κs =
     )
 
 same-length-4 : tie.Need-same-length-4
-same-length-4 c = search needs
+same-length-4 c =
+    let at-lowest-loop = c .before .before .before .before .before .before in
+    let at-list-wires = at-lowest-loop .before .before .before .before .before .before .before .before .before .before .before .before .before in
+    at-lowest-loop .lowest-loop .kept .1 .0 ∙ at-list-wires .list-wires .kept .1 .0
 
 same-length-5 : tie.Need-same-length-5
-same-length-5 c = search needs
+same-length-5 c =
+    let at-lowest-loop = c .before .before .before .before .before .before in
+    let at-list-wires = at-lowest-loop .before .before .before .before .before .before .before .before .before .before .before .before .before in
+    at-lowest-loop .lowest-loop .kept .1 .1 .0 ∙ at-list-wires .list-wires .kept .1 .1 .1 .0
 
 same-length-6 : tie.Need-same-length-6
-same-length-6 c = search needs
+same-length-6 c =
+    let at-lowest-loop = c .before .before .before .before .before .before in
+    let at-list-wires = at-lowest-loop .before .before .before .before .before .before .before .before .before .before .before .before .before in
+    at-lowest-loop .lowest-loop .kept .1 .1 .1 .0 ∙ at-list-wires .list-wires .kept .1 .1 .0
 
 -- one is left over
 returns-2 : tie.Need-returns-2

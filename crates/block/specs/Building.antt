@@ -12,6 +12,7 @@ use Rattle.netlist.specs.Rows.{graphOf}
 use Rattle.loops.specs.Loops.{loopWire}
 use Rattle.routing.specs.LogicTile.{logicTile}
 use Rattle.routing.specs.TableCheck.{faultyPart, tableOk}
+use Rattle.codec.specs.Bits.{TileBits}
 use Rattle.config.specs.Blocks.{undecodableTile, decoded}
 use Rattle.equations.specs.WireRows.{wireRows}
 use Rattle.equations.specs.Sources.{contendedWire, sourcesOf}
@@ -43,12 +44,12 @@ listAnswer B t st =
     (Listed (wires B)))))
 
 -- grounds 3 to 8
-unfoldable pub bitsAnswer : Block → List ℕ → List ℕ → Built
-bitsAnswer B t bits =
+unfoldable pub bitsAnswer : Block → List ℕ → (ℕ → TileBits) → Built
+bitsAnswer B t tile =
     unless (tableOk logicTile t) (Refused (Table (faultyPart logicTile t)))
-    (unless (none (tiles B) (undecodableTile t bits (tiles B))) (Refused (Undecodable (undecodableTile t bits (tiles B))))
-    (listAnswer B t (decoded t bits (tiles B))))
+    (unless (none (tiles B) (undecodableTile t tile (tiles B))) (Refused (Undecodable (undecodableTile t tile (tiles B))))
+    (listAnswer B t (decoded t tile (tiles B))))
 
 -- grounds 1 to 8; `lengths` is whether every lent length is the exact one
-unfoldable pub buildAnswer : ℕ → ℕ → List ℕ → List ℕ → Bool → Built
-buildAnswer w h t bits lengths = unless (sized (block w h)) (Refused Size) (unless lengths (Refused Length) (bitsAnswer (block w h) t bits))
+unfoldable pub buildAnswer : ℕ → ℕ → List ℕ → (ℕ → TileBits) → Bool → Built
+buildAnswer w h t tile lengths = unless (sized (block w h)) (Refused Size) (unless lengths (Refused Length) (bitsAnswer (block w h) t tile))

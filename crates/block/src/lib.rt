@@ -6,7 +6,7 @@ ghost use mathlib.Core.Path.{_≡_};
 ghost use lib.ListN.{length};
 ghost use Rattle.refusal.specs.Memory.{output, workRoom};
 ghost use Rattle.fabric.specs.Block.{block, tiles};
-ghost use Rattle.config.specs.Blocks.{decoded};
+ghost use Rattle.config.specs.Blocks.{decoded, tilesOf};
 ghost use Rattle.equations.specs.Settling.{blockList};
 ghost use Rattle.block.specs.Lengths.{buildLengths, followLengths};
 ghost use Rattle.block.specs.Building.{builtNumber, buildAnswer};
@@ -49,8 +49,8 @@ pub fn build(
     marks: &mut [u16],
     queue: &mut [u16],
 ) -> Built
-    ensures answer { λ r. ⌜ r ≡ buildAnswer w h (now (table .entry)) (now (bits .entry)) (buildLengths (tiles (block w h)) (length (now (table .entry))) (length (now (bits .entry))) (length (now (list .entry))) (length (now (settings .entry))) (length (now (wires .entry))) (length (now (sources .entry))) (length (now (rows .entry))) (length (now (marks .entry))) (length (now (queue .entry)))) ⌝ }
-    ensures list { λ r. ⌜ now (list .exit) ≡ output (builtNumber r) (now (list .entry)) (blockList (block w h) (now (table .entry)) (decoded (now (table .entry)) (now (bits .entry)) (tiles (block w h)))) ⌝ }
+    ensures answer { λ r. ⌜ r ≡ buildAnswer w h (now (table .entry)) (tilesOf (now (bits .entry))) (buildLengths (tiles (block w h)) (length (now (table .entry))) (length (now (bits .entry))) (length (now (list .entry))) (length (now (settings .entry))) (length (now (wires .entry))) (length (now (sources .entry))) (length (now (rows .entry))) (length (now (marks .entry))) (length (now (queue .entry)))) ⌝ }
+    ensures list { λ r. ⌜ now (list .exit) ≡ output (builtNumber r) (now (list .entry)) (blockList (block w h) (now (table .entry)) (decoded (now (table .entry)) (tilesOf (now (bits .entry))) (tiles (block w h)))) ⌝ }
     ensures settings { λ r. ⌜ now (settings .exit) ≡ workRoom (builtNumber r) (now (settings .entry)) ⌝ }
     ensures wires { λ r. ⌜ now (wires .exit) ≡ workRoom (builtNumber r) (now (wires .entry)) ⌝ }
     ensures sources { λ r. ⌜ now (sources .exit) ≡ workRoom (builtNumber r) (now (sources .entry)) ⌝ }

@@ -9,7 +9,7 @@ ghost use Rattle.routing.specs.LogicTile.{logicTile};
 ghost use Rattle.routing.specs.Table.{tableLength};
 ghost use Rattle.codec.specs.Bits.{tileBytes};
 ghost use Rattle.codec.specs.Settings.{settingsLength};
-ghost use Rattle.config.specs.Blocks.{decoded};
+ghost use Rattle.config.specs.Blocks.{decoded, tilesOf};
 ghost use Rattle.equations.specs.Routed.{Routed};
 ghost use Rattle.equations.specs.Sources.{sourcesOf, contendedWire};
 ghost use Rattle.equations.specs.WireRows.{wireRows};
@@ -126,8 +126,8 @@ pub fn list_bits(
 ) -> Built
     requires { ⌜ Sized b × (length (now table) ≡ tableLength logicTile) × (length (now bits) ≡ tileBytes * tiles b) × (length (now settings) ≡ settingsLength logicTile * tiles b) ⌝ }
     requires { ⌜ RoomLong (tiles b) (length (now list)) (length (now wires)) (length (now sources)) (length (now rows)) (length (now marks)) (length (now queue)) ⌝ }
-    ensures answer { λ r. ⌜ r ≡ bitsAnswer b (now (table .entry)) (now (bits .entry)) ⌝ }
-    ensures list { λ r. ⌜ now (list .exit) ≡ output (builtNumber r) (now (list .entry)) (blockList b (now (table .entry)) (decoded (now (table .entry)) (now (bits .entry)) (tiles b))) ⌝ }
+    ensures answer { λ r. ⌜ r ≡ bitsAnswer b (now (table .entry)) (tilesOf (now (bits .entry))) ⌝ }
+    ensures list { λ r. ⌜ now (list .exit) ≡ output (builtNumber r) (now (list .entry)) (blockList b (now (table .entry)) (decoded (now (table .entry)) (tilesOf (now (bits .entry))) (tiles b))) ⌝ }
 {
     let n = (b.h * b.w) as usize;
     let mut own = [0u16; POSITIONS];

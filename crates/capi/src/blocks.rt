@@ -4,7 +4,7 @@ ghost use lib.ListN.{length};
 ghost use Rattle.refusal.specs.Grounds.{answerNumber, answerValue};
 ghost use Rattle.refusal.specs.Memory.{output};
 ghost use Rattle.fabric.specs.Block.{block, tiles};
-ghost use Rattle.config.specs.Blocks.{decoded, encoded};
+ghost use Rattle.config.specs.Blocks.{decoded, encoded, tilesOf};
 ghost use Rattle.config.specs.Entry.{readAnswer, writeAnswer, bitCountAnswer, bitCountNumber, bitCountValue};
 ghost use Rattle.capi.specs.Packed.{packed, groundIn};
 use crate::pack;
@@ -20,7 +20,7 @@ pub extern "C" fn ice40_read(
     settings: &mut [u16],
 ) -> u64
     ensures answer { λ r. ⌜ r ≡ packed (answerNumber (readAnswer w h (now (table .entry)) (now (bits .entry)) (length (now (settings .entry))))) (answerValue (readAnswer w h (now (table .entry)) (now (bits .entry)) (length (now (settings .entry))))) ⌝ }
-    ensures settings { λ r. ⌜ now (settings .exit) ≡ output (groundIn r) (now (settings .entry)) (decoded (now (table .entry)) (now (bits .entry)) (tiles (block w h))) ⌝ }
+    ensures settings { λ r. ⌜ now (settings .exit) ≡ output (groundIn r) (now (settings .entry)) (decoded (now (table .entry)) (tilesOf (now (bits .entry))) (tiles (block w h))) ⌝ }
 {
     let a = config::read(w, h, table, bits, settings);
     pack::pack_answer(a)

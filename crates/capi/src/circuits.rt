@@ -3,7 +3,7 @@ ghost use mathlib.Core.Path.{_≡_};
 ghost use lib.ListN.{length};
 ghost use Rattle.refusal.specs.Memory.{output, workRoom};
 ghost use Rattle.fabric.specs.Block.{block, tiles};
-ghost use Rattle.config.specs.Blocks.{decoded};
+ghost use Rattle.config.specs.Blocks.{decoded, tilesOf};
 ghost use Rattle.equations.specs.Settling.{blockList};
 ghost use Rattle.block.specs.Lengths.{buildLengths, followLengths};
 ghost use Rattle.block.specs.Building.{builtNumber, buildAnswer};
@@ -32,8 +32,8 @@ pub extern "C" fn ice40_build(
     marks: &mut [u16],
     queue: &mut [u16],
 ) -> u64
-    ensures answer { λ r. ⌜ r ≡ packedBuilt (buildAnswer w h (now (table .entry)) (now (bits .entry)) (buildLengths (tiles (block w h)) (length (now (table .entry))) (length (now (bits .entry))) (length (now (list .entry))) (length (now (settings .entry))) (length (now (wires .entry))) (length (now (sources .entry))) (length (now (rows .entry))) (length (now (marks .entry))) (length (now (queue .entry))))) ⌝ }
-    ensures list { λ r. ⌜ now (list .exit) ≡ output (groundIn r) (now (list .entry)) (blockList (block w h) (now (table .entry)) (decoded (now (table .entry)) (now (bits .entry)) (tiles (block w h)))) ⌝ }
+    ensures answer { λ r. ⌜ r ≡ packedBuilt (buildAnswer w h (now (table .entry)) (tilesOf (now (bits .entry))) (buildLengths (tiles (block w h)) (length (now (table .entry))) (length (now (bits .entry))) (length (now (list .entry))) (length (now (settings .entry))) (length (now (wires .entry))) (length (now (sources .entry))) (length (now (rows .entry))) (length (now (marks .entry))) (length (now (queue .entry))))) ⌝ }
+    ensures list { λ r. ⌜ now (list .exit) ≡ output (groundIn r) (now (list .entry)) (blockList (block w h) (now (table .entry)) (decoded (now (table .entry)) (tilesOf (now (bits .entry))) (tiles (block w h)))) ⌝ }
     ensures settings { λ r. ⌜ now (settings .exit) ≡ workRoom (groundIn r) (now (settings .entry)) ⌝ }
     ensures wires { λ r. ⌜ now (wires .exit) ≡ workRoom (groundIn r) (now (wires .entry)) ⌝ }
     ensures sources { λ r. ⌜ now (sources .exit) ≡ workRoom (groundIn r) (now (sources .entry)) ⌝ }

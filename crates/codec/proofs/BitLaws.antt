@@ -170,8 +170,8 @@ bits-ext xs ys n bx by h = bits-in-ext unit (omega arith) xs ys n bx by h
 
 -- one byte more: its ones more
 pub bit-count-step : (bits : List ℕ) (i : ℕ) → getD bits i 0 < 2 ^ unit
-    → count (isSetAt bits) (unit * (i + 1)) ≡ count (isSetAt bits) (unit * i) + ones (getD bits i 0)
+    → count (isSetAt (bitAt bits)) (unit * (i + 1)) ≡ count (isSetAt (bitAt bits)) (unit * i) + ones (getD bits i 0)
 bit-count-step bits i h =
-    ap (count (isSetAt bits)) (let e : unit * (i + 1) ≡ i * unit + unit = omega arith in e)
+    ap (count (isSetAt (bitAt bits))) (let e : unit * (i + 1) ≡ i * unit + unit = omega arith in e)
     ∙ ones-in-step unit (omega arith) bits i h
-    ∙ ap (λ (x : ℕ). count (isSetAt bits) x + ones (getD bits i 0)) (let e : i * unit ≡ unit * i = omega arith in e)
+    ∙ ap (λ (x : ℕ). count (isSetAt (bitAt bits)) x + ones (getD bits i 0)) (let e : i * unit ≡ unit * i = omega arith in e)

@@ -14,7 +14,7 @@ use Rattle.routing.specs.Table.{maxPositions, fieldAt, passiveAt, groupCount, w
 use Rattle.routing.specs.Rules.{TableRules}
 use Rattle.routing.specs.Slots.{owner, slotsOf, slotAt, slotUsed, fieldSlots, passiveSlots, groupSlot, slotCount}
 use Rattle.routing.proofs.SlotLaws.{slot-cases}
-use Rattle.codec.specs.Bits.{tileBytes, bitAt, Bytes}
+use Rattle.codec.specs.Bits.{tileBytes, bitAt, Bytes, tileOf}
 use Rattle.codec.specs.Settings.{fieldSetting, passiveSetting, groupSetting, cellTable, cellFlags}
 use Rattle.codec.specs.Groups.{groupPattern, readGroup, patternOf}
 use Rattle.codec.specs.Cells.{cellValue, valueIn}
@@ -32,16 +32,16 @@ use Rattle.codec.proofs.DecodeLaws.{decode-field, decode-passive, decod
 use Rattle.codec.proofs.ListedLaws.{unlisted-exact}
 use Rattle.codec.proofs.FaultyLaws.{owner-unclaimed}
 
-module _ (table bits : List ℕ) (T : TableRules logicTile table) (D : Decodable table bits) where
+module _ (table bits : List ℕ) (T : TableRules logicTile table) (D : Decodable table (tileOf bits)) where
   abbrev S : List ℕ
-  S = decode table bits
+  S = decode table (bitAt bits)
 
   -- no group of decodable bits is unlisted, and no unclaimed bit is set
-  pub decodable-listed : (g : ℕ) → g < groupCount logicTile table → isUnlisted (readGroup logicTile table bits g) ≡ false
+  pub decodable-listed : (g : ℕ) → g < groupCount logicTile table → isUnlisted (readGroup logicTile table (bitAt bits) g) ≡ false
   decodable-listed g h =
       ⊎-elim (λ u. let n = unlisted-exact table bits g (T .groups g h) .0 u in absurd
       (D (positionAt logicTile table g 0) (unlisted g h (n .0) (n .1)))) (λ u. u)
-      (cases (isUnlisted (readGroup logicTile table bits g)))
+      (cases (isUnlisted (readGroup logicTile table (bitAt bits) g)))
 
   decodable-clear : (p : ℕ) → p < 864 → slotCount logicTile ≤ owner (slotsOf logicTile table) p → bitAt bits p ≡ 0
   decodable-clear p h l = go (bitAt bits p) refl (bit-lt bits p)
@@ -51,13 +51,13 @@ module _ (table bits : List ℕ) (T : TableRules logicTile table) (D : Decodable
       go (suc zero) e a = absurd (D p (stray p h (owner-unclaimed table T p l) e))
       go (suc (suc b)) e a = absurd (omega arith)
 
-  cell-value : (i : ℕ) → i < 8 → cellValue (cellTable logicTile S i) (cellFlags logicTile S i) ≡ valueIn bits i
+  cell-value : (i : ℕ) → i < 8 → cellValue (cellTable logicTile S i) (cellFlags logicTile S i) ≡ valueIn (bitAt bits) i
   cell-value i h = omega (arith, decode-table table bits i h, decode-flags table bits i h)
 
-  group-value : (g : ℕ) → g < groupCount logicTile table → patternOf logicTile table g (groupSetting logicTile S g) ≡ groupPattern logicTile table bits g
+  group-value : (g : ℕ) → g < groupCount logicTile table → patternOf logicTile table g (groupSetting logicTile S g) ≡ groupPattern logicTile table (bitAt bits) g
   group-value g h =
       ap (patternOf logicTile table g) (decode-group table bits g (omega (arith, T .few-groups)) h)
-      ∙ pattern-back logicTile table g (groupPattern logicTile table bits g) (decodable-listed g h)
+      ∙ pattern-back logicTile table g (groupPattern logicTile table (bitAt bits) g) (decodable-listed g h)
 
   -- a used slot's bit is what the settings put there
   held : (m w n : ℕ) (at : ℕ → ℕ) (v : ℕ) → Run (slotsOf logicTile table) (slotValue table S) m w n at v → v ≡ fromDigits (λ (k : ℕ). bitAt bits (at k)) n
@@ -85,6 +85,6 @@ module _ (table bits : List ℕ) (T : TableRules logicTile table) (D : Decodable
       P s = bitAt bits (slotAt logicTile table s) ≡ slotValue table S s
 
   -- bits that are read are written back the same
-  pub bits-back : length bits ≡ tileBytes → Bytes bits → encode table (decode table bits) ≡ bits
+  pub bits-back : length bits ≡ tileBytes → Bytes bits → encode table (decode table (bitAt bits)) ≡ bits
   bits-back n by =
       sym (encode-is (slotsOf logicTile table) (slotValue table S) (slot-value-lt table S) bits n by (λ s h u. all-held s u) decodable-clear)

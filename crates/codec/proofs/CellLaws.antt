@@ -29,39 +29,39 @@ use Rattle.codec.specs.Cells.{cellNumber, cellBitIn, valueIn, cellIn, ce
 use Rattle.codec.proofs.BitLaws.{bit-lt, bit-of-zeros, position-within}
 use Rattle.codec.proofs.SetBitsLaws.{set-bits-other, set-bits-back}
 
-pub value-lt : (bits : List ℕ) (i : ℕ) → valueIn bits i < 2 ^ bitsPerCell
-value-lt bits i = from-digits-lt (cellBitIn bits i) (λ j. bit-lt bits _) bitsPerCell
+pub value-lt : (bits : List ℕ) (i : ℕ) → valueIn (bitAt bits) i < 2 ^ bitsPerCell
+value-lt bits i = from-digits-lt (cellBitIn (bitAt bits) i) (λ j. bit-lt bits _) bitsPerCell
 
 -- the digits of a cell's table and flags are its bits
 module _ (bits : List ℕ) (i j : ℕ) where
-  value-digit : j < bitsPerCell → digit (valueIn bits i) j ≡ bitAt bits (lcPosition i (getD lcBits j 0))
+  value-digit : j < bitsPerCell → digit (valueIn (bitAt bits) i) j ≡ bitAt bits (lcPosition i (getD lcBits j 0))
   unfolding cellPosition
-  value-digit h = digit-from-digits (cellBitIn bits i) (λ k. bit-lt bits _) bitsPerCell j h
+  value-digit h = digit-from-digits (cellBitIn (bitAt bits) i) (λ k. bit-lt bits _) bitsPerCell j h
 
-  pub table-digit : j < 16 → digit (valueIn bits i % 2 ^ 16) j ≡ bitAt bits (lcPosition i (getD lcBits j 0))
-  table-digit h = digit-mod (valueIn bits i) 16 j h ∙ value-digit (omega arith)
+  pub table-digit : j < 16 → digit (valueIn (bitAt bits) i % 2 ^ 16) j ≡ bitAt bits (lcPosition i (getD lcBits j 0))
+  table-digit h = digit-mod (valueIn (bitAt bits) i) 16 j h ∙ value-digit (omega arith)
 
 module _ (bits : List ℕ) (i j : ℕ) where
-  pub flags-digit : j < 4 → digit (valueIn bits i / 2 ^ 16) j ≡ bitAt bits (lcPosition i (getD lcBits (16 + j) 0))
-  flags-digit h = ap (λ (x : ℕ). x % 2) (shr-shr (valueIn bits i) 16 j) ∙ value-digit bits i (16 + j) (omega arith)
+  pub flags-digit : j < 4 → digit (valueIn (bitAt bits) i / 2 ^ 16) j ≡ bitAt bits (lcPosition i (getD lcBits (16 + j) 0))
+  flags-digit h = ap (λ (x : ℕ). x % 2) (shr-shr (valueIn (bitAt bits) i) 16 j) ∙ value-digit bits i (16 + j) (omega arith)
 
 -- the round trip of one cell
-pub cell-back : (bits : List ℕ) (i v : ℕ) → length bits ≡ tileBytes → i < 8 → v < 2 ^ bitsPerCell → valueIn (setBits bits (cellPosition i) v bitsPerCell) i ≡ v
+pub cell-back : (bits : List ℕ) (i v : ℕ) → length bits ≡ tileBytes → i < 8 → v < 2 ^ bitsPerCell → valueIn (bitAt (setBits bits (cellPosition i) v bitsPerCell)) i ≡ v
 cell-back bits i v n h hv =
     set-bits-back bits (cellPosition i) v bitsPerCell hv (λ j l a b e. cell-position-once i j i l a b e .1)
     (λ j a. position-within (cell-position-lt i j h a) n)
 
 -- the cells that bits hold
 module _ (bits : List ℕ) (i : ℕ) (h : i < 8) where
-  pub cells-in-table : getD (cellsIn bits) i emptyCell .table ≡ valueIn bits i % 2 ^ 16
+  pub cells-in-table : getD (cellsIn (bitAt bits)) i emptyCell .table ≡ valueIn (bitAt bits) i % 2 ^ 16
   unfolding cellsIn
-  cells-in-table = ap (λ (c : Cell). c .table) (tabulate-zero (cellIn bits) emptyCell 8 i h)
+  cells-in-table = ap (λ (c : Cell). c .table) (tabulate-zero (cellIn (bitAt bits)) emptyCell 8 i h)
 
-  pub cells-in-flags : flagsOf (getD (cellsIn bits) i emptyCell) ≡ valueIn bits i / 2 ^ 16
+  pub cells-in-flags : flagsOf (getD (cellsIn (bitAt bits)) i emptyCell) ≡ valueIn (bitAt bits) i / 2 ^ 16
   unfolding cellsIn
   cells-in-flags =
-      ap flagsOf (tabulate-zero (cellIn bits) emptyCell 8 i h)
-      ∙ flags-of-cell (valueIn bits i % 2 ^ 16) (valueIn bits i / 2 ^ 16) (omega (arith, value-lt bits i))
+      ap flagsOf (tabulate-zero (cellIn (bitAt bits)) emptyCell 8 i h)
+      ∙ flags-of-cell (valueIn (bitAt bits) i % 2 ^ 16) (valueIn (bitAt bits) i / 2 ^ 16) (omega (arith, value-lt bits i))
 
 -- ---- cells put in, one after another
 
@@ -79,7 +79,7 @@ module _ (cells : List Cell) (i flags : ℕ) (f : flags ≡ flagsOf (getD cells 
 
 -- a cell's bits are clear until it is written
 write-cells-later : (bits : List ℕ) (cells : List Cell) (n i j : ℕ) → n ≤ i → i < 8 → j < bitsPerCell
-    → cellBitIn (writeCells bits cells n) i j ≡ cellBitIn bits i j
+    → cellBitIn (bitAt (writeCells bits cells n)) i j ≡ cellBitIn (bitAt bits) i j
 unfolding writeCells
 write-cells-later bits cells zero i j h l b = refl
 write-cells-later bits cells (suc n) i j h l b =
@@ -88,10 +88,10 @@ write-cells-later bits cells (suc n) i j h l b =
     ∙ write-cells-later bits cells n i j (omega arith) l b
 
 pub write-cells-clear : (bits : List ℕ) (cells : List Cell) (now : List ℕ) (i : ℕ) → bits ≡ zeros tileBytes → now ≡ writeCells bits cells i → i < 8
-    → (j : ℕ) → j < bitsPerCell → cellBitIn now i j ≡ 0
+    → (j : ℕ) → j < bitsPerCell → cellBitIn (bitAt now) i j ≡ 0
 write-cells-clear bits cells now i z e h j l =
-    ap (λ (x : List ℕ). cellBitIn x i j) e ∙ write-cells-later bits cells i i j (omega arith) h l
-    ∙ ap (λ (x : List ℕ). cellBitIn x i j) z ∙ bit-of-zeros tileBytes (cellPosition i j)
+    ap (λ (x : List ℕ). cellBitIn (bitAt x) i j) e ∙ write-cells-later bits cells i i j (omega arith) h l
+    ∙ ap (λ (x : List ℕ). cellBitIn (bitAt x) i j) z ∙ bit-of-zeros tileBytes (cellPosition i j)
 
 module _ (settings : List ℕ) (cells : List Cell) where
   pub put-cells-length : (n : ℕ) → length (putCells settings cells n) ≡ length settings

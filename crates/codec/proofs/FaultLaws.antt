@@ -15,7 +15,7 @@ use Rattle.routing.specs.Table.{maxPositions, groupCount, widthOf}
 use Rattle.routing.specs.Slots.{claims, owner, ownerCode, Owned, slotsOf, slotUsed, fieldSlots, groupSlots, groupSlot, slotCount}
 use Rattle.routing.proofs.OwnerLaws.{claims-used}
 use Rattle.routing.proofs.SlotLaws.{slot-cases}
-use Rattle.codec.specs.Bits.{isSetAt}
+use Rattle.codec.specs.Bits.{isSetAt, bitAt, tileOf}
 use Rattle.codec.specs.Groups.{readGroup}
 use Rattle.codec.specs.Fault.{isUnlisted, carryPair, slotFault, faultAt}
 
@@ -50,21 +50,21 @@ module _ (table bits : List ℕ) (p : ℕ) where
 
   -- ---- by the owner
 
-  pub fault-stray : owner (slotsOf logicTile table) p ≡ slotCount logicTile → faultAt table bits p ≡ isSetAt bits p
+  pub fault-stray : owner (slotsOf logicTile table) p ≡ slotCount logicTile → faultAt table (tileOf bits) p ≡ isSetAt (bitAt bits) p
   unfolding faultAt slotFault
   fault-stray e = rw e
 
-  pub fault-carry : owner (slotsOf logicTile table) p ≡ fieldSlots logicTile + carryInSet → faultAt table bits p ≡ carryPair table bits
+  pub fault-carry : owner (slotsOf logicTile table) p ≡ fieldSlots logicTile + carryInSet → faultAt table (tileOf bits) p ≡ carryPair table (bitAt bits)
   unfolding faultAt slotFault
   fault-carry e = rw e
 
   pub fault-low : owner (slotsOf logicTile table) p ≢ fieldSlots logicTile + carryInSet → owner (slotsOf logicTile table) p < groupSlots logicTile
-      → faultAt table bits p ≡ false
+      → faultAt table (tileOf bits) p ≡ false
   unfolding faultAt slotFault
   fault-low n h = rw (ne-eqb mine (fieldSlots logicTile + carryInSet) n, lt-ltb mine (groupSlots logicTile) h)
 
   module _ (s : ℕ) (e : owner (slotsOf logicTile table) p ≡ groupSlots logicTile + s) (h : groupSlots logicTile + s < slotCount logicTile) where
-    pub fault-inner : s % maxPositions ≢ 0 → faultAt table bits p ≡ false
+    pub fault-inner : s % maxPositions ≢ 0 → faultAt table (tileOf bits) p ≡ false
     unfolding faultAt slotFault
     fault-inner n =
         let q : groupSlots logicTile + s - groupSlots logicTile ≡ s = omega arith in
@@ -77,7 +77,7 @@ module _ (table bits : List ℕ) (p : ℕ) where
           ne-eqb (s % maxPositions) 0 n,
         )
 
-    pub fault-group : s % maxPositions ≡ 0 → faultAt table bits p ≡ isUnlisted (readGroup logicTile table bits (s / maxPositions))
+    pub fault-group : s % maxPositions ≡ 0 → faultAt table (tileOf bits) p ≡ isUnlisted (readGroup logicTile table (bitAt bits) (s / maxPositions))
     unfolding faultAt slotFault
     fault-group n =
         let q : groupSlots logicTile + s - groupSlots logicTile ≡ s = omega arith in
@@ -112,22 +112,22 @@ module _ (table bits : List ℕ) (p : ℕ) where
         let q : ownerCode (slotsOf logicTile table) (slotCount logicTile) p ≡ 0 = rw (le-ltb mine (slotCount logicTile) l) in absurd (n (O .map-at p h ∙ q)))
         (lt-or-le mine (slotCount logicTile))
 
-    pub map-stray : getD own p 0 ≡ 0 → faultAt table bits p ≡ isSetAt bits p
+    pub map-stray : getD own p 0 ≡ 0 → faultAt table (tileOf bits) p ≡ isSetAt (bitAt bits) p
     map-stray z = fault-stray (owner-none z)
 
-    pub map-carry : getD own p 0 ≡ carryCode → faultAt table bits p ≡ carryPair table bits
+    pub map-carry : getD own p 0 ≡ carryCode → faultAt table (tileOf bits) p ≡ carryPair table (bitAt bits)
     map-carry z = fault-carry (omega (arith, owner-some (λ y. omega arith) .0))
 
     module _ (n : getD own p 0 ≢ 0) where
-      pub map-low : getD own p 0 ≢ carryCode → getD own p 0 < groupCode → faultAt table bits p ≡ false
+      pub map-low : getD own p 0 ≢ carryCode → getD own p 0 < groupCode → faultAt table (tileOf bits) p ≡ false
       map-low m l = fault-low (λ e. m (omega (arith, owner-some n .0))) (omega (arith, owner-some n .0))
 
       module _ (l : groupCode ≤ getD own p 0) where
-        pub map-inner : (getD own p 0 - groupCode) % maxPositions ≢ 0 → faultAt table bits p ≡ false
+        pub map-inner : (getD own p 0 - groupCode) % maxPositions ≢ 0 → faultAt table (tileOf bits) p ≡ false
         map-inner m = fault-inner (getD own p 0 - groupCode) (omega (arith, owner-some n .0)) (omega (arith, owner-some n .0, owner-some n .1)) m
 
-        pub map-group : (getD own p 0 - groupCode) % maxPositions ≡ 0 → faultAt table bits p ≡ isUnlisted
-            (readGroup logicTile table bits ((getD own p 0 - groupCode) / maxPositions))
+        pub map-group : (getD own p 0 - groupCode) % maxPositions ≡ 0 → faultAt table (tileOf bits) p ≡ isUnlisted
+            (readGroup logicTile table (bitAt bits) ((getD own p 0 - groupCode) / maxPositions))
         map-group m = fault-group (getD own p 0 - groupCode) (omega (arith, owner-some n .0)) (omega (arith, owner-some n .0, owner-some n .1)) m
 
         pub map-within : (getD own p 0 - groupCode) / maxPositions < groupCount logicTile table

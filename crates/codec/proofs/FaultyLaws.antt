@@ -18,7 +18,7 @@ use Rattle.routing.proofs.SlotLaws.{slot-at-field, slot-used-field, slot-at-pas
 use Rattle.routing.proofs.LogicTileLaws.{logic-tile-once}
 use Rattle.routing.proofs.TableOnceLaws.{table-once}
 use Rattle.routing.proofs.ClaimLaws.{claimed-exact}
-use Rattle.codec.specs.Bits.{isSetAt}
+use Rattle.codec.specs.Bits.{isSetAt, bitAt, tileOf}
 use Rattle.codec.specs.Groups.{readGroup}
 use Rattle.codec.specs.Fault.{isUnlisted, carryPair, faultAt, tileFault}
 use Rattle.codec.specs.Reading.{Unclaimed, CarryPair, Faulty, unlisted, stray, carry-pair, Decodable}
@@ -71,34 +71,34 @@ module _ (table : List ℕ) (T : TableRules logicTile table) where
 -- ---- a position
 
 module _ (table bits : List ℕ) (T : TableRules logicTile table) where
-  pub carry-exact : (carryPair table bits ≡ true) ↔ CarryPair table bits
+  pub carry-exact : (carryPair table (bitAt bits) ≡ true) ↔ CarryPair table (bitAt bits)
   unfolding carryPair
   carry-exact = (
-    λ e. (eqb-true _ 1 (and-left (isSetAt bits (fieldAt table carryInSet)) _ e), eqb-true _ 1 (and-right (isSetAt bits (fieldAt table carryInSet)) _ e)),
+    λ e. (eqb-true _ 1 (and-left (isSetAt (bitAt bits) (fieldAt table carryInSet)) _ e), eqb-true _ 1 (and-right (isSetAt (bitAt bits) (fieldAt table carryInSet)) _ e)),
     λ q. and-true (eq-eqb _ 1 (q .0)) (eq-eqb _ 1 (q .1)),
   )
 
-  fault-of : (p : ℕ) → Faulty table bits p → faultAt table bits p ≡ true
+  fault-of : (p : ℕ) → Faulty table (tileOf bits) p → faultAt table (tileOf bits) p ≡ true
   fault-of p (unlisted g h n m) =
       fault-group table bits (positionAt logicTile table g 0) (maxPositions * g) (group-owner table T g 0 h (T .groups g h .some-positions) ∙ omega arith)
       (omega (arith, T .few-groups)) (omega arith)
-      ∙ ap (λ (x : ℕ). isUnlisted (readGroup logicTile table bits x)) (let e : maxPositions * g / maxPositions ≡ g = omega arith in e)
+      ∙ ap (λ (x : ℕ). isUnlisted (readGroup logicTile table (bitAt bits) x)) (let e : maxPositions * g / maxPositions ≡ g = omega arith in e)
       ∙ unlisted-exact table bits g (T .groups g h) .1 (n, m)
   fault-of p (stray q h n e) = fault-stray table bits p (unclaimed-owner table T p n) ∙ eq-eqb _ 1 e
   fault-of p (carry-pair q) = fault-carry table bits (fieldAt table carryInSet) (field-owner table T carryInSet (omega arith)) ∙ carry-exact .1 q
 
-  of-fault : (p : ℕ) → p < 864 → faultAt table bits p ≡ true → Faulty table bits p
+  of-fault : (p : ℕ) → p < 864 → faultAt table (tileOf bits) p ≡ true → Faulty table (tileOf bits) p
   of-fault p h f = ⊎-elim owned free (lt-or-le mine (slotCount logicTile))
     where
       mine : ℕ
       mine = owner (slotsOf logicTile table) p
 
-      free : slotCount logicTile ≤ mine → Faulty table bits p
+      free : slotCount logicTile ≤ mine → Faulty table (tileOf bits) p
       free l =
           let e : mine ≡ slotCount logicTile = omega (arith, first-le (claims (slotsOf logicTile table) p) 0 (slotCount logicTile)) in
           stray p h (owner-unclaimed table T p l) (eqb-true _ 1 (sym (fault-stray table bits p e) ∙ f))
 
-      owned : mine < slotCount logicTile → Faulty table bits p
+      owned : mine < slotCount logicTile → Faulty table (tileOf bits) p
       owned l = ⊎-elim low high (lt-or-le mine (groupSlots logicTile))
         where
           claim : claims (slotsOf logicTile table) p mine ≡ true
@@ -107,16 +107,16 @@ module _ (table bits : List ℕ) (T : TableRules logicTile table) where
           at : slotAt logicTile table mine ≡ p
           at = claims-at (slotsOf logicTile table) p mine claim
 
-          low : mine < groupSlots logicTile → Faulty table bits p
+          low : mine < groupSlots logicTile → Faulty table (tileOf bits) p
           low a =
               ⊎-elim
               (λ (e : mine ≡ fieldSlots logicTile + carryInSet).
-              subst (Faulty table bits) (sym (slot-at-field logicTile table carryInSet (omega arith)) ∙ ap (slotAt logicTile table) (sym e) ∙ at)
+              subst (Faulty table (tileOf bits)) (sym (slot-at-field logicTile table carryInSet (omega arith)) ∙ ap (slotAt logicTile table) (sym e) ∙ at)
               (carry-pair (carry-exact .0 (sym (fault-carry table bits p e) ∙ f))))
               (λ (n : mine ≢ fieldSlots logicTile + carryInSet). clash f (fault-low table bits p n a))
               (eq-or-ne mine (fieldSlots logicTile + carryInSet))
 
-          high : groupSlots logicTile ≤ mine → Faulty table bits p
+          high : groupSlots logicTile ≤ mine → Faulty table (tileOf bits) p
           high a =
               ⊎-elim
               (λ (e : (mine - groupSlots logicTile) % maxPositions ≡ 0).
@@ -124,7 +124,7 @@ module _ (table bits : List ℕ) (T : TableRules logicTile table) where
               let h2 = used-group table mine a (claims-used (slotsOf logicTile table) p mine claim) .0 in
               let n = unlisted-exact table bits g (T .groups g h2) .0
               (sym (fault-group table bits p (mine - groupSlots logicTile) (omega arith) (omega arith) e) ∙ f) in
-              subst (Faulty table bits)
+              subst (Faulty table (tileOf bits))
               (sym (slot-at-group logicTile table g 0 (omega arith)) ∙ ap (slotAt logicTile table)
               (let q : groupSlot logicTile g + 0 ≡ mine = omega arith in q) ∙ at)
               (unlisted g h2 (n .0) (n .1)))
@@ -133,10 +133,10 @@ module _ (table bits : List ℕ) (T : TableRules logicTile table) where
               (eq-or-ne ((mine - groupSlots logicTile) % maxPositions) 0)
 
   -- the computed test of a position is the paper's
-  pub fault-exact : (p : ℕ) → p < 864 → (faultAt table bits p ≡ true) ↔ Faulty table bits p
+  pub fault-exact : (p : ℕ) → p < 864 → (faultAt table (tileOf bits) p ≡ true) ↔ Faulty table (tileOf bits) p
   fault-exact p h = (of-fault p h, fault-of p)
 
-  pub faulty-lt : (p : ℕ) → Faulty table bits p → p < 864
+  pub faulty-lt : (p : ℕ) → Faulty table (tileOf bits) p → p < 864
   faulty-lt p (unlisted g h n m) = group-position-lt table T g 0 h (T .groups g h .some-positions)
   faulty-lt p (stray q h n e) = h
   faulty-lt p (carry-pair q) = field-position-lt table T carryInSet (omega arith)
@@ -144,15 +144,15 @@ module _ (table bits : List ℕ) (T : TableRules logicTile table) where
   -- ---- a tile
 
   -- below 864 the answer is a position at fault, and nothing lower is
-  pub tile-fault-lowest : tileFault table bits < 864 → Faulty table bits (tileFault table bits) × ((q : ℕ) → q < tileFault table bits → Faulty table bits q → ⊥)
+  pub tile-fault-lowest : tileFault table (tileOf bits) < 864 → Faulty table (tileOf bits) (tileFault table (tileOf bits)) × ((q : ℕ) → q < tileFault table (tileOf bits) → Faulty table (tileOf bits) q → ⊥)
   tile-fault-lowest h = (
-    of-fault (tileFault table bits) h (first-true (faultAt table bits) 0 864 (omega arith)),
-    λ q l F. clash (fault-of q F) (first-before (faultAt table bits) 0 864 q (omega arith) l),
+    of-fault (tileFault table (tileOf bits)) h (first-true (faultAt table (tileOf bits)) 0 864 (omega arith)),
+    λ q l F. clash (fault-of q F) (first-before (faultAt table (tileOf bits)) 0 864 q (omega arith) l),
   )
 
   -- the answer is 864 exactly if the tile can be decoded
-  pub tile-fault-exact : (tileFault table bits ≡ 864) ↔ Decodable table bits
+  pub tile-fault-exact : (tileFault table (tileOf bits) ≡ 864) ↔ Decodable table (tileOf bits)
   tile-fault-exact = (
-    λ e p F. clash (fault-of p F) (first-before (faultAt table bits) 0 864 p (omega arith) (omega (arith, faulty-lt p F))),
-    λ D. first-none (faultAt table bits) 864 (λ p h. ⊎-elim (λ f. absurd (D p (of-fault p h f))) (λ f. f) (cases (faultAt table bits p))),
+    λ e p F. clash (fault-of p F) (first-before (faultAt table (tileOf bits)) 0 864 p (omega arith) (omega (arith, faulty-lt p F))),
+    λ D. first-none (faultAt table (tileOf bits)) 864 (λ p h. ⊎-elim (λ f. absurd (D p (of-fault p h f))) (λ f. f) (cases (faultAt table (tileOf bits) p))),
   )

@@ -1,5 +1,6 @@
 -- A group's pattern is zero, listed, or neither. Main laws: `unlisted-exact`: the computed test against the sentences of specs/Reading.antt;
 -- `group-listed`. Assumes nothing.
+use Rattle.codec.specs.Bits.{bitAt}
 use mathlib.Core.Path.{_≡_, refl, sym, ap, _∙_}
 use mathlib.Core.Logic.{_≢_, _↔_, _⊎_, inl, inr, ⊎-elim}
 use mathlib.Core.Bool.{true, false}
@@ -19,13 +20,13 @@ use Rattle.codec.proofs.GroupLaws.{setting-unlisted, setting-back}
 
 module _ (table bits : List ℕ) (g : ℕ) where
   -- a pattern that is not unlisted is zero or an entry's
-  pub group-listed : isUnlisted (readGroup logicTile table bits g) ≡ false → Off table bits g ⊎ ((e : ℕ) × Listed table bits g e)
+  pub group-listed : isUnlisted (readGroup logicTile table (bitAt bits) g) ≡ false → Off table (bitAt bits) g ⊎ ((e : ℕ) × Listed table (bitAt bits) g e)
   group-listed ok = ⊎-elim (λ (z : v ≡ 0). inl z) on (eq-or-ne v 0)
     where
       v : ℕ
-      v = groupPattern logicTile table bits g
+      v = groupPattern logicTile table (bitAt bits) g
 
-      on : v ≢ 0 → Off table bits g ⊎ ((e : ℕ) × Listed table bits g e)
+      on : v ≢ 0 → Off table (bitAt bits) g ⊎ ((e : ℕ) × Listed table (bitAt bits) g e)
       on n =
           ⊎-elim
           (λ (l : entryOf logicTile table g v < entryCount logicTile table g).
@@ -41,19 +42,19 @@ module _ (table bits : List ℕ) (g : ℕ) where
           clash (sym (ap isUnlisted (setting-unlisted logicTile table g v (entryOf logicTile table g v) n refl l))) ok)
           (lt-or-le (entryOf logicTile table g v) (entryCount logicTile table g))
 
-  pub off-listed : Off table bits g → isUnlisted (readGroup logicTile table bits g) ≡ false
+  pub off-listed : Off table (bitAt bits) g → isUnlisted (readGroup logicTile table (bitAt bits) g) ≡ false
   off-listed z = ap (λ (v : ℕ). isUnlisted (settingOfPattern logicTile table g v)) z
 
-  pub entry-listed : GroupRules logicTile table g → (e : ℕ) → Listed table bits g e → isUnlisted (readGroup logicTile table bits g) ≡ false
+  pub entry-listed : GroupRules logicTile table g → (e : ℕ) → Listed table (bitAt bits) g e → isUnlisted (readGroup logicTile table (bitAt bits) g) ≡ false
   entry-listed R e L =
       ap (λ (v : ℕ). isUnlisted (settingOfPattern logicTile table g v)) (L .pattern)
       ∙ ap isUnlisted (setting-back logicTile table g R (suc e) (L .entry))
 
   -- a pattern is unlisted exactly if it is neither zero nor an entry's
   pub unlisted-exact : GroupRules logicTile table g
-      → (isUnlisted (readGroup logicTile table bits g) ≡ true) ↔ ((Off table bits g → ⊥) × ((e : ℕ) → Listed table bits g e → ⊥))
+      → (isUnlisted (readGroup logicTile table (bitAt bits) g) ≡ true) ↔ ((Off table (bitAt bits) g → ⊥) × ((e : ℕ) → Listed table (bitAt bits) g e → ⊥))
   unlisted-exact R = (
     λ u. (λ z. clash u (off-listed z), λ e L. clash u (entry-listed R e L)),
     λ n. ⊎-elim (λ u. u) (λ u. ⊎-elim (λ z. absurd (n .0 z)) (λ q. absurd (n .1 (q .0) (q .1))) (group-listed u))
-        (cases (isUnlisted (readGroup logicTile table bits g))),
+        (cases (isUnlisted (readGroup logicTile table (bitAt bits) g))),
   )

@@ -17,7 +17,7 @@ use Rattle.digits.proofs.DigitLaws.{digits-same}
 use Rattle.routing.specs.LogicTile.{logicTile, carryInSet, carryChain}
 use Rattle.routing.specs.Table.{maxGroups, fieldAt, passiveAt, groupCount, entryCount}
 use Rattle.routing.specs.Rules.{TableRules}
-use Rattle.codec.specs.Bits.{bitAt}
+use Rattle.codec.specs.Bits.{bitAt, tileOf}
 use Rattle.codec.specs.Settings.{fieldSetting, groupsFrom, cellsFrom, settingsLength}
 use Rattle.codec.specs.Groups.{groupPattern, settingOfPattern}
 use Rattle.codec.specs.Decode.{settingNumber, decode}
@@ -39,7 +39,7 @@ use Rattle.codec.proofs.BitsBack.{decodable-listed}
 
 module _ (table bits : List ℕ) (T : TableRules logicTile table) where
   -- the decoding is what the bits read to
-  pub decode-reads : ReadsTo table bits (decode table bits)
+  pub decode-reads : ReadsTo table (bitAt bits) (decode table (bitAt bits))
   decode-reads = record {
     long = decode-length table bits;
     field = decode-field table bits;
@@ -59,7 +59,7 @@ module _ (table bits : List ℕ) (T : TableRules logicTile table) where
       few g h = omega (arith, T .few-groups)
 
   -- decodable bits read to one settings only
-  pub reads-unique : Decodable table bits → (a b : List ℕ) → ReadsTo table bits a → ReadsTo table bits b → a ≡ b
+  pub reads-unique : Decodable table (tileOf bits) → (a b : List ℕ) → ReadsTo table (bitAt bits) a → ReadsTo table (bitAt bits) b → a ≡ b
   reads-unique D a b A B =
       ext-getD 0 a b (A .long ∙ sym (B .long))
       (λ i h. setting-kinds table (λ (n : ℕ). getD a n 0 ≡ getD b n 0)
@@ -74,9 +74,9 @@ module _ (table bits : List ℕ) (T : TableRules logicTile table) where
       i (omega (arith, A .long)))
 
   -- each setting that is read is within its limit
-  decode-limit : (n : ℕ) → n < settingsLength logicTile → getD (decode table bits) n 0 ≤ limitAt table n
+  decode-limit : (n : ℕ) → n < settingsLength logicTile → getD (decode table (bitAt bits)) n 0 ≤ limitAt table n
   decode-limit =
-      setting-kinds table (λ (n : ℕ). getD (decode table bits) n 0 ≤ limitAt table n)
+      setting-kinds table (λ (n : ℕ). getD (decode table (bitAt bits)) n 0 ≤ limitAt table n)
       (λ f l. omega (arith, decode-field table bits f l, limit-field table f l, bit-lt bits (fieldAt table f)))
       (λ j few l. omega (
         arith,
@@ -91,27 +91,27 @@ module _ (table bits : List ℕ) (T : TableRules logicTile table) where
         arith,
         decode-group table bits g few l,
         limit-group table (groupsFrom logicTile + g) (omega arith) (omega arith) (omega arith) ∙ ap (entryCount logicTile table) e,
-        setting-number-le logicTile table g (groupPattern logicTile table bits g),
+        setting-number-le logicTile table g (groupPattern logicTile table (bitAt bits) g),
       ))
       (λ g few l. omega (arith, decode-group-rest table bits g few l))
       (λ i l. omega (arith, decode-table table bits i l, limit-table table (cellsFrom logicTile + 2 * i) (omega arith) (omega arith)))
       (λ i l. omega (arith, decode-flags table bits i l, value-lt bits i, limit-flags table (cellsFrom logicTile + 2 * i + 1) (omega arith) (λ z. omega arith)))
 
   -- decodable bits read to settings that fit
-  pub decode-fits : Decodable table bits → settingsFit table (decode table bits) ≡ true
+  pub decode-fits : Decodable table (tileOf bits) → settingsFit table (decode table (bitAt bits)) ≡ true
   unfolding settingsFit bothCarries
   decode-fits D =
-      and-true (⊎-elim (λ e. absurd (D (fieldAt table carryInSet) (carry-pair (pair e)))) (λ e. ap not e) (cases (bothCarries (decode table bits))))
-      (all-of (withinLimit table (decode table bits)) 0 (settingsLength logicTile)
-      (λ n a b. le-leb (getD (decode table bits) n 0) (limitAt table n) (decode-limit n (omega arith))))
+      and-true (⊎-elim (λ e. absurd (D (fieldAt table carryInSet) (carry-pair (pair e)))) (λ e. ap not e) (cases (bothCarries (decode table (bitAt bits)))))
+      (all-of (withinLimit table (decode table (bitAt bits))) 0 (settingsLength logicTile)
+      (λ n a b. le-leb (getD (decode table (bitAt bits)) n 0) (limitAt table n) (decode-limit n (omega arith))))
     where
-      on : (f : ℕ) → f < 3 → eqb (fieldSetting (decode table bits) f) 1 ≡ true → bitAt bits (fieldAt table f) ≡ 1
-      on f h e = sym (decode-field table bits f h) ∙ eqb-true (fieldSetting (decode table bits) f) 1 e
+      on : (f : ℕ) → f < 3 → eqb (fieldSetting (decode table (bitAt bits)) f) 1 ≡ true → bitAt bits (fieldAt table f) ≡ 1
+      on f h e = sym (decode-field table bits f h) ∙ eqb-true (fieldSetting (decode table (bitAt bits)) f) 1 e
 
-      pair : bothCarries (decode table bits) ≡ true → (bitAt bits (fieldAt table carryInSet) ≡ 1) × (bitAt bits (fieldAt table carryChain) ≡ 1)
+      pair : bothCarries (decode table (bitAt bits)) ≡ true → (bitAt bits (fieldAt table carryInSet) ≡ 1) × (bitAt bits (fieldAt table carryChain) ≡ 1)
       pair e = (
-        on carryInSet (omega arith) (and-left (eqb (fieldSetting (decode table bits) carryInSet) 1) _ e),
-        on carryChain (omega arith) (and-right (eqb (fieldSetting (decode table bits) carryInSet) 1) _ e),
+        on carryInSet (omega arith) (and-left (eqb (fieldSetting (decode table (bitAt bits)) carryInSet) 1) _ e),
+        on carryChain (omega arith) (and-right (eqb (fieldSetting (decode table (bitAt bits)) carryInSet) 1) _ e),
       )
 
 -- settings fit exactly if some bits read to them
@@ -122,7 +122,7 @@ module _ (table settings : List ℕ) (T : TableRules logicTile table) (long : le
     long = encode-length (slotsOf logicTile table) (slotValue table settings) (slot-value-lt table settings);
     bytes = encode-bytes (slotsOf logicTile table) (slotValue table settings) (slot-value-lt table settings);
     decodable = encode-decodable table settings can;
-    reads = subst (ReadsTo table (encode table settings)) (settings-back table settings can) (decode-reads table (encode table settings) T);
+    reads = subst (ReadsTo table (bitAt (encode table settings))) (settings-back table settings can) (decode-reads table (encode table settings) T);
   }
     where
       can : Writable table settings
@@ -131,7 +131,7 @@ module _ (table settings : List ℕ) (T : TableRules logicTile table) (long : le
   pub has-bits-fit : HasBits table settings → settingsFit table settings ≡ true
   has-bits-fit H =
       subst (λ (s : List ℕ). settingsFit table s ≡ true)
-      (reads-unique table (H .bits) T (H .decodable) (decode table (H .bits)) settings (decode-reads table (H .bits) T) (H .reads))
+      (reads-unique table (H .bits) T (H .decodable) (decode table (bitAt (H .bits))) settings (decode-reads table (H .bits) T) (H .reads))
       (decode-fits table (H .bits) T (H .decodable))
 
   pub settings-fit-exact : (settingsFit table settings ≡ true) ↔ HasBits table settings

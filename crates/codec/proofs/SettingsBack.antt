@@ -15,7 +15,7 @@ use Rattle.routing.specs.Table.{maxPassives, maxGroups, maxPositions, fieldAt, 
 use Rattle.routing.specs.Slots.{slotsOf, fieldSlots, passiveSlots, groupSlot}
 use Rattle.routing.proofs.LogicTileLaws.{logic-tile-once}
 use Rattle.routing.proofs.TableOnceLaws.{table-once}
-use Rattle.codec.specs.Bits.{bitAt}
+use Rattle.codec.specs.Bits.{bitAt, tileOf}
 use Rattle.codec.specs.Settings.{fieldSetting, passiveSetting, groupSetting, cellTable, cellFlags}
 use Rattle.codec.specs.Groups.{settingOfPattern, readGroup, patternOf}
 use Rattle.codec.specs.Cells.{cellValue, valueIn}
@@ -47,7 +47,7 @@ module _ (table settings : List ℕ) (C : Writable table settings) where
       run-back (slotsOf logicTile table) (slotValue table settings) m w n at v R (table-once logicTile table logic-tile-once (C .rules))
       (slot-value-lt table settings) h
 
-  cell-trip : (i : ℕ) → i < 8 → valueIn E i ≡ cellValue (cellTable logicTile settings i) (cellFlags logicTile settings i)
+  cell-trip : (i : ℕ) → i < 8 → valueIn (bitAt E) i ≡ cellValue (cellTable logicTile settings i) (cellFlags logicTile settings i)
   cell-trip i h =
       back (bitsPerCell * i) bitsPerCell bitsPerCell (cellPosition i) (cellValue (cellTable logicTile settings i) (cellFlags logicTile settings i))
       (cell-run table settings i h)
@@ -66,7 +66,7 @@ module _ (table settings : List ℕ) (C : Writable table settings) where
       (passive-run table settings (C .rules) j h)
       (fit-passive table settings (C .fit) j few h)
 
-  pub group-trip : (g : ℕ) → g < groupCount logicTile table → readGroup logicTile table E g ≡ Setting (groupSetting logicTile settings g)
+  pub group-trip : (g : ℕ) → g < groupCount logicTile table → readGroup logicTile table (bitAt E) g ≡ Setting (groupSetting logicTile settings g)
   group-trip g h =
       let few : g < maxGroups = omega (arith, C .rules .few-groups) in
       let fits = fit-group table settings (C .fit) g few h in
@@ -77,10 +77,10 @@ module _ (table settings : List ℕ) (C : Writable table settings) where
       ∙ setting-back logicTile table g (C .rules .groups g h) (groupSetting logicTile settings g) fits
 
   -- settings that are written are read back the same
-  pub settings-back : decode table (encode table settings) ≡ settings
+  pub settings-back : decode table (bitAt (encode table settings)) ≡ settings
   settings-back =
-      ext-getD 0 (decode table E) settings (decode-length table E ∙ sym (C .long))
-      (λ i h. setting-kinds table (λ (n : ℕ). getD (decode table E) n 0 ≡ getD settings n 0)
+      ext-getD 0 (decode table (bitAt E)) settings (decode-length table E ∙ sym (C .long))
+      (λ i h. setting-kinds table (λ (n : ℕ). getD (decode table (bitAt E)) n 0 ≡ getD settings n 0)
       (λ f l. decode-field table E f l ∙ field-trip f l)
       (λ j few l. decode-passive table E j few l ∙ passive-trip j few l)
       (λ j few l. decode-passive-rest table E j few l ∙ sym (fit-passive-rest table settings (C .fit) j few l))
@@ -93,7 +93,7 @@ module _ (table settings : List ℕ) (C : Writable table settings) where
       i (omega (arith, decode-length table E)))
 
   -- what is written can be decoded
-  pub encode-decodable : Decodable table (encode table settings)
+  pub encode-decodable : Decodable table (tileOf (encode table settings))
   unfolding bothCarries
   encode-decodable p (unlisted g h n m) =
       clash (unlisted-exact table E g (C .rules .groups g h) .1 (n, m)) (ap isUnlisted (group-trip g h))

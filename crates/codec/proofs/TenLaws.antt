@@ -24,7 +24,7 @@ two-digit bits i h =
 
 -- ten bits from p on, which two lent numbers hold
 pub ten-is : (bits : List ℕ) (p : ℕ) → p % unit ≤ 6 → getD bits (p / unit) 0 < 2 ^ unit
-    → (getD bits (p / unit) 0 + 256 * getD bits (p / unit + 1) 0) / 2 ^ (p % unit) % 1024 ≡ tenFrom bits p
+    → (getD bits (p / unit) 0 + 256 * getD bits (p / unit + 1) 0) / 2 ^ (p % unit) % 1024 ≡ tenFrom (bitAt bits) p
 ten-is bits p s h =
     let two : ℕ = getD bits (p / unit) 0 + 256 * getD bits (p / unit + 1) 0 in
     sym (from-digits-shift two (p % unit) 10)
@@ -32,10 +32,10 @@ ten-is bits p s h =
     (λ k l. two-digit bits (p / unit) h (p % unit + k) (omega arith)
     ∙ ap (bitAt bits) (let e : unit * (p / unit) + (p % unit + k) ≡ p + k = omega arith in e))
 
-pub ten-lt : (bits : List ℕ) (p : ℕ) → tenFrom bits p < 1024
+pub ten-lt : (bits : List ℕ) (p : ℕ) → tenFrom (bitAt bits) p < 1024
 ten-lt bits p = from-digits-lt (λ (k : ℕ). bitAt bits (p + k)) (λ k. bit-lt bits _) 10
 
-ten-digit : (bits : List ℕ) (p k : ℕ) → k < 10 → digit (tenFrom bits p) k ≡ bitAt bits (p + k)
+ten-digit : (bits : List ℕ) (p k : ℕ) → k < 10 → digit (tenFrom (bitAt bits) p) k ≡ bitAt bits (p + k)
 ten-digit bits p k h = digit-from-digits (λ (j : ℕ). bitAt bits (p + j)) (λ j. bit-lt bits _) 10 k h
 
 -- where the two tens of cell i begin, and both as one number
@@ -46,7 +46,7 @@ abbrev pub secondTen : ℕ → ℕ
 secondTen i = 108 * i + 90
 
 abbrev pub tensOf : List ℕ → ℕ → ℕ
-tensOf bits i = tenFrom bits (firstTen i) + 1024 * tenFrom bits (secondTen i)
+tensOf bits i = tenFrom (bitAt bits) (firstTen i) + 1024 * tenFrom (bitAt bits) (secondTen i)
 
 -- digit j of the cell's value, by its tens
 abbrev pub tensDigit : ℕ → ℕ → ℕ
@@ -64,18 +64,18 @@ module _ (bits : List ℕ) (i : ℕ) where
   -- the digits of the tens are the logic cell bits in their order
   tens-digit : (k : ℕ) → k < bitsPerCell → digit (tensOf bits i) k ≡ bitAt bits (lcPosition i k)
   tens-digit =
-      digit-join (λ (k : ℕ). bitAt bits (lcPosition i k)) (tenFrom bits (firstTen i)) (tenFrom bits (secondTen i)) 10 10 (ten-lt bits (firstTen i))
+      digit-join (λ (k : ℕ). bitAt bits (lcPosition i k)) (tenFrom (bitAt bits) (firstTen i)) (tenFrom (bitAt bits) (secondTen i)) 10 10 (ten-lt bits (firstTen i))
       (λ k l. ten-digit bits (firstTen i) k l
       ∙ ap (bitAt bits) ((let e : firstTen i + k ≡ 54 * (2 * i) + (36 + k) = omega arith in e) ∙ lc-position-left i k l))
       (λ k l. ten-digit bits (secondTen i) k l
       ∙ ap (bitAt bits) ((let e : secondTen i + k ≡ 54 * (2 * i + 1) + (26 + (10 + k)) = omega arith in e) ∙ lc-position-right i (10 + k) (omega arith)))
 
   -- so the cell's value is the same digits in another order
-  pub value-of-tens : (tens : ℕ) → tens ≡ tensOf bits i → fromDigits (tensDigit tens) bitsPerCell ≡ valueIn bits i
+  pub value-of-tens : (tens : ℕ) → tens ≡ tensOf bits i → fromDigits (tensDigit tens) bitsPerCell ≡ valueIn (bitAt bits) i
   unfolding cellPosition
   value-of-tens tens e =
-      from-digits-ext (tensDigit tens) (cellBitIn bits i) bitsPerCell
+      from-digits-ext (tensDigit tens) (cellBitIn (bitAt bits) i) bitsPerCell
       (λ j l. ap (λ (x : ℕ). tensDigit x j) e ∙ tens-digit (lcBit j) (lc-bit-lt j l))
 
-  pub value-empty : 0 ≡ tensOf bits i → 0 ≡ valueIn bits i
+  pub value-empty : 0 ≡ tensOf bits i → 0 ≡ valueIn (bitAt bits) i
   value-empty e = tens-empty ∙ value-of-tens 0 e

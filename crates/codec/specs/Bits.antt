@@ -22,6 +22,13 @@ bitIn u bits p = digit (getD bits (p / u) 0) (p % u)
 abbrev pub bitAt : List ℕ → ℕ → ℕ
 bitAt bits p = bitIn unit bits p
 
+-- a tile as reading sees it: the bit at each position. What is read is stated over this, so the lent form can change behind `tileOf`.
+pub record TileBits : Type 0 where
+  pub bit : ℕ → ℕ
+
+abbrev pub tileOf : List ℕ → TileBits
+tileOf bits = record { bit = bitAt bits }
+
 -- v written to position p
 unfoldable pub setBitIn : ℕ → List ℕ → ℕ → ℕ → List ℕ
 setBitIn u bits p v = set bits (p / u) (setDigit (getD bits (p / u) 0) (p % u) v)
@@ -35,15 +42,15 @@ setBits bits at v zero = bits
 setBits bits at v (suc n) = setBit (setBits bits at v n) (at n) (digit v n)
 
 -- the ten bits from position p on as one number, the first with weight 1
-abbrev pub tenFrom : List ℕ → ℕ → ℕ
-tenFrom bits p = fromDigits (λ (k : ℕ). bitAt bits (p + k)) 10
+abbrev pub tenFrom : (ℕ → ℕ) → ℕ → ℕ
+tenFrom bit p = fromDigits (λ (k : ℕ). bit (p + k)) 10
 
 -- each lent number has `unit` digits
 abbrev pub Bytes : List ℕ → Type 0
 Bytes bits = (i : ℕ) → getD bits i 0 < 2 ^ unit
 
-abbrev pub isSetAt : List ℕ → ℕ → Bool
-isSetAt bits p = eqb (bitAt bits p) 1
+abbrev pub isSetAt : (ℕ → ℕ) → ℕ → Bool
+isSetAt bit p = eqb (bit p) 1
 
 -- no bit is set
 abbrev pub isZeroAt : List ℕ → ℕ → Bool
@@ -53,5 +60,5 @@ abbrev pub isEmpty : List ℕ → Bool
 isEmpty bits = all (isZeroAt bits) 0 tileBytes
 
 -- "how many of its 864 bits are set"
-abbrev pub bitCount : List ℕ → ℕ
-bitCount bits = count (isSetAt bits) 864
+abbrev pub bitCount : (ℕ → ℕ) → ℕ
+bitCount bit = count (isSetAt bit) 864

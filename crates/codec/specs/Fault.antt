@@ -7,7 +7,7 @@ use Rattle.lists.specs.Search.{first}
 use Rattle.routing.specs.LogicTile.{logicTile, carryInSet, carryChain}
 use Rattle.routing.specs.Table.{maxPositions, fieldAt}
 use Rattle.routing.specs.Slots.{slotsOf, owner, fieldSlots, groupSlots, slotCount}
-use Rattle.codec.specs.Bits.{isSetAt}
+use Rattle.codec.specs.Bits.{TileBits, isSetAt}
 use Rattle.codec.specs.Groups.{readGroup}
 use Rattle.codec.specs.declared.groups.GroupRead.{GroupRead}
 use Rattle.codec.specs.declared.groups.GroupRead.the-variants.{Setting, Unlisted}
@@ -16,19 +16,19 @@ abbrev pub isUnlisted : GroupRead → Bool
 isUnlisted (Setting s) = false
 isUnlisted Unlisted = true
 
-module _ (table bits : List ℕ) where
-  unfoldable pub carryPair : Bool
-  carryPair = isSetAt bits (fieldAt table carryInSet) && isSetAt bits (fieldAt table carryChain)
+unfoldable pub carryPair : List ℕ → (ℕ → ℕ) → Bool
+carryPair table bit = isSetAt bit (fieldAt table carryInSet) && isSetAt bit (fieldAt table carryChain)
 
+module _ (table : List ℕ) (tile : TileBits) where
   -- position p is at fault, where slot s claims it: the CarryInSet field, if the chain switch is set too; the first position of a group, if its
   -- pattern is neither zero nor listed; no other claimed position; and one that nothing claims, if it is set
   unfoldable pub slotFault : ℕ → ℕ → Bool
   slotFault p s =
-      cond (eqb s (fieldSlots logicTile + carryInSet)) carryPair
+      cond (eqb s (fieldSlots logicTile + carryInSet)) (carryPair table (tile .bit))
       (cond (ltb s (groupSlots logicTile)) false
       (cond (ltb s (slotCount logicTile))
-      (cond (eqb ((s - groupSlots logicTile) % maxPositions) 0) (isUnlisted (readGroup logicTile table bits ((s - groupSlots logicTile) / maxPositions))) false)
-      (isSetAt bits p)))
+      (cond (eqb ((s - groupSlots logicTile) % maxPositions) 0) (isUnlisted (readGroup logicTile table (tile .bit) ((s - groupSlots logicTile) / maxPositions))) false)
+      (isSetAt (tile .bit) p)))
 
   unfoldable pub faultAt : ℕ → Bool
   faultAt p = slotFault p (owner (slotsOf logicTile table) p)

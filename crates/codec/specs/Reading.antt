@@ -8,7 +8,7 @@ use Rattle.digits.specs.Digits.{digit}
 use Rattle.routing.specs.LogicTile.{logicTile, lcBits, lcPosition, carryInSet, carryChain}
 use Rattle.routing.specs.Table.{maxPassives, maxGroups, fieldAt, passiveCount, passiveAt, groupCount, positionAt, entryCount, patternAt}
 use Rattle.routing.specs.Rules.{Claimed}
-use Rattle.codec.specs.Bits.{bitAt, Bytes, tileBytes}
+use Rattle.codec.specs.Bits.{TileBits, bitAt, tileOf, Bytes, tileBytes}
 use Rattle.codec.specs.Settings.{fieldSetting, passiveSetting, groupSetting, cellTable, cellFlags, settingsLength}
 use Rattle.codec.specs.Groups.{groupPattern}
 
@@ -16,49 +16,50 @@ use Rattle.codec.specs.Groups.{groupPattern}
 abbrev pub Unclaimed : List ℕ → ℕ → Type 0
 Unclaimed table p = Claimed logicTile table p → ⊥
 
-module _ (table bits : List ℕ) where
+module _ (table : List ℕ) (bit : ℕ → ℕ) where
   -- "A group of all zeros is off. A listed pattern is one enabled switch."
   abbrev pub Off : ℕ → Type 0
-  Off g = groupPattern logicTile table bits g ≡ 0
+  Off g = groupPattern logicTile table bit g ≡ 0
 
   pub record Listed (g e : ℕ) : Type 0 where
     pub entry : e < entryCount logicTile table g
-    pub pattern : groupPattern logicTile table bits g ≡ patternAt logicTile table g e
+    pub pattern : groupPattern logicTile table bit g ≡ patternAt logicTile table g e
 
   -- "CarryInSet together with the chain switch"
   abbrev pub CarryPair : Type 0
-  CarryPair = (bitAt bits (fieldAt table carryInSet) ≡ 1) × (bitAt bits (fieldAt table carryChain) ≡ 1)
-
-  -- "Any other is undecodable, and so is a set bit that nothing claims, and CarryInSet together with the chain switch."
-  -- A position at fault: "the group's first position for an unlisted pattern, the set bit itself for an unclaimed one, the CarryInSet
-  -- position for the carry pair" (document 02, W5; here it is what decides the lowest tile).
-  pub data Faulty : ℕ → Type 0 where
-    unlisted : (g : ℕ) → g < groupCount logicTile table → (Off g → ⊥) → ((e : ℕ) → Listed g e → ⊥) → Faulty (positionAt logicTile table g 0)
-    stray : (p : ℕ) → p < 864 → Unclaimed table p → bitAt bits p ≡ 1 → Faulty p
-    carry-pair : CarryPair → Faulty (fieldAt table carryInSet)
-
-  abbrev pub Decodable : Type 0
-  Decodable = (p : ℕ) → Faulty p → ⊥
+  CarryPair = (bit (fieldAt table carryInSet) ≡ 1) × (bit (fieldAt table carryChain) ≡ 1)
 
   -- the settings that the bits read to
   pub record ReadsTo (settings : List ℕ) : Type 0 where
     pub long : length settings ≡ settingsLength logicTile
-    pub field : (f : ℕ) → f < 3 → fieldSetting settings f ≡ bitAt bits (fieldAt table f)
-    pub passive : (j : ℕ) → j < passiveCount logicTile table → passiveSetting logicTile settings j ≡ bitAt bits (passiveAt logicTile table j)
+    pub field : (f : ℕ) → f < 3 → fieldSetting settings f ≡ bit (fieldAt table f)
+    pub passive : (j : ℕ) → j < passiveCount logicTile table → passiveSetting logicTile settings j ≡ bit (passiveAt logicTile table j)
     pub group-off : (g : ℕ) → g < groupCount logicTile table → Off g → groupSetting logicTile settings g ≡ 0
     pub group-entry : (g e : ℕ) → g < groupCount logicTile table → Listed g e → groupSetting logicTile settings g ≡ suc e
     -- "LUT_INIT 0 to 15 are LC bits 4, 14, 15 [..]": bit j of a cell's table, and after these its four flags, LC bits 8, 9, 18 and 19
-    pub cell-table : (i j : ℕ) → i < 8 → j < 16 → digit (cellTable logicTile settings i) j ≡ bitAt bits (lcPosition i (getD lcBits j 0))
-    pub cell-flags : (i j : ℕ) → i < 8 → j < 4 → digit (cellFlags logicTile settings i) j ≡ bitAt bits (lcPosition i (getD lcBits (16 + j) 0))
+    pub cell-table : (i j : ℕ) → i < 8 → j < 16 → digit (cellTable logicTile settings i) j ≡ bit (lcPosition i (getD lcBits j 0))
+    pub cell-flags : (i j : ℕ) → i < 8 → j < 4 → digit (cellFlags logicTile settings i) j ≡ bit (lcPosition i (getD lcBits (16 + j) 0))
     pub table-fits : (i : ℕ) → i < 8 → cellTable logicTile settings i < 2 ^ 16
     pub flags-fit : (i : ℕ) → i < 8 → cellFlags logicTile settings i < 2 ^ 4
     pub passive-rest : (j : ℕ) → passiveCount logicTile table ≤ j → j < maxPassives → passiveSetting logicTile settings j ≡ 0
     pub group-rest : (g : ℕ) → groupCount logicTile table ≤ g → g < maxGroups → groupSetting logicTile settings g ≡ 0
+
+module _ (table : List ℕ) (tile : TileBits) where
+  -- "Any other is undecodable, and so is a set bit that nothing claims, and CarryInSet together with the chain switch."
+  -- A position at fault: "the group's first position for an unlisted pattern, the set bit itself for an unclaimed one, the CarryInSet
+  -- position for the carry pair" (document 02, W5; here it is what decides the lowest tile).
+  pub data Faulty : ℕ → Type 0 where
+    unlisted : (g : ℕ) → g < groupCount logicTile table → (Off table (tile .bit) g → ⊥) → ((e : ℕ) → Listed table (tile .bit) g e → ⊥) → Faulty (positionAt logicTile table g 0)
+    stray : (p : ℕ) → p < 864 → Unclaimed table p → tile .bit p ≡ 1 → Faulty p
+    carry-pair : CarryPair table (tile .bit) → Faulty (fieldAt table carryInSet)
+
+  abbrev pub Decodable : Type 0
+  Decodable = (p : ℕ) → Faulty p → ⊥
 
 -- some bits read to these settings: the opposite of "settings that no bits have"
 pub record HasBits (table settings : List ℕ) : Type 0 where
   pub bits : List ℕ
   pub long : length bits ≡ tileBytes
   pub bytes : Bytes bits
-  pub decodable : Decodable table bits
-  pub reads : ReadsTo table bits settings
+  pub decodable : Decodable table (tileOf bits)
+  pub reads : ReadsTo table (bitAt bits) settings

@@ -26,7 +26,7 @@ pub const PAST_TEN: u32 = 1024;
 // Rules out: a byte left out; the bits of p + 1 on.
 pub fn read_ten(bits: &[u8], p: usize) -> u32
     requires { ⌜ (p % unit ≤ 6) × (p / unit + 1 < length (now bits)) ⌝ }
-    ensures { λ r. ⌜ r ≡ tenFrom (now (bits .entry)) p ⌝ }
+    ensures { λ r. ⌜ r ≡ tenFrom (bitAt (now (bits .entry))) p ⌝ }
 {
     let i = p / UNIT;
     let two = bits[i] as u32 + PAST_UNIT * (bits[i + 1] as u32);
@@ -72,7 +72,7 @@ pub fn is_empty(bits: &[u8]) -> bool
 // Rules out: counting bytes that are not zero; leaving the last byte.
 pub fn count_bits(bits: &[u8]) -> u32
     requires { ⌜ length (now bits) ≡ tileBytes ⌝ }
-    ensures { λ r. ⌜ r ≡ bitCount (now (bits .entry)) ⌝ }
+    ensures { λ r. ⌜ r ≡ bitCount (bitAt (now (bits .entry))) ⌝ }
 {
     let mut n: u32 = 0;
     let mut i = 0;

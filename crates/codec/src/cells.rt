@@ -5,7 +5,7 @@ ghost use lib.ListN.{length};
 ghost use Rattle.lists.specs.Tables.{zeros};
 ghost use Rattle.routing.specs.TileKind.{bitsPerCell};
 ghost use Rattle.routing.specs.LogicTile.{logicTile, cellPosition};
-ghost use Rattle.codec.specs.Bits.{tileBytes, setBits};
+ghost use Rattle.codec.specs.Bits.{tileBytes, setBits, bitAt};
 ghost use Rattle.codec.specs.Settings.{settingsLength};
 ghost use Rattle.codec.specs.Cells.{cellBitIn, valueIn, cellsIn, cellSettings, writeCells, putCells, sameCell, firstDifference};
 use crate::bits::PAST_TEN;
@@ -28,7 +28,7 @@ const SECOND_TEN: usize = 90;
 // A cell's 20 bits as one number: its table, and its flags with weight 65,536. An empty cell takes no time.
 pub fn read_value(bits: &[u8], i: usize) -> u32
     requires { ⌜ (length (now bits) ≡ tileBytes) × (i < 8) ⌝ }
-    ensures { λ r. ⌜ r ≡ valueIn (now (bits .entry)) i ⌝ }
+    ensures { λ r. ⌜ r ≡ valueIn (bitAt (now (bits .entry))) i ⌝ }
 {
     let p = CELL_POSITIONS * i;
     let first = read_ten(bits, p + FIRST_TEN);
@@ -50,7 +50,7 @@ pub fn read_value(bits: &[u8], i: usize) -> u32
 // The cells that a tile's bits hold.
 pub fn decode_cells(bits: &[u8]) -> [Cell; 8]
     requires { ⌜ length (now bits) ≡ tileBytes ⌝ }
-    ensures { λ r. ⌜ r ≡ cellsIn (now (bits .entry)) ⌝ }
+    ensures { λ r. ⌜ r ≡ cellsIn (bitAt (now (bits .entry))) ⌝ }
 {
     let mut cells = [Cell {
         table: 0,
@@ -92,7 +92,7 @@ pub fn cells_of(settings: &[u16]) -> [Cell; 8]
 
 // A cell's 20 bits written where all of them are clear, so that an empty cell takes no time.
 pub fn write_value(bits: &mut [u8], i: usize, value: u32)
-    requires { ⌜ (length (now bits) ≡ tileBytes) × (i < 8) × ((j : ℕ) → j < bitsPerCell → cellBitIn (now bits) i j ≡ 0) ⌝ }
+    requires { ⌜ (length (now bits) ≡ tileBytes) × (i < 8) × ((j : ℕ) → j < bitsPerCell → cellBitIn (bitAt (now bits)) i j ≡ 0) ⌝ }
     ensures { λ r. ⌜ now (bits .exit) ≡ setBits (now (bits .entry)) (cellPosition i) value bitsPerCell ⌝ }
 {
     if value == 0 {

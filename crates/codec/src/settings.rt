@@ -6,7 +6,7 @@ ghost use lib.ListN.{length};
 ghost use Rattle.routing.specs.LogicTile.{logicTile};
 ghost use Rattle.routing.specs.Table.{groupCount};
 ghost use Rattle.routing.specs.Rules.{TableRules};
-ghost use Rattle.codec.specs.Bits.{tileBytes};
+ghost use Rattle.codec.specs.Bits.{tileBytes, bitAt};
 ghost use Rattle.codec.specs.Settings.{groupsFrom, settingsLength};
 ghost use Rattle.codec.specs.Groups.{readGroup};
 ghost use Rattle.codec.specs.Decode.{settingNumber, settingAt};
@@ -25,7 +25,7 @@ pub const GROUPS_FROM: usize = 67;
 // A group's setting.
 pub fn group_setting(table: &[u16], g: usize, bits: &[u8]) -> u16
     requires { ⌜ (TableRules logicTile (now table)) × (g < groupCount logicTile (now table)) × (length (now bits) ≡ tileBytes) ⌝ }
-    ensures { λ r. ⌜ r ≡ settingNumber (readGroup logicTile (now (table .entry)) (now (bits .entry)) g) ⌝ }
+    ensures { λ r. ⌜ r ≡ settingNumber (readGroup logicTile (now (table .entry)) (bitAt (now (bits .entry))) g) ⌝ }
 {
     let r = read_group(table, g, bits);
     match r {
@@ -37,7 +37,7 @@ pub fn group_setting(table: &[u16], g: usize, bits: &[u8]) -> u16
 // Setting n of what the bits read to, below the groups: a field or a passive bit.
 pub fn setting_at(table: &[u16], bits: &[u8], n: usize) -> u16
     requires { ⌜ (TableRules logicTile (now table)) × (length (now bits) ≡ tileBytes) × (n < groupsFrom logicTile) ⌝ }
-    ensures { λ r. ⌜ r ≡ settingAt (now (table .entry)) (now (bits .entry)) n ⌝ }
+    ensures { λ r. ⌜ r ≡ settingAt (now (table .entry)) (bitAt (now (bits .entry))) n ⌝ }
 {
     if n < PASSIVES_FROM {
         let p = routing::table::field(table, n);

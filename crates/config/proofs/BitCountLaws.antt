@@ -9,7 +9,7 @@ use lib.ListN.{length}
 use Rattle.refusal.specs.declared.Refusal.the-variants.{Size, Length, OutOfRange}
 use Rattle.fabric.specs.Block.{Sized, block, tiles, sized}
 use Rattle.fabric.proofs.BlockLaws.{sized-true}
-use Rattle.codec.specs.Bits.{tileBytes, bitCount}
+use Rattle.codec.specs.Bits.{tileBytes, bitCount, bitAt}
 use Rattle.config.specs.declared.BitCount.the-variants as counted
 use Rattle.config.specs.Blocks.{bitsAt}
 use Rattle.config.specs.Entry.{bitCountAnswer}
@@ -29,6 +29,6 @@ module _ (w h : ℕ) (bits : List ℕ) (tile : ℕ) where
       unfolding bitCountAnswer
       count-range e = rw (sized-true (block w h) s, eq-eqb (length bits) (tileBytes * tiles (block w h)) l, le-ltb tile (tiles (block w h)) e)
 
-      pub count-set : tile < tiles (block w h) → counted.Set (bitCount (bitsAt bits tile)) ≡ bitCountAnswer w h bits tile
+      pub count-set : tile < tiles (block w h) → counted.Set (bitCount (bitAt (bitsAt bits tile))) ≡ bitCountAnswer w h bits tile
       unfolding bitCountAnswer
       count-set e = rw (sized-true (block w h) s, eq-eqb (length bits) (tileBytes * tiles (block w h)) l, lt-ltb tile (tiles (block w h)) e)

@@ -14,7 +14,7 @@ use Rattle.lists.proofs.PartLaws.{part-length, joined-length, part-joined}
 use Rattle.routing.specs.LogicTile.{logicTile}
 use Rattle.routing.specs.Rules.{TableRules}
 use Rattle.routing.specs.Slots.{slotsOf}
-use Rattle.codec.specs.Bits.{tileBytes}
+use Rattle.codec.specs.Bits.{tileBytes, bitAt, tileOf}
 use Rattle.codec.specs.Settings.{settingsLength}
 use Rattle.codec.specs.Reading.{Decodable, ReadsTo, HasBits}
 use Rattle.codec.specs.Decode.{decode}
@@ -28,7 +28,7 @@ use Rattle.codec.proofs.TileRunLaws.{slot-value-lt}
 use Rattle.codec.proofs.FaultyLaws.{tile-fault-exact, tile-fault-lowest}
 use Rattle.codec.proofs.ReadingLaws.{decode-reads, settings-fit-exact}
 use Rattle.codec.proofs.SettingsBack.{settings-back, encode-decodable}
-use Rattle.config.specs.Blocks.{bitsAt, settingsAt, roomLength, undecodableAt, undecodableTile, decodedAt, decoded, bitlessAt, bitlessTile, encodedAt, encoded}
+use Rattle.config.specs.Blocks.{bitsAt, settingsAt, roomLength, undecodableAt, undecodableTile, decodedAt, decoded, bitlessAt, bitlessTile, encodedAt, encoded, tilesOf}
 use Rattle.config.specs.Facts.{LowestUndecodable, LowestBitless, TilesRead}
 
 -- the bits, and the settings, of a tile have a tile's length
@@ -46,45 +46,45 @@ front-length n k room few e long = length-take-le k room (omega arith)
 -- ---- bits to settings
 
 module _ (table bits : List ℕ) (n : ℕ) where
-  decoded-tile : (t : ℕ) → t < n → length (decodedAt table bits t) ≡ settingsLength logicTile
+  decoded-tile : (t : ℕ) → t < n → length (decodedAt table (tilesOf bits) t) ≡ settingsLength logicTile
   unfolding decodedAt
   decoded-tile t h = decode-length table (bitsAt bits t)
 
-  pub decoded-length : length (decoded table bits n) ≡ settingsLength logicTile * n
-  decoded-length = joined-length (settingsLength logicTile) (decodedAt table bits) n decoded-tile
+  pub decoded-length : length (decoded table (tilesOf bits) n) ≡ settingsLength logicTile * n
+  decoded-length = joined-length (settingsLength logicTile) (decodedAt table (tilesOf bits)) n decoded-tile
 
-  pub decoded-at : (t : ℕ) → t < n → settingsAt (decoded table bits n) t ≡ decode table (bitsAt bits t)
+  pub decoded-at : (t : ℕ) → t < n → settingsAt (decoded table (tilesOf bits) n) t ≡ decode table (bitAt (bitsAt bits t))
   unfolding decodedAt
-  decoded-at t h = part-joined (settingsLength logicTile) (decodedAt table bits) n t h decoded-tile
+  decoded-at t h = part-joined (settingsLength logicTile) (decodedAt table (tilesOf bits)) n t h decoded-tile
 
   module _ (T : TableRules logicTile table) where
     -- a tile that is not undecodable can be decoded, and the other way
-    pub clean-decodable : (t : ℕ) → undecodableAt table bits t ≡ false → Decodable table (bitsAt bits t)
+    pub clean-decodable : (t : ℕ) → undecodableAt table (tilesOf bits) t ≡ false → Decodable table (tileOf (bitsAt bits t))
     unfolding undecodableAt
     clean-decodable t e =
         tile-fault-exact table (bitsAt bits t) T .0
-        (omega (arith, ltb-false (tileFault table (bitsAt bits t)) (logicTile .positions) e, first-le (faultAt table (bitsAt bits t)) 0 864))
+        (omega (arith, ltb-false (tileFault table (tileOf (bitsAt bits t))) (logicTile .positions) e, first-le (faultAt table (tileOf (bitsAt bits t))) 0 864))
 
-    pub decodable-clean : (t : ℕ) → Decodable table (bitsAt bits t) → undecodableAt table bits t ≡ false
+    pub decodable-clean : (t : ℕ) → Decodable table (tileOf (bitsAt bits t)) → undecodableAt table (tilesOf bits) t ≡ false
     unfolding undecodableAt
-    decodable-clean t D = le-ltb (tileFault table (bitsAt bits t)) (logicTile .positions) (omega (arith, tile-fault-exact table (bitsAt bits t) T .1 D))
+    decodable-clean t D = le-ltb (tileFault table (tileOf (bitsAt bits t))) (logicTile .positions) (omega (arith, tile-fault-exact table (bitsAt bits t) T .1 D))
 
-    pub undecodable-lowest : undecodableTile table bits n < n → LowestUndecodable table bits n (undecodableTile table bits n)
+    pub undecodable-lowest : undecodableTile table (tilesOf bits) n < n → LowestUndecodable table (tilesOf bits) n (undecodableTile table (tilesOf bits) n)
     unfolding undecodableAt
     undecodable-lowest h = record {
       within = h;
-      position = tileFault table (bitsAt bits (undecodableTile table bits n));
-      faulty = tile-fault-lowest table (bitsAt bits (undecodableTile table bits n)) T
-          (ltb-true (tileFault table (bitsAt bits (undecodableTile table bits n))) (logicTile .positions) (first-true (undecodableAt table bits) 0 n (omega arith)))
+      position = tileFault table (tileOf (bitsAt bits (undecodableTile table (tilesOf bits) n)));
+      faulty = tile-fault-lowest table (bitsAt bits (undecodableTile table (tilesOf bits) n)) T
+          (ltb-true (tileFault table (tileOf (bitsAt bits (undecodableTile table (tilesOf bits) n)))) (logicTile .positions) (first-true (undecodableAt table (tilesOf bits)) 0 n (omega arith)))
           .0;
-      lower = λ s l. clean-decodable s (first-before (undecodableAt table bits) 0 n s (omega arith) l);
+      lower = λ s l. clean-decodable s (first-before (undecodableAt table (tilesOf bits)) 0 n s (omega arith) l);
     }
 
     -- what is decoded is what the bits read to
-    pub decoded-reads : ((t : ℕ) → t < n → undecodableAt table bits t ≡ false) → TilesRead table bits (decoded table bits n) n
+    pub decoded-reads : ((t : ℕ) → t < n → undecodableAt table (tilesOf bits) t ≡ false) → TilesRead table (tilesOf bits) (decoded table (tilesOf bits) n) n
     decoded-reads clean = record {
       decodable = λ t l. clean-decodable t (clean t l);
-      reads = λ t l. subst (ReadsTo table (bitsAt bits t)) (sym (decoded-at t l)) (decode-reads table (bitsAt bits t) T);
+      reads = λ t l. subst (ReadsTo table (bitAt (bitsAt bits t))) (sym (decoded-at t l)) (decode-reads table (bitsAt bits t) T);
     }
 
 -- ---- settings to bits
@@ -123,10 +123,10 @@ module _ (table settings : List ℕ) (n : ℕ) where
     none-bitless pass t h = fit-bits t h (not-false _ (first-before (bitlessAt table settings) 0 n t (omega arith) (omega arith)))
 
     -- what is encoded reads to the settings
-    pub encoded-reads : ((t : ℕ) → t < n → settingsFit table (settingsAt settings t) ≡ true) → TilesRead table (encoded table settings n) settings n
+    pub encoded-reads : ((t : ℕ) → t < n → settingsFit table (settingsAt settings t) ≡ true) → TilesRead table (tilesOf (encoded table settings n)) settings n
     encoded-reads fit = record {
-      decodable = λ t l. subst (Decodable table) (sym (encoded-at t l)) (encode-decodable table (settingsAt settings t) (fit-writable t l (fit t l)));
-      reads = λ t l. subst (λ (b : List ℕ). ReadsTo table b (settingsAt settings t)) (sym (encoded-at t l))
-          (subst (ReadsTo table (encode table (settingsAt settings t))) (settings-back table (settingsAt settings t) (fit-writable t l (fit t l)))
+      decodable = λ t l. subst (λ (b : List ℕ). Decodable table (tileOf b)) (sym (encoded-at t l)) (encode-decodable table (settingsAt settings t) (fit-writable t l (fit t l)));
+      reads = λ t l. subst (λ (b : List ℕ). ReadsTo table (bitAt b) (settingsAt settings t)) (sym (encoded-at t l))
+          (subst (ReadsTo table (bitAt (encode table (settingsAt settings t)))) (settings-back table (settingsAt settings t) (fit-writable t l (fit t l)))
           (decode-reads table (encode table (settingsAt settings t)) T));
     }

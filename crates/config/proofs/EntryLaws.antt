@@ -18,7 +18,7 @@ use Rattle.routing.specs.TableCheck.{faultyPart, partCount, tableOk}
 use Rattle.routing.proofs.TableCheckLaws.{table-exact}
 use Rattle.codec.specs.Bits.{tileBytes}
 use Rattle.codec.specs.Settings.{settingsLength}
-use Rattle.config.specs.Blocks.{undecodableTile, bitlessTile}
+use Rattle.config.specs.Blocks.{undecodableTile, bitlessTile, tilesOf}
 use Rattle.config.specs.Entry.{lengthsOk, readAnswer, writeAnswer}
 use Rattle.config.specs.Facts.{ExactLengths, Checked}
 
@@ -60,7 +60,7 @@ module _ (w h : ℕ) (table bits : List ℕ) (settings : ℕ) where
     read-table l p e n =
         rw (sized-true (block w h) s, lengths-true (tiles (block w h)) (length table) (length bits) settings l, ← e, ne-eqb p (partCount logicTile table) n)
 
-  module _ (C : Checked w h table (length bits) settings) (t : ℕ) (e : t ≡ undecodableTile table bits (tiles (block w h))) where
+  module _ (C : Checked w h table (length bits) settings) (t : ℕ) (e : t ≡ undecodableTile table (tilesOf bits) (tiles (block w h))) where
     pub read-undecodable : t < tiles (block w h) → Refused (Undecodable t) ≡ readAnswer w h table bits settings
     unfolding readAnswer
     read-undecodable l =

@@ -18,7 +18,7 @@ use Rattle.fabric.proofs.BlockLaws.{sized-exact, sized-true}
 use Rattle.routing.specs.LogicTile.{logicTile}
 use Rattle.routing.specs.TableCheck.{faultyPart, tableOk}
 use Rattle.routing.proofs.TableCheckLaws.{table-broken}
-use Rattle.config.specs.Blocks.{undecodableAt, undecodableTile, decoded, bitlessAt, bitlessTile, encoded}
+use Rattle.config.specs.Blocks.{undecodableAt, undecodableTile, decoded, bitlessAt, bitlessTile, encoded, tilesOf}
 use Rattle.config.specs.Entry.{lengthsOk, readAnswer, writeAnswer}
 use Rattle.config.specs.Facts.{NoSize, NoLength, NoTable}
 use Rattle.config.specs.Meaning.{ReadSays, WriteSays}
@@ -44,14 +44,14 @@ module _ (w h : ℕ) (table : List ℕ) (bits settings : ℕ) where
 module _ (w h : ℕ) (table bits : List ℕ) where
   pub read-means : (settings : List ℕ)
       → ReadSays w h table bits settings
-      (output (answerNumber (readAnswer w h table bits (length settings))) settings (decoded table bits (tiles (block w h))))
+      (output (answerNumber (readAnswer w h table bits (length settings))) settings (decoded table (tilesOf bits) (tiles (block w h))))
       (readAnswer w h table bits (length settings))
   unfolding readAnswer
   read-means settings =
       checks-cases (sized (block w h)) (lengthsOk (tiles (block w h)) (length table) (length bits) (length settings)) (tableOk logicTile table)
-      (leb (tiles (block w h)) (undecodableTile table bits (tiles (block w h)))) (faultyPart logicTile table)
-      (Undecodable (undecodableTile table bits (tiles (block w h))))
-      (λ (a : Answer). ReadSays w h table bits settings (output (answerNumber a) settings (decoded table bits (tiles (block w h)))) a)
+      (leb (tiles (block w h)) (undecodableTile table (tilesOf bits) (tiles (block w h)))) (faultyPart logicTile table)
+      (Undecodable (undecodableTile table (tilesOf bits) (tiles (block w h))))
+      (λ (a : Answer). ReadSays w h table bits settings (output (answerNumber a) settings (decoded table (tilesOf bits) (tiles (block w h)))) a)
       (λ s. (refl, no-size w h table (length bits) (length settings) s))
       (λ s l. (refl, no-length w h table (length bits) (length settings) s l))
       (λ s l t. (refl, no-table w h table (length bits) (length settings) s l t))
@@ -69,16 +69,16 @@ module _ (w h : ℕ) (table bits : List ℕ) where
           };
           rules = C .rules;
         },
-        decoded-reads table bits (tiles (block w h)) (C .rules) (λ i z. first-before (undecodableAt table bits) 0 (tiles (block w h)) i (omega arith)
-            (omega (arith, leb-true (tiles (block w h)) (undecodableTile table bits (tiles (block w h))) c))),
+        decoded-reads table bits (tiles (block w h)) (C .rules) (λ i z. first-before (undecodableAt table (tilesOf bits)) 0 (tiles (block w h)) i (omega arith)
+            (omega (arith, leb-true (tiles (block w h)) (undecodableTile table (tilesOf bits) (tiles (block w h))) c))),
       ))
 
   -- the same over what `read` promises of its answer and of the lent settings
   pub read-says : (before after : List ℕ) (a : Answer) → a ≡ readAnswer w h table bits (length before)
-      → after ≡ output (answerNumber a) before (decoded table bits (tiles (block w h))) → ReadSays w h table bits before after a
+      → after ≡ output (answerNumber a) before (decoded table (tilesOf bits) (tiles (block w h))) → ReadSays w h table bits before after a
   read-says before after a e q =
       subst (λ (x : List ℕ). ReadSays w h table bits before x a) (sym q)
-      (subst (λ (x : Answer). ReadSays w h table bits before (output (answerNumber x) before (decoded table bits (tiles (block w h)))) x) (sym e) (read-means before))
+      (subst (λ (x : Answer). ReadSays w h table bits before (output (answerNumber x) before (decoded table (tilesOf bits) (tiles (block w h)))) x) (sym e) (read-means before))
 
 -- ---- writing
 

@@ -20,7 +20,7 @@ use Rattle.routing.specs.LogicTile.{logicTile}
 use Rattle.routing.specs.TableCheck.{faultyPart, tableOk}
 use Rattle.routing.proofs.TableCheckLaws.{table-exact}
 use Rattle.codec.specs.Limits.{settingsFit}
-use Rattle.config.specs.Blocks.{settingsAt, undecodableAt, undecodableTile, bitlessAt, bitlessTile}
+use Rattle.config.specs.Blocks.{settingsAt, undecodableAt, undecodableTile, bitlessAt, bitlessTile, tilesOf}
 use Rattle.config.specs.Entry.{lengthsOk, readAnswer, writeAnswer}
 use Rattle.config.specs.Facts.{Checked}
 use Rattle.config.proofs.EntryLaws.{lengths-exact}
@@ -74,18 +74,18 @@ checked-of w h table bits settings s l t =
 
 module _ (w h : ℕ) (table bits : List ℕ) (settings : ℕ) (done : readAnswer w h table bits settings ≡ Done) where
   read-pass : AllPass (sized (block w h)) (lengthsOk (tiles (block w h)) (length table) (length bits) settings) (tableOk logicTile table)
-      (leb (tiles (block w h)) (undecodableTile table bits (tiles (block w h))))
+      (leb (tiles (block w h)) (undecodableTile table (tilesOf bits) (tiles (block w h))))
   unfolding readAnswer
-  read-pass = checks-done _ _ _ _ (faultyPart logicTile table) (Undecodable (undecodableTile table bits (tiles (block w h)))) done
+  read-pass = checks-done _ _ _ _ (faultyPart logicTile table) (Undecodable (undecodableTile table (tilesOf bits) (tiles (block w h)))) done
 
   pub read-passed : Checked w h table (length bits) settings
   read-passed = checked-of w h table (length bits) settings (read-pass .size-pass) (read-pass .lengths-pass) (read-pass .table-pass)
 
   -- no tile has a position at fault
-  pub read-clean : (t : ℕ) → t < tiles (block w h) → undecodableAt table bits t ≡ false
+  pub read-clean : (t : ℕ) → t < tiles (block w h) → undecodableAt table (tilesOf bits) t ≡ false
   read-clean t l =
-      first-before (undecodableAt table bits) 0 (tiles (block w h)) t (omega arith)
-      (omega (arith, leb-true (tiles (block w h)) (undecodableTile table bits (tiles (block w h))) (read-pass .clean-pass)))
+      first-before (undecodableAt table (tilesOf bits)) 0 (tiles (block w h)) t (omega arith)
+      (omega (arith, leb-true (tiles (block w h)) (undecodableTile table (tilesOf bits) (tiles (block w h))) (read-pass .clean-pass)))
 
 module _ (w h : ℕ) (table settings : List ℕ) (bits : ℕ) (done : writeAnswer w h table settings bits ≡ Done) where
   write-pass : AllPass (sized (block w h)) (lengthsOk (tiles (block w h)) (length table) bits (length settings)) (tableOk logicTile table)

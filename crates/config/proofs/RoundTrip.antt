@@ -11,7 +11,7 @@ use Rattle.lists.proofs.PartLaws.{joined-is, part-each}
 use Rattle.refusal.specs.declared.Answer.the-variants.{Done}
 use Rattle.fabric.specs.Block.{block, tiles}
 use Rattle.routing.specs.LogicTile.{logicTile}
-use Rattle.codec.specs.Bits.{unit, tileBytes, Bytes}
+use Rattle.codec.specs.Bits.{unit, tileBytes, bitAt, Bytes}
 use Rattle.codec.specs.Settings.{settingsLength}
 use Rattle.codec.specs.Decode.{decode}
 use Rattle.codec.specs.Encode.{encode}
@@ -19,7 +19,7 @@ use Rattle.codec.specs.Limits.{settingsFit}
 use Rattle.codec.proofs.ReadingLaws.{decode-fits}
 use Rattle.codec.proofs.SettingsBack.{settings-back}
 use Rattle.codec.proofs.BitsBack.{bits-back}
-use Rattle.config.specs.Blocks.{bitsAt, settingsAt, undecodableAt, decodedAt, decoded, bitlessAt, encodedAt, encoded}
+use Rattle.config.specs.Blocks.{bitsAt, settingsAt, undecodableAt, decodedAt, decoded, bitlessAt, encodedAt, encoded, tilesOf}
 use Rattle.config.specs.Entry.{readAnswer, writeAnswer}
 use Rattle.config.specs.Facts.{Checked}
 use Rattle.config.proofs.EntryLaws.{read-done, write-done}
@@ -34,20 +34,20 @@ module _ (w h : ℕ) (table settings : List ℕ) (bits : ℕ) (done : writeAnswe
   abbrev written : List ℕ
   written = encoded table settings (tiles (block w h))
 
-  written-clean : (t : ℕ) → t < tiles (block w h) → undecodableAt table written t ≡ false
+  written-clean : (t : ℕ) → t < tiles (block w h) → undecodableAt table (tilesOf written) t ≡ false
   written-clean t l =
       decodable-clean table written (tiles (block w h)) (W .rules) t
       (encoded-reads table settings (tiles (block w h)) (W .rules) (W .lengths .settings-long) (write-fit w h table settings bits done) .decodable t l)
 
-  written-back : (t : ℕ) → t < tiles (block w h) → decodedAt table written t ≡ settingsAt settings t
+  written-back : (t : ℕ) → t < tiles (block w h) → decodedAt table (tilesOf written) t ≡ settingsAt settings t
   unfolding decodedAt
   written-back t l =
-      ap (decode table) (encoded-at table settings (tiles (block w h)) t l)
+      ap (λ (b : List ℕ). decode table (bitAt b)) (encoded-at table settings (tiles (block w h)) t l)
       ∙ settings-back table (settingsAt settings t)
       (fit-writable table settings (tiles (block w h)) (W .rules) (W .lengths .settings-long) t l (write-fit w h table settings bits done t l))
 
   pub written-reads : (readAnswer w h table (encoded table settings (tiles (block w h))) (length settings) ≡ Done)
-      × (decoded table (encoded table settings (tiles (block w h))) (tiles (block w h)) ≡ settings)
+      × (decoded table (tilesOf (encoded table settings (tiles (block w h)))) (tiles (block w h)) ≡ settings)
   written-reads = (
     sym (read-done w h table written (length settings) (record {
       size = W .size;
@@ -58,8 +58,8 @@ module _ (w h : ℕ) (table settings : List ℕ) (bits : ℕ) (done : writeAnswe
       };
       rules = W .rules;
     })
-        (tiles (block w h)) (sym (first-none (undecodableAt table written) (tiles (block w h)) written-clean)) (omega arith)),
-    joined-is (settingsLength logicTile) (tiles (block w h)) (decodedAt table written) settings (W .lengths .settings-long) written-back,
+        (tiles (block w h)) (sym (first-none (undecodableAt table (tilesOf written)) (tiles (block w h)) written-clean)) (omega arith)),
+    joined-is (settingsLength logicTile) (tiles (block w h)) (decodedAt table (tilesOf written)) settings (W .lengths .settings-long) written-back,
   )
 
 -- "bits that were read are written back the same"
@@ -68,7 +68,7 @@ module _ (w h : ℕ) (table bits : List ℕ) (settings : ℕ) (by : Bytes bits) 
   R = read-passed w h table bits settings done
 
   abbrev taken : List ℕ
-  taken = decoded table bits (tiles (block w h))
+  taken = decoded table (tilesOf bits) (tiles (block w h))
 
   taken-fits : (t : ℕ) → t < tiles (block w h) → bitlessAt table taken t ≡ false
   unfolding bitlessAt
@@ -85,8 +85,8 @@ module _ (w h : ℕ) (table bits : List ℕ) (settings : ℕ) (by : Bytes bits) 
       (bits-at-length bits (tiles (block w h)) t (R .lengths .bits-long) l)
       (part-each (λ (x : ℕ). x < 2 ^ unit) (omega arith) tileBytes t bits by)
 
-  pub read-writes : (writeAnswer w h table (decoded table bits (tiles (block w h))) (length bits) ≡ Done)
-      × (encoded table (decoded table bits (tiles (block w h))) (tiles (block w h)) ≡ bits)
+  pub read-writes : (writeAnswer w h table (decoded table (tilesOf bits) (tiles (block w h))) (length bits) ≡ Done)
+      × (encoded table (decoded table (tilesOf bits) (tiles (block w h))) (tiles (block w h)) ≡ bits)
   read-writes = (
     sym (write-done w h table taken (length bits) (record {
       size = R .size;

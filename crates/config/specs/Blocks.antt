@@ -6,7 +6,7 @@ use lib.Dec.{ltb}
 use Rattle.lists.specs.Search.{first}
 use Rattle.lists.specs.Parts.{part, joined}
 use Rattle.routing.specs.LogicTile.{logicTile}
-use Rattle.codec.specs.Bits.{tileBytes}
+use Rattle.codec.specs.Bits.{tileBytes, TileBits, tileOf}
 use Rattle.codec.specs.Settings.{settingsLength}
 use Rattle.codec.specs.Decode.{decode}
 use Rattle.codec.specs.Encode.{encode}
@@ -20,25 +20,29 @@ bitsAt bits t = part tileBytes t bits
 abbrev pub settingsAt : List ℕ → ℕ → List ℕ
 settingsAt settings t = part (settingsLength logicTile) t settings
 
+-- a block as its tiles are read
+abbrev pub tilesOf : List ℕ → ℕ → TileBits
+tilesOf bits t = tileOf (bitsAt bits t)
+
 -- the settings of the largest block, 64 tiles
 abbrev pub roomLength : ℕ
 roomLength = settingsLength logicTile * 64
 
 module _ (table : List ℕ) where
   -- tile t cannot be decoded
-  unfoldable pub undecodableAt : List ℕ → ℕ → Bool
-  undecodableAt bits t = ltb (tileFault table (bitsAt bits t)) (logicTile .positions)
+  unfoldable pub undecodableAt : (ℕ → TileBits) → ℕ → Bool
+  undecodableAt tile t = ltb (tileFault table (tile t)) (logicTile .positions)
 
   -- "4: undecodable: lowest tile"; n where all of the n tiles can be decoded
-  abbrev pub undecodableTile : List ℕ → ℕ → ℕ
-  undecodableTile bits n = first (undecodableAt bits) 0 n
+  abbrev pub undecodableTile : (ℕ → TileBits) → ℕ → ℕ
+  undecodableTile tile n = first (undecodableAt tile) 0 n
 
-  unfoldable pub decodedAt : List ℕ → ℕ → List ℕ
-  decodedAt bits t = decode table (bitsAt bits t)
+  unfoldable pub decodedAt : (ℕ → TileBits) → ℕ → List ℕ
+  decodedAt tile t = decode table (tile t .bit)
 
   -- the settings of n tiles
-  abbrev pub decoded : List ℕ → ℕ → List ℕ
-  decoded bits n = joined (decodedAt bits) n
+  abbrev pub decoded : (ℕ → TileBits) → ℕ → List ℕ
+  decoded tile n = joined (decodedAt tile) n
 
   -- no bits have the settings of tile t
   unfoldable pub bitlessAt : List ℕ → ℕ → Bool

@@ -13,9 +13,9 @@ use Rattle.fabric.specs.Block.{block, tiles, sized}
 use Rattle.routing.specs.LogicTile.{logicTile}
 use Rattle.routing.specs.Table.{tableLength}
 use Rattle.routing.specs.TableCheck.{faultyPart, tableOk}
-use Rattle.codec.specs.Bits.{tileBytes, bitCount}
+use Rattle.codec.specs.Bits.{tileBytes, bitCount, bitAt}
 use Rattle.codec.specs.Settings.{settingsLength}
-use Rattle.config.specs.Blocks.{bitsAt, undecodableTile, bitlessTile}
+use Rattle.config.specs.Blocks.{bitsAt, undecodableTile, bitlessTile, tilesOf}
 use Rattle.config.specs.declared.BitCount.{BitCount}
 use Rattle.config.specs.declared.BitCount.the-variants as counted
 
@@ -30,7 +30,7 @@ readAnswer w h table bits settings =
     unless (sized (block w h)) (Refused Size)
     (unless (lengthsOk (tiles (block w h)) (length table) (length bits) settings) (Refused Length)
     (unless (tableOk logicTile table) (Refused (Table (faultyPart logicTile table)))
-    (unless (leb (tiles (block w h)) (undecodableTile table bits (tiles (block w h)))) (Refused (Undecodable (undecodableTile table bits (tiles (block w h)))))
+    (unless (leb (tiles (block w h)) (undecodableTile table (tilesOf bits) (tiles (block w h)))) (Refused (Undecodable (undecodableTile table (tilesOf bits) (tiles (block w h)))))
     Done)))
 
 -- writing: the bits are an output
@@ -57,4 +57,4 @@ bitCountAnswer w h bits tile =
     unless (sized (block w h)) (counted.Refused Size)
     (unless (eqb (length bits) (tileBytes * tiles (block w h))) (counted.Refused Length)
     (unless (ltb tile (tiles (block w h))) (counted.Refused (OutOfRange tile))
-    (counted.Set (bitCount (bitsAt bits tile)))))
+    (counted.Set (bitCount (bitAt (bitsAt bits tile))))))

@@ -8,10 +8,10 @@ use Rattle.fabric.specs.Block.{Sized, block, tiles}
 use Rattle.routing.specs.LogicTile.{logicTile}
 use Rattle.routing.specs.Table.{tableLength}
 use Rattle.routing.specs.Rules.{TableRules, FirstBroken}
-use Rattle.codec.specs.Bits.{tileBytes}
+use Rattle.codec.specs.Bits.{tileBytes, TileBits}
 use Rattle.codec.specs.Settings.{settingsLength}
 use Rattle.codec.specs.Reading.{Faulty, Decodable, ReadsTo, HasBits}
-use Rattle.config.specs.Blocks.{bitsAt, settingsAt}
+use Rattle.config.specs.Blocks.{settingsAt}
 
 -- "Lengths: bits 108 [..], each times W·H; those of table, settings [..] stand in docs/": the exact lengths for n tiles
 pub record ExactLengths (n table bits settings : ℕ) : Type 0 where
@@ -40,11 +40,11 @@ module _ (w h : ℕ) (table : List ℕ) (bits settings : ℕ) where
     pub rules : TableRules logicTile table
 
 -- "4: undecodable: lowest tile": tile t of n has a position at fault, and no lower tile has one
-pub record LowestUndecodable (table bits : List ℕ) (n t : ℕ) : Type 0 where
+pub record LowestUndecodable (table : List ℕ) (tile : ℕ → TileBits) (n t : ℕ) : Type 0 where
   pub within : t < n
   pub position : ℕ
-  pub faulty : Faulty table (bitsAt bits t) position
-  pub lower : (s : ℕ) → s < t → Decodable table (bitsAt bits s)
+  pub faulty : Faulty table (tile t) position
+  pub lower : (s : ℕ) → s < t → Decodable table (tile s)
 
 -- "9: settings that no bits have: lowest tile"
 pub record LowestBitless (table settings : List ℕ) (n t : ℕ) : Type 0 where
@@ -53,6 +53,6 @@ pub record LowestBitless (table settings : List ℕ) (n t : ℕ) : Type 0 where
   pub lower : (s : ℕ) → s < t → HasBits table (settingsAt settings s)
 
 -- "Settings are read as the IceStorm tile documents and the lent routing table say": each of n tiles can be decoded and reads to its settings
-pub record TilesRead (table bits settings : List ℕ) (n : ℕ) : Type 0 where
-  pub decodable : (t : ℕ) → t < n → Decodable table (bitsAt bits t)
-  pub reads : (t : ℕ) → t < n → ReadsTo table (bitsAt bits t) (settingsAt settings t)
+pub record TilesRead (table : List ℕ) (tile : ℕ → TileBits) (settings : List ℕ) (n : ℕ) : Type 0 where
+  pub decodable : (t : ℕ) → t < n → Decodable table (tile t)
+  pub reads : (t : ℕ) → t < n → ReadsTo table (tile t .bit) (settingsAt settings t)

@@ -1,5 +1,6 @@
 -- What each answer of `read` and `write` says, case by case. `proofs/MeaningLaws.antt` shows it of every answer, so that a reader has to
 -- believe these definitions and those of specs/Facts.antt, and not how the answers are computed.
+use Rattle.config.specs.Blocks.{tilesOf}
 use Prim.Native.Nat.{ℕ}
 use mathlib.Core.Path.{_≡_}
 use mathlib.Core.List.{List}
@@ -16,7 +17,7 @@ abbrev pub ReadGround : ℕ → ℕ → List ℕ → List ℕ → ℕ → Refusa
 ReadGround w h table bits settings Size = NoSize w h table (length bits) settings
 ReadGround w h table bits settings Length = NoLength w h table (length bits) settings
 ReadGround w h table bits settings (Table part) = NoTable w h table (length bits) settings part
-ReadGround w h table bits settings (Undecodable tile) = Checked w h table (length bits) settings × LowestUndecodable table bits (tiles (block w h)) tile
+ReadGround w h table bits settings (Undecodable tile) = Checked w h table (length bits) settings × LowestUndecodable table (tilesOf bits) (tiles (block w h)) tile
 ReadGround w h table bits settings (Contention wire) = ⊥
 ReadGround w h table bits settings (DisabledCarry wire) = ⊥
 ReadGround w h table bits settings (Loop wire) = ⊥
@@ -29,7 +30,7 @@ ReadGround w h table bits settings (OutOfRange number) = ⊥
 
 -- what an answer of `read` says, `before` and `after` being the lent settings; "On a refusal the outputs keep their old contents"
 abbrev pub ReadSays : ℕ → ℕ → List ℕ → List ℕ → List ℕ → List ℕ → Answer → Type 0
-ReadSays w h table bits before after Done = Checked w h table (length bits) (length after) × TilesRead table bits after (tiles (block w h))
+ReadSays w h table bits before after Done = Checked w h table (length bits) (length after) × TilesRead table (tilesOf bits) after (tiles (block w h))
 ReadSays w h table bits before after (Refused refusal) = (after ≡ before) × ReadGround w h table bits (length before) refusal
 
 -- "writing bits 1, 2, 3, 9": what each no of a write says; it has no other
@@ -50,5 +51,5 @@ WriteGround w h table settings bits (OutOfRange number) = ⊥
 
 -- what an answer of `write` says, `before` and `after` being the lent bits; "Writing settings gives bits that read back the same"
 abbrev pub WriteSays : ℕ → ℕ → List ℕ → List ℕ → List ℕ → List ℕ → Answer → Type 0
-WriteSays w h table settings before after Done = Checked w h table (length after) (length settings) × TilesRead table after settings (tiles (block w h))
+WriteSays w h table settings before after Done = Checked w h table (length after) (length settings) × TilesRead table (tilesOf after) settings (tiles (block w h))
 WriteSays w h table settings before after (Refused refusal) = (after ≡ before) × WriteGround w h table settings (length before) refusal

@@ -10,7 +10,7 @@ ghost use Rattle.routing.specs.Claiming.{TableOwned};
 ghost use Rattle.codec.specs.Bits.{tileBytes};
 ghost use Rattle.codec.specs.Settings.{settingsLength};
 ghost use Rattle.codec.specs.Limits.{settingsFit};
-ghost use Rattle.config.specs.Blocks.{settingsAt, undecodableTile, decoded, bitlessTile, encoded};
+ghost use Rattle.config.specs.Blocks.{settingsAt, undecodableTile, decoded, bitlessTile, encoded, tilesOf};
 use codec::bits::TILE_BYTES;
 use codec::settings::SETTINGS_LENGTH;
 use routing::table::POSITIONS;
@@ -18,8 +18,8 @@ use routing::table::POSITIONS;
 // The lowest tile that cannot be decoded; where all n can, n with their settings.
 pub fn read_block(table: &[u16], own: &[u16], bits: &[u8], settings: &mut [u16], n: usize) -> usize
     requires { ⌜ (n ≤ 64) × TableRules logicTile (now table) × TableOwned logicTile (now table) (slotCount logicTile) (now own) × (length (now bits) ≡ tileBytes * n) × (length (now settings) ≡ settingsLength logicTile * n) ⌝ }
-    ensures tile { λ r. ⌜ r ≡ undecodableTile (now (table .entry)) (now (bits .entry)) n ⌝ }
-    ensures settings { λ r. ⌜ (r ≡ n → now (settings .exit) ≡ decoded (now (table .entry)) (now (bits .entry)) n) ⌝ }
+    ensures tile { λ r. ⌜ r ≡ undecodableTile (now (table .entry)) (tilesOf (now (bits .entry))) n ⌝ }
+    ensures settings { λ r. ⌜ (r ≡ n → now (settings .exit) ≡ decoded (now (table .entry)) (tilesOf (now (bits .entry))) n) ⌝ }
 {
     let mut t = 0;
     while t < n {
@@ -39,7 +39,7 @@ pub fn read_block(table: &[u16], own: &[u16], bits: &[u8], settings: &mut [u16],
 // The settings of n tiles that can be decoded.
 pub fn decode_block(table: &[u16], bits: &[u8], settings: &mut [u16], n: usize)
     requires { ⌜ (n ≤ 64) × TableRules logicTile (now table) × (length (now bits) ≡ tileBytes * n) × (length (now settings) ≡ settingsLength logicTile * n) ⌝ }
-    ensures { λ r. ⌜ now (settings .exit) ≡ decoded (now (table .entry)) (now (bits .entry)) n ⌝ }
+    ensures { λ r. ⌜ now (settings .exit) ≡ decoded (now (table .entry)) (tilesOf (now (bits .entry))) n ⌝ }
 {
     let mut t = 0;
     while t < n {

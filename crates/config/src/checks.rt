@@ -4,7 +4,7 @@ ghost use Prim.Native.Nat.{_≤_};
 ghost use lib.ListN.{length, take};
 ghost use Rattle.refusal.specs.declared.Answer.the-variants.{Done};
 ghost use Rattle.fabric.specs.Block.{block, tiles};
-ghost use Rattle.config.specs.Blocks.{roomLength, decoded};
+ghost use Rattle.config.specs.Blocks.{roomLength, decoded, tilesOf};
 ghost use Rattle.config.specs.Entry.{lengthsOk, readAnswer, writeAnswer};
 use codec::bits::TILE_BYTES;
 use codec::settings::SETTINGS_LENGTH;
@@ -39,7 +39,7 @@ pub fn read_checks(
 ) -> Answer
     requires { ⌜ length (now room) ≡ roomLength ⌝ }
     ensures answer { λ r. ⌜ r ≡ readAnswer w h (now (table .entry)) (now (bits .entry)) settings ⌝ }
-    ensures room { λ r. ⌜ (r ≡ Done → take settings (now (room .exit)) ≡ decoded (now (table .entry)) (now (bits .entry)) (tiles (block w h))) ⌝ }
+    ensures room { λ r. ⌜ (r ≡ Done → take settings (now (room .exit)) ≡ decoded (now (table .entry)) (tilesOf (now (bits .entry))) (tiles (block w h))) ⌝ }
 {
     if !fabric::is_sized(Block { w, h }) {
         return Answer::Refused(Refusal::Size);

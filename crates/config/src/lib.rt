@@ -8,7 +8,7 @@ ghost use lib.ListN.{length};
 ghost use Rattle.refusal.specs.Grounds.{answerNumber};
 ghost use Rattle.refusal.specs.Memory.{output};
 ghost use Rattle.fabric.specs.Block.{block, tiles};
-ghost use Rattle.config.specs.Blocks.{decoded, encoded};
+ghost use Rattle.config.specs.Blocks.{decoded, encoded, tilesOf};
 ghost use Rattle.config.specs.Entry.{readAnswer, writeAnswer, bitCountAnswer};
 ghost use Rattle.config.specs.Meaning.{ReadSays, WriteSays};
 use codec::bits::TILE_BYTES;
@@ -30,7 +30,7 @@ pub enum BitCount {
 // Rules out: refusing every block; settings written on a no; the same settings for all bits.
 pub fn read(w: u32, h: u32, table: &[u16], bits: &[u8], settings: &mut [u16]) -> Answer
     ensures answer { λ r. ⌜ r ≡ readAnswer w h (now (table .entry)) (now (bits .entry)) (length (now (settings .entry))) ⌝ }
-    ensures settings { λ r. ⌜ now (settings .exit) ≡ output (answerNumber r) (now (settings .entry)) (decoded (now (table .entry)) (now (bits .entry)) (tiles (block w h))) ⌝ }
+    ensures settings { λ r. ⌜ now (settings .exit) ≡ output (answerNumber r) (now (settings .entry)) (decoded (now (table .entry)) (tilesOf (now (bits .entry))) (tiles (block w h))) ⌝ }
     ensures says { λ r. ⌜ ReadSays w h (now (table .entry)) (now (bits .entry)) (now (settings .entry)) (now (settings .exit)) r ⌝ }
 {
     let len = settings.len();

@@ -4,7 +4,7 @@ use mathlib.Core.Bool.{true}
 use mathlib.Core.List.{List, _++_}
 use Rattle.fabric.specs.declared.Block.{Block}
 use Rattle.fabric.specs.Block.{block, tiles, portsPerTile}
-use Rattle.config.specs.Blocks.{decoded}
+use Rattle.config.specs.Blocks.{decoded, tilesOf}
 use Rattle.equations.specs.Sources.{sourcesOf}
 use Rattle.block.specs.declared.Built.{Built}
 use Rattle.block.specs.declared.Built.the-variants as built
@@ -35,7 +35,7 @@ builtLines B t st (built.Refused refusal) = answerLine (builtNumber (built.Refus
 
 -- the report of a block's bits; every lent length is exact
 unfoldable pub blockLines : ℕ → ℕ → List ℕ → List ℕ → List ℕ
-blockLines w h t bits = builtLines (block w h) t (decoded t bits (tiles (block w h))) (buildAnswer w h t bits true)
+blockLines w h t bits = builtLines (block w h) t (decoded t (tilesOf bits) (tiles (block w h))) (buildAnswer w h t (tilesOf bits) true)
 
 abbrev pub parsedLines : List ℕ → Parsed → List ℕ
 parsedLines s (parse.Block w h) = blockLines w h (contents.tableOf s) (bitsOf s (h * w))

@@ -9,7 +9,7 @@ ghost use Rattle.routing.specs.Rules.{TableRules};
 ghost use Rattle.routing.specs.Table.{tableLength};
 ghost use Rattle.codec.specs.Bits.{tileBytes};
 ghost use Rattle.codec.specs.Settings.{settingsLength};
-ghost use Rattle.config.specs.Blocks.{undecodableTile, decoded};
+ghost use Rattle.config.specs.Blocks.{undecodableTile, decoded, tilesOf};
 ghost use Rattle.lines.specs.Lines.{answerLine, placed};
 ghost use Rattle.block.specs.Lengths.{BuildLong};
 ghost use Rattle.frames.specs.Whole.{Small};
@@ -79,10 +79,10 @@ fn put_accepted(
     sources: &mut [u16],
     out: &mut [u8],
 ) -> usize
-    requires { ⌜ Sized b × (tiles b ≤ 9) × TableRules logicTile (now table) × (tiles b ≤ undecodableTile (now table) (now bits) (tiles b)) ⌝ }
+    requires { ⌜ Sized b × (tiles b ≤ 9) × TableRules logicTile (now table) × (tiles b ≤ undecodableTile (now table) (tilesOf (now bits)) (tiles b)) ⌝ }
     requires { ⌜ (length (now bits) ≡ tileBytes * tiles b) × (length (now settings) ≡ settingsLength logicTile * tiles b) × (length (now wires) ≡ ports b) × (length (now sources) ≡ ports b) × (length (now out) ≡ outLength) ⌝ }
-    ensures next { λ r. ⌜ r ≡ 0 + length (acceptedLines b (now (table .entry)) (decoded (now (table .entry)) (now (bits .entry)) (tiles b))) ⌝ }
-    ensures out { λ r. ⌜ now (out .exit) ≡ placed 0 (acceptedLines b (now (table .entry)) (decoded (now (table .entry)) (now (bits .entry)) (tiles b))) (now (out .entry)) ⌝ }
+    ensures next { λ r. ⌜ r ≡ 0 + length (acceptedLines b (now (table .entry)) (decoded (now (table .entry)) (tilesOf (now (bits .entry))) (tiles b))) ⌝ }
+    ensures out { λ r. ⌜ now (out .exit) ≡ placed 0 (acceptedLines b (now (table .entry)) (decoded (now (table .entry)) (tilesOf (now (bits .entry))) (tiles b))) (now (out .entry)) ⌝ }
 {
     let n = (b.h * b.w) as usize;
     config::blocks::decode_block(table, bits, settings, n);

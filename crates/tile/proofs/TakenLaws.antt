@@ -19,7 +19,7 @@ use Rattle.digits.proofs.LowestLaws.{trailing-digit}
 use Rattle.routing.specs.LogicTile.{logicTile, carryInSet, carryChain}
 use Rattle.routing.specs.Table.{fieldAt, passiveAt, groupCount, widthOf, positionAt}
 use Rattle.routing.specs.Rules.{TableRules}
-use Rattle.codec.specs.Bits.{bitAt}
+use Rattle.codec.specs.Bits.{bitAt, tileOf}
 use Rattle.codec.specs.Settings.{fieldSetting, groupsFrom, cellsFrom, settingsLength}
 use Rattle.codec.specs.Groups.{groupBit, groupPattern, settingOfPattern, readGroup}
 use Rattle.codec.specs.Decode.{settingNumber, settingAt, decode}
@@ -43,28 +43,28 @@ unlisted-zero (Setting s) e = clash e refl
 unlisted-zero Unlisted e = refl
 
 -- the carry pair is read to both settings
-pair-both : (table bits : List ℕ) → CarryPair table bits → bothCarries (decode table bits) ≡ true
+pair-both : (table bits : List ℕ) → CarryPair table (bitAt bits) → bothCarries (decode table (bitAt bits)) ≡ true
 unfolding bothCarries
 pair-both table bits q =
-    and-true (eq-eqb (fieldSetting (decode table bits) carryInSet) 1 (decode-field table bits carryInSet (omega arith) ∙ q .0))
-    (eq-eqb (fieldSetting (decode table bits) carryChain) 1 (decode-field table bits carryChain (omega arith) ∙ q .1))
+    and-true (eq-eqb (fieldSetting (decode table (bitAt bits)) carryInSet) 1 (decode-field table bits carryInSet (omega arith) ∙ q .0))
+    (eq-eqb (fieldSetting (decode table (bitAt bits)) carryChain) 1 (decode-field table bits carryChain (omega arith) ∙ q .1))
 
 -- a group that is not off has a set bit: its lowest
-pub group-bit : (table bits : List ℕ) → TableRules logicTile table → (g : ℕ) → g < groupCount logicTile table → (Off table bits g → ⊥)
+pub group-bit : (table bits : List ℕ) → TableRules logicTile table → (g : ℕ) → g < groupCount logicTile table → (Off table (bitAt bits) g → ⊥)
     → (k : ℕ) × (k < widthOf logicTile table g) × (bitAt bits (positionAt logicTile table g k) ≡ 1)
-group-bit table bits T g h on = (k, within, sym (digit-from-digits (groupBit logicTile table bits g) (λ j. bit-lt bits _) width k within) ∙ lowest)
+group-bit table bits T g h on = (k, within, sym (digit-from-digits (groupBit logicTile table (bitAt bits) g) (λ j. bit-lt bits _) width k within) ∙ lowest)
   where
     width : ℕ
     width = widthOf logicTile table g
 
     v : ℕ
-    v = groupPattern logicTile table bits g
+    v = groupPattern logicTile table (bitAt bits) g
 
     k : ℕ
     k = trailingZeros 16 v
 
     fits : v < 2 ^ width
-    fits = from-digits-lt (groupBit logicTile table bits g) (λ j. bit-lt bits _) width
+    fits = from-digits-lt (groupBit logicTile table (bitAt bits) g) (λ j. bit-lt bits _) width
 
     lowest : digit v k ≡ 1
     lowest =
@@ -79,7 +79,7 @@ group-bit table bits T g h on = (k, within, sym (digit-from-digits (groupBit log
 
 module _ (table bits settings : List ℕ) (T : TableRules logicTile table) (K : Known table bits settings)
     (all : (p : ℕ) → p < 864 → bitAt bits p ≡ 1 → Taken table settings p) where
-  group-known : (g : ℕ) → g < groupCount logicTile table → (Off table bits g → ⊥) → getD settings (groupsFrom logicTile + g) 0 ≢ 0
+  group-known : (g : ℕ) → g < groupCount logicTile table → (Off table (bitAt bits) g → ⊥) → getD settings (groupsFrom logicTile + g) 0 ≢ 0
   group-known g h on =
       let b = group-bit table bits T g h on in
       all (positionAt logicTile table g (b .0)) (group-position-lt table T g (b .0) h (b .1)) (b .2)
@@ -91,9 +91,9 @@ module _ (table bits settings : List ℕ) (T : TableRules logicTile table) (K : 
       ⊎-elim (λ (e : bitAt bits p ≡ 1). absurd (not-taken (all p h e))) (λ (e : bitAt bits p ≢ 1). omega (arith, bit-lt bits p)) (eq-or-ne (bitAt bits p) 1)
 
   -- what is not known is 0
-  rest-zero : (n : ℕ) → n < settingsLength logicTile → n < cellsFrom logicTile → getD settings n 0 ≡ 0 → settingAt table bits n ≡ 0
+  rest-zero : (n : ℕ) → n < settingsLength logicTile → n < cellsFrom logicTile → getD settings n 0 ≡ 0 → settingAt table (bitAt bits) n ≡ 0
   rest-zero =
-      setting-kinds table (λ (n : ℕ). n < cellsFrom logicTile → getD settings n 0 ≡ 0 → settingAt table bits n ≡ 0)
+      setting-kinds table (λ (n : ℕ). n < cellsFrom logicTile → getD settings n 0 ≡ 0 → settingAt table (bitAt bits) n ≡ 0)
       (λ f h l z. setting-field table bits f h
       ∙ clear (fieldAt table f) (field-position-lt table T f h) (λ t. t .single f (field-owner table T f h) (omega arith) z))
       (λ j few h l z.
@@ -104,28 +104,28 @@ module _ (table bits settings : List ℕ) (T : TableRules logicTile table) (K : 
       (λ t. t .single (3 + j) (passive-owner table T j h ∙ omega arith) (omega arith) z))
       (λ j few h l z. setting-passive-rest table bits (3 + j) (omega arith) (omega arith) (omega arith))
       (λ g few h l z. setting-of-group table bits g few h
-      ∙ ⊎-elim (λ (o : Off table bits g). ap (λ (v : ℕ). settingNumber (settingOfPattern logicTile table g v)) o)
-      (λ (o : groupPattern logicTile table bits g ≢ 0). absurd (group-known g h o z)) (eq-or-ne (groupPattern logicTile table bits g) 0))
+      ∙ ⊎-elim (λ (o : Off table (bitAt bits) g). ap (λ (v : ℕ). settingNumber (settingOfPattern logicTile table g v)) o)
+      (λ (o : groupPattern logicTile table (bitAt bits) g ≢ 0). absurd (group-known g h o z)) (eq-or-ne (groupPattern logicTile table (bitAt bits) g) 0))
       (λ g few h l z. setting-group-rest table bits (groupsFrom logicTile + g) (omega arith) (omega arith) (omega arith))
       (λ i h l z. absurd (omega arith))
       (λ i h l z. absurd (omega arith))
 
   -- below the cells, the settings are what the bits read to
-  pub taken-right : (n : ℕ) → n < cellsFrom logicTile → getD settings n 0 ≡ settingAt table bits n
+  pub taken-right : (n : ℕ) → n < cellsFrom logicTile → getD settings n 0 ≡ settingAt table (bitAt bits) n
   taken-right n l =
       ⊎-elim (λ (z : getD settings n 0 ≡ 0). z ∙ sym (rest-zero n (omega arith) l z)) (λ (some : getD settings n 0 ≢ 0). K .right n l some)
       (eq-or-ne (getD settings n 0) 0)
 
-  taken-decodable : bothCarries (decode table bits) ≡ false → Decodable table bits
+  taken-decodable : bothCarries (decode table (bitAt bits)) ≡ false → Decodable table (tileOf bits)
   taken-decodable single p (unlisted g h off none) =
       group-known g h off
       (K .right (groupsFrom logicTile + g) (omega (arith, T .few-groups)) (group-known g h off)
       ∙ setting-of-group table bits g (omega (arith, T .few-groups)) h
-      ∙ unlisted-zero (readGroup logicTile table bits g) (unlisted-exact table bits g (T .groups g h) .1 (off, none)))
+      ∙ unlisted-zero (readGroup logicTile table (bitAt bits) g) (unlisted-exact table bits g (T .groups g h) .1 (off, none)))
   taken-decodable single p (stray q h free e) = omega (arith, unclaimed-owner table T p free, all p h e .claimed)
   taken-decodable single p (carry-pair q) = clash (pair-both table bits q) single
 
-  pub taken-fault : bothCarries (decode table bits) ≡ false → tileFault table bits ≡ 864
+  pub taken-fault : bothCarries (decode table (bitAt bits)) ≡ false → tileFault table (tileOf bits) ≡ 864
   taken-fault single = tile-fault-exact table bits T .1 (taken-decodable single)
 
 -- a tile with no bit set
@@ -133,7 +133,7 @@ no-carries : bothCarries (zeros (settingsLength logicTile)) ≡ false
 unfolding bothCarries
 no-carries = refl
 
-pub empty-fault : (table bits : List ℕ) → TableRules logicTile table → ((p : ℕ) → bitAt bits p ≡ 0) → tileFault table bits ≡ 864
+pub empty-fault : (table bits : List ℕ) → TableRules logicTile table → ((p : ℕ) → bitAt bits p ≡ 0) → tileFault table (tileOf bits) ≡ 864
 empty-fault table bits T none =
     taken-fault table bits (zeros (settingsLength logicTile)) T (known-start (zeros (settingsLength logicTile)) (settingsLength logicTile) refl refl)
     (λ p h e. absurd (omega (arith, none p)))

@@ -16,7 +16,7 @@ use Rattle.routing.specs.Slots.{slotsOf, fieldSlots, passiveSlots, groupSlots, 
 use Rattle.routing.proofs.SlotLaws.{slot-unused-passive, slot-unused-group}
 use Rattle.routing.proofs.LogicTileLaws.{logic-tile-once}
 use Rattle.routing.proofs.TableOnceLaws.{table-once}
-use Rattle.codec.specs.Bits.{tileBytes, setBit, setBits}
+use Rattle.codec.specs.Bits.{tileBytes, setBit, setBits, bitAt}
 use Rattle.codec.specs.Settings.{fieldSetting, passiveSetting, groupSetting, cellTable, cellFlags}
 use Rattle.codec.specs.Groups.{groupBit, patternOf}
 use Rattle.codec.specs.Cells.{cellValue, cellNumber, cellSetting, cellSettings, emptyCell, writeCells}
@@ -82,7 +82,7 @@ module _ (table settings bits : List ℕ) (C : Writable table settings) where
 
   -- a group's bits are clear until it is written
   pub group-clear : (g : ℕ) → TileWritten table settings (groupSlot logicTile g) bits → g < groupCount logicTile table
-      → (k : ℕ) → k < widthOf logicTile table g → groupBit logicTile table bits g k ≡ 0
+      → (k : ℕ) → k < widthOf logicTile table g → groupBit logicTile table (bitAt bits) g k ≡ 0
   group-clear g W h k l =
       run-clear (slotsOf logicTile table) (slotValue table settings) (groupSlot logicTile g) maxPositions (widthOf logicTile table g)
       (positionAt logicTile table g) (patternOf logicTile table g (groupSetting logicTile settings g)) (group-run table settings (C .rules) g h)

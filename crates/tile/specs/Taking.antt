@@ -1,5 +1,6 @@
 -- A tile's settings while its set bits are taken one after another, in any order, each making the setting that it belongs to known: what the
 -- functions that take them promise each other.
+use Rattle.codec.specs.Bits.{bitAt}
 use Prim.Native.Nat.{ℕ, _+_, _<_}
 use mathlib.Core.Path.{_≡_}
 use mathlib.Core.Logic.{_≢_}
@@ -14,7 +15,7 @@ use Rattle.codec.specs.Decode.{settingAt}
 -- below the cells, a setting that is not 0 is known: it is what the bits read to
 pub record Known (table bits settings : List ℕ) : Type 0 where
   pub long : length settings ≡ settingsLength logicTile
-  pub right : (n : ℕ) → n < cellsFrom logicTile → getD settings n 0 ≢ 0 → getD settings n 0 ≡ settingAt table bits n
+  pub right : (n : ℕ) → n < cellsFrom logicTile → getD settings n 0 ≢ 0 → getD settings n 0 ≡ settingAt table (bitAt bits) n
 
 -- settings that know all that those before knew
 pub record Learned (table bits before after : List ℕ) : Type 0 where

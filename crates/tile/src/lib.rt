@@ -8,7 +8,7 @@ ghost use lib.ListN.{length};
 ghost use Rattle.routing.specs.LogicTile.{logicTile};
 ghost use Rattle.routing.specs.Rules.{TableRules};
 ghost use Rattle.routing.specs.Slots.{Owned, slotsOf, slotCount, fieldSlots, passiveSlots, groupSlots};
-ghost use Rattle.codec.specs.Bits.{tileBytes};
+ghost use Rattle.codec.specs.Bits.{tileBytes, bitAt, tileOf};
 ghost use Rattle.codec.specs.Settings.{settingsLength};
 ghost use Rattle.codec.specs.Decode.{decode};
 ghost use Rattle.codec.specs.Fault.{tileFault};
@@ -39,7 +39,7 @@ const POSITIONS: usize = 864;
 // The lowest position at fault; 864 where the tile can be decoded. `own` is the ownership map of the table.
 pub fn tile_fault(table: &[u16], own: &[u16], bits: &[u8]) -> usize
     requires { ⌜ (TableRules logicTile (now table)) × (Owned 864 (slotsOf logicTile (now table)) (slotCount logicTile) (now own)) × (length (now bits) ≡ tileBytes) ⌝ }
-    ensures { λ r. ⌜ r ≡ tileFault (now (table .entry)) (now (bits .entry)) ⌝ }
+    ensures { λ r. ⌜ r ≡ tileFault (now (table .entry)) (tileOf (now (bits .entry))) ⌝ }
 {
     let mut p = 0;
     while p < POSITIONS {
@@ -55,7 +55,7 @@ pub fn tile_fault(table: &[u16], own: &[u16], bits: &[u8]) -> usize
 // Rules out: writing nothing; leaving the numbers past the table's counts as they were.
 pub fn decode_tile(table: &[u16], bits: &[u8], settings: &mut [u16])
     requires { ⌜ (TableRules logicTile (now table)) × (length (now bits) ≡ tileBytes) × (length (now settings) ≡ settingsLength logicTile) ⌝ }
-    ensures { λ r. ⌜ now (settings .exit) ≡ decode (now (table .entry)) (now (bits .entry)) ⌝ }
+    ensures { λ r. ⌜ now (settings .exit) ≡ decode (now (table .entry)) (bitAt (now (bits .entry))) ⌝ }
 {
     if is_empty(bits) {
         lists::clear(settings);
@@ -85,8 +85,8 @@ pub fn decode_tile(table: &[u16], bits: &[u8], settings: &mut [u16])
 // that fails are all positions looked at.
 pub fn read_tile(table: &[u16], own: &[u16], bits: &[u8], settings: &mut [u16]) -> usize
     requires { ⌜ (TableRules logicTile (now table)) × (Owned 864 (slotsOf logicTile (now table)) (slotCount logicTile) (now own)) × (length (now bits) ≡ tileBytes) × (length (now settings) ≡ settingsLength logicTile) ⌝ }
-    ensures fault { λ r. ⌜ r ≡ tileFault (now (table .entry)) (now (bits .entry)) ⌝ }
-    ensures settings { λ r. ⌜ (r ≡ 864 → now (settings .exit) ≡ decode (now (table .entry)) (now (bits .entry))) ⌝ }
+    ensures fault { λ r. ⌜ r ≡ tileFault (now (table .entry)) (tileOf (now (bits .entry))) ⌝ }
+    ensures settings { λ r. ⌜ (r ≡ 864 → now (settings .exit) ≡ decode (now (table .entry)) (bitAt (now (bits .entry)))) ⌝ }
 {
     if try_decode(table, own, bits, settings) {
         return POSITIONS;

@@ -8,7 +8,7 @@ ghost use Rattle.digits.specs.Digits.{digit};
 ghost use Rattle.routing.specs.LogicTile.{logicTile};
 ghost use Rattle.routing.specs.Rules.{TableRules};
 ghost use Rattle.routing.specs.Slots.{Owned, slotsOf, slotCount};
-ghost use Rattle.codec.specs.Bits.{unit, tileBytes, bitAt};
+ghost use Rattle.codec.specs.Bits.{unit, tileBytes, bitAt, tileOf};
 ghost use Rattle.codec.specs.Settings.{settingsLength};
 ghost use Rattle.codec.specs.Decode.{decode};
 ghost use Rattle.codec.specs.Fault.{tileFault};
@@ -76,7 +76,7 @@ fn take_byte(table: &[u16], own: &[u16], bits: &[u8], i: usize, settings: &mut [
 // Rules out: settings kept from another tile; a yes for a bit that nothing claims, an unlisted group or the carry pair.
 pub fn try_decode(table: &[u16], own: &[u16], bits: &[u8], settings: &mut [u16]) -> bool
     requires { ⌜ (TableRules logicTile (now table)) × (Owned 864 (slotsOf logicTile (now table)) (slotCount logicTile) (now own)) × (length (now bits) ≡ tileBytes) × (length (now settings) ≡ settingsLength logicTile) ⌝ }
-    ensures { λ r. ⌜ (r ≡ true → (tileFault (now (table .entry)) (now (bits .entry)) ≡ 864) × (now (settings .exit) ≡ decode (now (table .entry)) (now (bits .entry)))) ⌝ }
+    ensures { λ r. ⌜ (r ≡ true → (tileFault (now (table .entry)) (tileOf (now (bits .entry))) ≡ 864) × (now (settings .exit) ≡ decode (now (table .entry)) (bitAt (now (bits .entry))))) ⌝ }
 {
     lists::clear(settings);
     if is_empty(bits) {

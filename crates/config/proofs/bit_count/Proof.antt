@@ -8,7 +8,7 @@ use lib.ListN.{take, drop}
 use Rattle.lists.proofs.PartLaws.{part-size}
 use Rattle.fabric.proofs.BlockLaws.{sized-exact, tiles-le}
 use Rattle.fabric.specs.Block.{block}
-use Rattle.codec.specs.Bits.{tileBytes, bitCount}
+use Rattle.codec.specs.Bits.{tileBytes, bitCount, bitAt}
 use Rattle.config.specs.declared.BitCount.the-variants.{Set}
 use Rattle.config.proofs.BitCountLaws.{count-size, count-length, count-range, count-set}
 use Rattle.config.proofs.bit_count.Statement.{statement}
@@ -100,7 +100,7 @@ returns-4 c =
     let size = sized-exact (block (args .w) (args .h)) .0 (sym (at-is-sized .is-sized .ensures) ∙ not-false _ (at-if1 .if1 .left)) in
     let bits = args .bits .now in
     let tile = args .tile in
-    let counted = c .count-bits .ensures ∙ ap (λ (x : ℕ). bitCount (take x (drop (tileBytes * tile) bits))) (part-size tileBytes tile) in
+    let counted = c .count-bits .ensures ∙ ap (λ (x : ℕ). bitCount (bitAt (take x (drop (tileBytes * tile) bits)))) (part-size tileBytes tile) in
     ap Set counted ∙ count-set (args .w) (args .h) (args .bits .now) (args .tile) size (at-if2 .if2 .left) (at-if3 .if3 .left)
 
 pub bit-count-spec : {M : Type 1} → statement M

@@ -1,5 +1,6 @@
 -- `tile_fault` meets its contract. Invariant: the search from p on gives what the search from 0 gives. Measure: the positions left.
 -- Assumes nothing.
+use Rattle.codec.specs.Bits.{tileOf}
 use mathlib.Core.Path.{_≡_, refl, sym, _∙_}
 use Prim.Native.Nat.{_-_, _≤_}
 use native.Mathlib.Omega.{arith}
@@ -11,7 +12,7 @@ use Rattle.tile.proofs.tile_fault.Statement.{statement}
 use Rattle.tile.proofs.tile_fault.Tie as tie
 
 abbrev Inv-loop : tie.InvT-loop
-Inv-loop table own bits p₀ p = (p ≤ 864) × (first (faultAt table bits) p (864 - p) ≡ first (faultAt table bits) 0 864)
+Inv-loop table own bits p₀ p = (p ≤ 864) × (first (faultAt table (tileOf bits)) p (864 - p) ≡ first (faultAt table (tileOf bits)) 0 864)
 
 abbrev μ-loop : tie.MeasureT-loop
 μ-loop table own bits p₀ p = 864 - p

@@ -5,13 +5,13 @@ use native.Mathlib.Omega.{arith}
 use borrow.Author.Needs.{needs}
 use lib.Count.{ones-le}
 use Rattle.lists.specs.Search.{count}
-use Rattle.codec.specs.Bits.{unit, isSetAt, tileBytes}
+use Rattle.codec.specs.Bits.{unit, isSetAt, tileBytes, bitAt}
 use Rattle.codec.proofs.BitLaws.{bit-count-step}
 use Rattle.codec.proofs.bits.count_bits.Statement.{statement}
 use Rattle.codec.proofs.bits.count_bits.Tie as tie
 
 abbrev Inv-loop : tie.InvT-loop
-Inv-loop bits n₀ i₀ n i = (i ≤ tileBytes) × (n ≡ count (isSetAt bits) (unit * i)) × (n ≤ unit * i)
+Inv-loop bits n₀ i₀ n i = (i ≤ tileBytes) × (n ≡ count (isSetAt (bitAt bits)) (unit * i)) × (n ≤ unit * i)
 
 abbrev μ-loop : tie.MeasureT-loop
 μ-loop bits n₀ i₀ n i = tileBytes - i
@@ -49,7 +49,7 @@ returns : tie.Need-returns Inv-loop μ-loop
 returns c =
     let at-start = c .before .before in
     let at-loop = c .before in
-    at-loop .loop .inv .1 ∙ ap (count (isSetAt (at-start .args .bits .now))) (let e : unit * at-loop .loop .i ≡ 864 = omega arith in e)
+    at-loop .loop .inv .1 ∙ ap (count (isSetAt (bitAt (at-start .args .bits .now)))) (let e : unit * at-loop .loop .i ≡ 864 = omega arith in e)
 
 pub count-bits-spec : {M : Type 1} → statement M
 count-bits-spec =

@@ -1,4 +1,5 @@
 -- `decode_cells` meets its contract. Invariant: the first i cells are those of the bits (`Filled`). Measure: the cells left. Assumes nothing.
+use Rattle.codec.specs.Bits.{bitAt}
 use mathlib.Core.Path.{refl, ap, _∙_}
 use Prim.Native.Nat.{ℕ, _-_, _/_, _%_, _^_}
 use native.Mathlib.Omega.{arith}
@@ -10,13 +11,13 @@ use Rattle.codec.proofs.cells.decode_cells.Statement.{statement}
 use Rattle.codec.proofs.cells.decode_cells.Tie as tie
 
 abbrev Inv-loop : tie.InvT-loop
-Inv-loop bits cells₀ i₀ cells i = Filled (cellIn bits) emptyCell 8 i cells
+Inv-loop bits cells₀ i₀ cells i = Filled (cellIn (bitAt bits)) emptyCell 8 i cells
 
 abbrev μ-loop : tie.MeasureT-loop
 μ-loop bits cells₀ i₀ cells i = 8 - i
 
 loop-holds : tie.Need-loop-holds Inv-loop μ-loop
-loop-holds c = filled-start (cellIn (c .before .args .bits .now)) emptyCell 8 _ refl
+loop-holds c = filled-start (cellIn (bitAt (c .before .args .bits .now))) emptyCell 8 _ refl
 
 read-value-requires : tie.Need-read-value-requires Inv-loop μ-loop
 read-value-requires c κs = search needs
@@ -46,7 +47,7 @@ loop-again : tie.Need-loop-again Inv-loop μ-loop
 loop-again c =
     let at-start = c .before .before .before .before .before in
     let at-loop = c .before .before .before in
-    filled-step (cellIn (at-start .args .bits .now)) emptyCell 8 (at-loop .loop .cells) (at-loop .loop .i) _ (at-loop .loop .inv) (omega arith)
+    filled-step (cellIn (bitAt (at-start .args .bits .now))) emptyCell 8 (at-loop .loop .cells) (at-loop .loop .i) _ (at-loop .loop .inv) (omega arith)
     (c .new .ensures ∙ ap (λ (v : ℕ). cellOf (v % 2 ^ 16) (v / 2 ^ 16)) (c .before .read-value .ensures))
 
 returns : tie.Need-returns Inv-loop μ-loop
@@ -54,7 +55,7 @@ unfolding cellsIn
 returns c =
     let at-start = c .before .before .before in
     let at-loop = c .before in
-    filled-end (cellIn (at-start .args .bits .now)) emptyCell 8 (at-loop .loop .cells) (at-loop .loop .i) (at-loop .loop .inv) (omega arith)
+    filled-end (cellIn (bitAt (at-start .args .bits .now))) emptyCell 8 (at-loop .loop .cells) (at-loop .loop .i) (at-loop .loop .inv) (omega arith)
 
 pub decode-cells-spec : {M : Type 1} → statement M
 decode-cells-spec =

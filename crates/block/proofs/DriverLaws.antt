@@ -10,9 +10,10 @@ use lib.Dec.{ltb}
 use lib.ListN.{length}
 use Rattle.lists.specs.Tables.{zeros}
 use Rattle.refusal.specs.Memory.{workRoom}
-use Rattle.refusal.specs.declared.Refusal.the-variants.{Size, Length, Table, NoSuchSettings, Contention, OutOfRange}
-use Rattle.fabric.specs.declared.Block.{Block}
-use Rattle.fabric.specs.Block.{block, tiles, ports, sized, portsPerTile, portOf}
+use Rattle.refusal.specs.declared.Refusal.the-variants.{WrongSize, WrongLength, Table, NoSuchSettings, Contention, OutOfRange}
+use Rattle.ports.specs.declared.size.Block.{Block}
+use Rattle.ports.specs.Block.{tiles, sized, portOf}
+use Rattle.ports.specs.Lengths.{ports, portsPerTile}
 use Rattle.fabric.specs.Wire.{wireOf}
 use Rattle.routing.specs.LogicTile.{logicTile}
 use Rattle.routing.specs.TableCheck.{faultyPart, partCount, tableOk}
@@ -63,17 +64,17 @@ module _ (B : Block) (t st : List ℕ) (tile port : ℕ) where
 
 -- ---- grounds 1 and 2
 
-module _ (w h : ℕ) (t st : List ℕ) (tile port : ℕ) (lengths : Bool) where
-  pub follow-size : sized (block w h) ≡ false → Refused Size ≡ followAnswer w h t st tile port lengths
+module _ (B : Block) (t st : List ℕ) (tile port : ℕ) (lengths : Bool) where
+  pub follow-size : sized B ≡ false → Refused WrongSize ≡ followAnswer B t st tile port lengths
   unfolding followAnswer
   follow-size e = rw e
 
-  module _ (size : sized (block w h) ≡ true) where
-    pub follow-length : lengths ≡ false → Refused Length ≡ followAnswer w h t st tile port lengths
+  module _ (size : sized B ≡ true) where
+    pub follow-length : lengths ≡ false → Refused WrongLength ≡ followAnswer B t st tile port lengths
     unfolding followAnswer
     follow-length e = rw (size, e)
 
-    pub follow-settings : lengths ≡ true → settingsAnswer (block w h) t st tile port ≡ followAnswer w h t st tile port lengths
+    pub follow-settings : lengths ≡ true → settingsAnswer B t st tile port ≡ followAnswer B t st tile port lengths
     unfolding followAnswer
     follow-settings e = rw (size, e)
 

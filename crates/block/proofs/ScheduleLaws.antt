@@ -6,8 +6,8 @@ use mathlib.Core.Logic.{⊎-elim}
 use mathlib.Core.List.{List, _++_}
 use lib.ListN.{length, getD}
 use Rattle.lists.proofs.CaseLaws.{lt-or-le}
-use Rattle.fabric.specs.declared.Block.{Block}
-use Rattle.fabric.specs.Block.{ports}
+use Rattle.ports.specs.declared.size.Block.{Block}
+use Rattle.ports.specs.Lengths.{ports}
 use Rattle.fabric.specs.Count.{wires}
 use Rattle.netlist.specs.Graph.{Closed, LowestLoop}
 use Rattle.loops.specs.Loops.{loopWire}

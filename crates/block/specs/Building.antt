@@ -4,9 +4,10 @@ use mathlib.Core.Bool.{Bool}
 use mathlib.Core.List.{List}
 use lib.Dec.{leb}
 use Rattle.refusal.specs.Grounds.{unless, numberOf, placeOf}
-use Rattle.refusal.specs.declared.Refusal.the-variants.{Size, Length, Table, Undecodable, Contention, DisabledCarry, Loop, CellClock}
-use Rattle.fabric.specs.declared.Block.{Block}
-use Rattle.fabric.specs.Block.{block, tiles, ports, sized}
+use Rattle.refusal.specs.declared.Refusal.the-variants.{WrongSize, WrongLength, Table, Undecodable, Contention, DisabledCarry, Loop, CellClock}
+use Rattle.ports.specs.declared.size.Block.{Block}
+use Rattle.ports.specs.Block.{tiles, sized}
+use Rattle.ports.specs.Lengths.{ports}
 use Rattle.fabric.specs.Count.{wires}
 use Rattle.netlist.specs.Rows.{graphOf}
 use Rattle.loops.specs.Loops.{loopWire}
@@ -51,5 +52,5 @@ bitsAnswer B t tile =
     (listAnswer B t (decoded t tile (tiles B))))
 
 -- grounds 1 to 8; `lengths` is whether every lent length is the exact one
-unfoldable pub buildAnswer : ℕ → ℕ → List ℕ → (ℕ → TileBits) → Bool → Built
-buildAnswer w h t tile lengths = unless (sized (block w h)) (Refused Size) (unless lengths (Refused Length) (bitsAnswer (block w h) t tile))
+unfoldable pub buildAnswer : Block → List ℕ → (ℕ → TileBits) → Bool → Built
+buildAnswer B t tile lengths = unless (sized B) (Refused WrongSize) (unless lengths (Refused WrongLength) (bitsAnswer B t tile))

@@ -3,11 +3,11 @@ use Prim.Native.Nat.{ℕ, _<_, _≤_}
 use mathlib.Core.Path.{_≡_}
 use mathlib.Core.Logic.{_⊎_}
 use mathlib.Core.List.{List}
-use lib.ListN.{length}
 use Rattle.refusal.specs.declared.Refusal.{Refusal}
-use Rattle.refusal.specs.declared.Refusal.the-variants.{Size, Length, Table, Undecodable, Contention, DisabledCarry, Loop, CellClock, NoSuchSettings, NotABit, Line, Row, OutOfRange}
-use Rattle.fabric.specs.declared.Block.{Block}
-use Rattle.fabric.specs.Block.{block, tiles, portsPerTile, Sized}
+use Rattle.refusal.specs.declared.Refusal.the-variants.{WrongSize, WrongLength, Table, Contention, NoSuchSettings, OutOfRange}
+use Rattle.ports.specs.declared.size.Block.{Block}
+use Rattle.ports.specs.Block.{tiles, Sized}
+use Rattle.ports.specs.Lengths.{portsPerTile}
 use Rattle.routing.specs.LogicTile.{logicTile}
 use Rattle.routing.specs.Rules.{TableRules, FirstBroken}
 use Rattle.codec.specs.Reading.{HasBits}
@@ -19,6 +19,7 @@ use Rattle.drivers.specs.declared.follow.Driver.{Driver}
 use Rattle.drivers.specs.Following.{DrivenBy}
 use Rattle.block.specs.declared.Followed.{Followed}
 use Rattle.block.specs.declared.Followed.the-variants.{Driven, Refused}
+use Rattle.block.specs.declared.lengths.FollowLent.{FollowLent}
 use Rattle.block.specs.Lengths.{FollowLong}
 
 module _ (B : Block) (t st : List ℕ) (tile port : ℕ) where
@@ -33,34 +34,23 @@ module _ (B : Block) (t st : List ℕ) (tile port : ℕ) where
     pub port-within : port < portsPerTile
     pub driven : DrivenBy B t st (wire B t st tile port) driver
 
--- `wires`, `sources` and `marks` are the lengths of the lent work room
-module _ (w h : ℕ) (t st : List ℕ) (tile port wires sources marks : ℕ) where
-  abbrev pub Exact : Type 0
-  Exact = FollowLong (tiles (block w h)) (length t) (length st) wires sources marks
-
+module _ (B : Block) (t st : List ℕ) (tile port : ℕ) (lent : FollowLent) where
   -- none of grounds 1, 2, 3 and 9
   pub record Prepared : Type 0 where
-    pub size : Sized (block w h)
-    pub lengths : Exact
+    pub size : Sized B
+    pub lengths : FollowLong B lent
     pub rules : TableRules logicTile t
-    pub has-bits : (T : ℕ) → T < tiles (block w h) → HasBits t (settingsAt st T)
+    pub has-bits : (T : ℕ) → T < tiles B → HasBits t (settingsAt st T)
 
-  -- "following a driver [checks] 1, 2, 3, 9, 5, 20": what each no says
-  abbrev pub FollowRefusalSays : Refusal → Type 0
-  FollowRefusalSays Size = Sized (block w h) → ⊥
-  FollowRefusalSays Length = Sized (block w h) × (Exact → ⊥)
-  FollowRefusalSays (Table part) = Sized (block w h) × Exact × FirstBroken logicTile t part
-  FollowRefusalSays (NoSuchSettings T) = Sized (block w h) × Exact × TableRules logicTile t × LowestBitless t st (tiles (block w h)) T
-  FollowRefusalSays (Contention x) = Prepared × LowestContention (block w h) t st x
-  FollowRefusalSays (OutOfRange number) = Prepared × NoContention (block w h) t st × OutOfBlock (block w h) t st tile port number
-  FollowRefusalSays (Undecodable T) = ⊥
-  FollowRefusalSays (DisabledCarry x) = ⊥
-  FollowRefusalSays (Loop x) = ⊥
-  FollowRefusalSays (CellClock T) = ⊥
-  FollowRefusalSays (NotABit index) = ⊥
-  FollowRefusalSays (Line line) = ⊥
-  FollowRefusalSays (Row row) = ⊥
+  -- "following a driver [checks] 1, 2, 3, 9, 5, 20": what each no says; there is no other
+  pub data FollowNo : Refusal → Type 0 where
+    wrong-size : (Sized B → ⊥) → FollowNo WrongSize
+    wrong-length : Sized B → (FollowLong B lent → ⊥) → FollowNo WrongLength
+    broken : (part : ℕ) → Sized B → FollowLong B lent → FirstBroken logicTile t part → FollowNo (Table part)
+    bitless : (T : ℕ) → Sized B → FollowLong B lent → TableRules logicTile t → LowestBitless t st (tiles B) T → FollowNo (NoSuchSettings T)
+    contention : (x : ℕ) → Prepared → LowestContention B t st x → FollowNo (Contention x)
+    out-of-range : (number : ℕ) → Prepared → NoContention B t st → OutOfBlock B t st tile port number → FollowNo (OutOfRange number)
 
   abbrev pub FollowSays : Followed → Type 0
-  FollowSays (Driven driver) = Prepared × FollowedTo (block w h) t st tile port driver
-  FollowSays (Refused refusal) = FollowRefusalSays refusal
+  FollowSays (Driven driver) = Prepared × FollowedTo B t st tile port driver
+  FollowSays (Refused refusal) = FollowNo refusal

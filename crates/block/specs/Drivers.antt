@@ -4,9 +4,10 @@ use mathlib.Core.Bool.{Bool}
 use mathlib.Core.List.{List}
 use lib.Dec.{ltb}
 use Rattle.refusal.specs.Grounds.{unless, numberOf, placeOf}
-use Rattle.refusal.specs.declared.Refusal.the-variants.{Size, Length, Table, NoSuchSettings, Contention, OutOfRange}
-use Rattle.fabric.specs.declared.Block.{Block}
-use Rattle.fabric.specs.Block.{block, tiles, ports, sized, portsPerTile, portOf}
+use Rattle.refusal.specs.declared.Refusal.the-variants.{WrongSize, WrongLength, Table, NoSuchSettings, Contention, OutOfRange}
+use Rattle.ports.specs.declared.size.Block.{Block}
+use Rattle.ports.specs.Block.{tiles, sized, portOf}
+use Rattle.ports.specs.Lengths.{ports, portsPerTile}
 use Rattle.fabric.specs.Wire.{wireOf}
 use Rattle.routing.specs.LogicTile.{logicTile}
 use Rattle.routing.specs.TableCheck.{faultyPart, tableOk}
@@ -60,6 +61,6 @@ settingsAnswer B t st tile port =
     (portAnswer B t st tile port))
 
 -- grounds 1, 2, 3, 9, 5 and 20; `lengths` is whether every lent length is the exact one
-unfoldable pub followAnswer : ℕ → ℕ → List ℕ → List ℕ → ℕ → ℕ → Bool → Followed
-followAnswer w h t st tile port lengths =
-    unless (sized (block w h)) (Refused Size) (unless lengths (Refused Length) (settingsAnswer (block w h) t st tile port))
+unfoldable pub followAnswer : Block → List ℕ → List ℕ → ℕ → ℕ → Bool → Followed
+followAnswer B t st tile port lengths =
+    unless (sized B) (Refused WrongSize) (unless lengths (Refused WrongLength) (settingsAnswer B t st tile port))

@@ -1,58 +1,77 @@
--- Ground 2, "a lent length differs from the exact one": the lengths for a block of n tiles ("Lengths: bits 108, values 506, state 8, list 3,542
--- numbers, each times W·H; those of table, settings and work room stand in docs/"), as tests and as facts.
-use Prim.Native.Nat.{ℕ, _*_}
+-- Ground 2, "a lent length differs from the exact one": how long what is lent to `build` and `follow` is, and how long it must be, as tests and as
+-- facts. The figures are those of ports/specs/Lengths.antt.
 use mathlib.Core.Path.{_≡_}
 use mathlib.Core.Bool.{Bool, _&&_}
+use mathlib.Core.List.{List}
+use Prim.Native.Nat.{ℕ}
 use lib.Dec.{eqb}
-use Rattle.fabric.specs.Block.{portsPerTile}
-use Rattle.netlist.specs.Rows.{rowLength}
-use Rattle.routing.specs.LogicTile.{logicTile}
-use Rattle.routing.specs.Table.{tableLength}
-use Rattle.codec.specs.Bits.{tileBytes}
-use Rattle.codec.specs.Settings.{settingsLength}
-
--- a number for each port of n tiles, and a row for each port
-abbrev pub portsLength : ℕ → ℕ
-portsLength n = portsPerTile * n
-
-abbrev pub listLength : ℕ → ℕ
-listLength n = rowLength * portsLength n
+use lib.ListN.{length}
+use Rattle.ports.specs.declared.size.Block.{Block}
+use Rattle.ports.specs.Block.{sizeOf}
+use Rattle.ports.specs.Lengths.{tableLength, bitsLength, settingsTotal, ports, listLength}
+use Rattle.block.specs.declared.lengths.RoomLent.{RoomLent}
+use Rattle.block.specs.declared.lengths.BuildLent.{BuildLent}
+use Rattle.block.specs.declared.lengths.FollowLent.{FollowLent}
 
 -- what is lent to write a list of rows: the list, and as work room wires, sources, rows, marks and queue
-abbrev pub roomLengths : ℕ → (list wires sources rows marks queue : ℕ) → Bool
-roomLengths n list wires sources rows marks queue =
-    eqb list (listLength n)
-    && (eqb wires (portsLength n) && (eqb sources (portsLength n) && (eqb rows (listLength n) && (eqb marks (portsLength n) && eqb queue (portsLength n)))))
+abbrev pub roomLent : (list wires sources rows marks queue : List ℕ) → RoomLent
+roomLent list wires sources rows marks queue = record {
+  list = length list;
+  wires = length wires;
+  sources = length sources;
+  rows = length rows;
+  marks = length marks;
+  queue = length queue;
+}
 
-pub record RoomLong (n list wires sources rows marks queue : ℕ) : Type 0 where
-  pub list-long : list ≡ listLength n
-  pub wires-long : wires ≡ portsLength n
-  pub sources-long : sources ≡ portsLength n
-  pub rows-long : rows ≡ listLength n
-  pub marks-long : marks ≡ portsLength n
-  pub queue-long : queue ≡ portsLength n
+abbrev pub roomExact : Block → RoomLent → Bool
+roomExact B lent =
+    eqb (lent .list) (listLength B)
+    && (eqb (lent .wires) (ports B)
+    && (eqb (lent .sources) (ports B) && (eqb (lent .rows) (listLength B) && (eqb (lent .marks) (ports B) && eqb (lent .queue) (ports B)))))
+
+pub record RoomLong (B : Block) (lent : RoomLent) : Type 0 where
+  pub list-long : lent .list ≡ listLength B
+  pub wires-long : lent .wires ≡ ports B
+  pub sources-long : lent .sources ≡ ports B
+  pub rows-long : lent .rows ≡ listLength B
+  pub marks-long : lent .marks ≡ ports B
+  pub queue-long : lent .queue ≡ ports B
 
 -- what `build` is lent: table, bits, settings as work room, and room for the list
-abbrev pub buildLengths : ℕ → (table bits list settings wires sources rows marks queue : ℕ) → Bool
-buildLengths n table bits list settings wires sources rows marks queue =
-    eqb table (tableLength logicTile)
-    && (eqb bits (tileBytes * n) && (eqb settings (settingsLength logicTile * n) && roomLengths n list wires sources rows marks queue))
+abbrev pub buildLent : (table bits settings : List ℕ) → RoomLent → BuildLent
+buildLent table bits settings room = record { table = length table; bits = length bits; settings = length settings; room = room }
 
-pub record BuildLong (n table bits list settings wires sources rows marks queue : ℕ) : Type 0 where
-  pub table-long : table ≡ tableLength logicTile
-  pub bits-long : bits ≡ tileBytes * n
-  pub settings-long : settings ≡ settingsLength logicTile * n
-  pub room-long : RoomLong n list wires sources rows marks queue
+abbrev pub buildExact : Block → BuildLent → Bool
+buildExact B lent =
+    eqb (lent .table) tableLength
+    && (eqb (lent .bits) (bitsLength (sizeOf B)) && (eqb (lent .settings) (settingsTotal (sizeOf B)) && roomExact B (lent .room)))
+
+pub record BuildLong (B : Block) (lent : BuildLent) : Type 0 where
+  pub table-long : lent .table ≡ tableLength
+  pub bits-long : lent .bits ≡ bitsLength (sizeOf B)
+  pub settings-long : lent .settings ≡ settingsTotal (sizeOf B)
+  pub room-long : RoomLong B (lent .room)
 
 -- what `follow` is lent: table and settings, and as work room wires, sources and marks
-abbrev pub followLengths : ℕ → (table settings wires sources marks : ℕ) → Bool
-followLengths n table settings wires sources marks =
-    eqb table (tableLength logicTile)
-    && (eqb settings (settingsLength logicTile * n) && (eqb wires (portsLength n) && (eqb sources (portsLength n) && eqb marks (portsLength n))))
+abbrev pub followLent : (table settings wires sources marks : List ℕ) → FollowLent
+followLent table settings wires sources marks = record {
+  table = length table;
+  settings = length settings;
+  wires = length wires;
+  sources = length sources;
+  marks = length marks;
+}
 
-pub record FollowLong (n table settings wires sources marks : ℕ) : Type 0 where
-  pub table-long : table ≡ tableLength logicTile
-  pub settings-long : settings ≡ settingsLength logicTile * n
-  pub wires-long : wires ≡ portsLength n
-  pub sources-long : sources ≡ portsLength n
-  pub marks-long : marks ≡ portsLength n
+abbrev pub followExact : Block → FollowLent → Bool
+followExact B lent =
+    eqb (lent .table) tableLength
+    && (eqb (lent .settings) (settingsTotal (sizeOf B))
+    && (eqb (lent .wires) (ports B) && (eqb (lent .sources) (ports B) && eqb (lent .marks) (ports B))))
+
+pub record FollowLong (B : Block) (lent : FollowLent) : Type 0 where
+  pub table-long : lent .table ≡ tableLength
+  pub settings-long : lent .settings ≡ settingsTotal (sizeOf B)
+  pub wires-long : lent .wires ≡ ports B
+  pub sources-long : lent .sources ≡ ports B
+  pub marks-long : lent .marks ≡ ports B

@@ -2,15 +2,14 @@
 ghost use mathlib.Core.Path.{_≡_};
 ghost use Prim.Native.Nat.{_*_};
 ghost use lib.ListN.{length};
-ghost use Rattle.fabric.specs.Block.{Sized, tiles, ports};
+ghost use Rattle.ports.specs.Block.{Sized, tiles};
+ghost use Rattle.ports.specs.Lengths.{ports, tableLength, settingsLength};
 ghost use Rattle.routing.specs.LogicTile.{logicTile};
-ghost use Rattle.routing.specs.Table.{tableLength};
-ghost use Rattle.codec.specs.Settings.{settingsLength};
 ghost use Rattle.equations.specs.Routed.{Routed};
 ghost use Rattle.block.specs.Drivers.{portAnswer, settingsAnswer};
 use crate::Followed;
-use fabric::Block;
-use fabric::ports::PORTS_PER_TILE;
+use ports::lengths::PORTS_PER_TILE;
+use ports::size::Block;
 use refusal::Refusal;
 
 // Grounds 5 and 20 of settings that some bits have, and where following ends.
@@ -56,7 +55,7 @@ pub fn follow_settings(
     sources: &mut [u16],
     marks: &mut [u16],
 ) -> Followed
-    requires { ⌜ Sized b × (length (now table) ≡ tableLength logicTile) × (length (now st) ≡ settingsLength logicTile * tiles b) ⌝ }
+    requires { ⌜ Sized b × (length (now table) ≡ tableLength) × (length (now st) ≡ settingsLength * tiles b) ⌝ }
     requires { ⌜ (length (now wires) ≡ ports b) × (length (now sources) ≡ ports b) × (length (now marks) ≡ ports b) ⌝ }
     ensures { λ r. ⌜ r ≡ settingsAnswer b (now (table .entry)) (now (st .entry)) tile port ⌝ }
 {

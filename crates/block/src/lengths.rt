@@ -1,98 +1,102 @@
-// Ground 2: the exact lengths of what is lent for n tiles.
+// Ground 2: how long what is lent to `build` and `follow` is, and whether that is exact.
 ghost use mathlib.Core.Path.{_≡_};
-ghost use Prim.Native.Nat.{_≤_};
-ghost use Rattle.block.specs.Lengths.{roomLengths, buildLengths, followLengths};
-use codec::bits::TILE_BYTES;
-use codec::settings::SETTINGS_LENGTH;
-use fabric::ports::PORTS_PER_TILE;
-use netlist::row::ROW_LENGTH;
-use routing::table::TABLE_LENGTH;
+ghost use Rattle.ports.specs.Block.{Sized};
+ghost use Rattle.block.specs.Lengths.{roomExact, buildExact, followExact};
+use ports::lengths::TABLE_LENGTH;
+use ports::lengths::bits_length;
+use ports::lengths::list_length;
+use ports::lengths::port_count;
+use ports::lengths::settings_total;
+use ports::size::Block;
+use ports::size::size_of;
 
-// Whether the list and the work room to write it are as long as they must be.
-fn room_lengths(
-    n: usize,
-    list: usize,
-    wires: usize,
-    sources: usize,
-    rows: usize,
-    marks: usize,
-    queue: usize,
-) -> bool
-    requires { ⌜ n ≤ 64 ⌝ }
-    ensures { λ r. ⌜ r ≡ roomLengths n list wires sources rows marks queue ⌝ }
-{
-    let ports = PORTS_PER_TILE as usize * n;
-    let numbers = ROW_LENGTH * ports;
-    if list != numbers {
-        return false;
-    }
-    if wires != ports {
-        return false;
-    }
-    if sources != ports {
-        return false;
-    }
-    if rows != numbers {
-        return false;
-    }
-    if marks != ports {
-        return false;
-    }
-    queue == ports
+// The lengths of the list and of the work room to write it.
+pub struct RoomLent {
+    pub list: usize,
+    pub wires: usize,
+    pub sources: usize,
+    pub rows: usize,
+    pub marks: usize,
+    pub queue: usize,
 }
 
-// Whether all that is lent to `build` is.
-pub fn build_lengths(
-    n: usize,
-    table: usize,
-    bits: usize,
-    list: usize,
-    settings: usize,
-    wires: usize,
-    sources: usize,
-    rows: usize,
-    marks: usize,
-    queue: usize,
-) -> bool
-    requires { ⌜ n ≤ 64 ⌝ }
-    ensures { λ r. ⌜ r ≡ buildLengths n table bits list settings wires sources rows marks queue ⌝ }
-{
-    if table != TABLE_LENGTH {
-        return false;
-    }
-    if bits != TILE_BYTES * n {
-        return false;
-    }
-    if settings != SETTINGS_LENGTH * n {
-        return false;
-    }
-    room_lengths(n, list, wires, sources, rows, marks, queue)
+// The lengths of all that is lent to `build`.
+pub struct BuildLent {
+    pub table: usize,
+    pub bits: usize,
+    pub settings: usize,
+    pub room: RoomLent,
 }
 
-// Whether all that is lent to `follow` is.
-pub fn follow_lengths(
-    n: usize,
-    table: usize,
-    settings: usize,
-    wires: usize,
-    sources: usize,
-    marks: usize,
-) -> bool
-    requires { ⌜ n ≤ 64 ⌝ }
-    ensures { λ r. ⌜ r ≡ followLengths n table settings wires sources marks ⌝ }
+// The lengths of all that is lent to `follow`.
+pub struct FollowLent {
+    pub table: usize,
+    pub settings: usize,
+    pub wires: usize,
+    pub sources: usize,
+    pub marks: usize,
+}
+
+fn is_room_exact(b: Block, lent: RoomLent) -> bool
+    requires { ⌜ Sized b ⌝ }
+    ensures { λ r. ⌜ r ≡ roomExact b lent ⌝ }
 {
-    let ports = PORTS_PER_TILE as usize * n;
-    if table != TABLE_LENGTH {
+    let ports = port_count(b);
+    let numbers = list_length(b);
+    if lent.list != numbers {
         return false;
     }
-    if settings != SETTINGS_LENGTH * n {
+    if lent.wires != ports {
         return false;
     }
-    if wires != ports {
+    if lent.sources != ports {
         return false;
     }
-    if sources != ports {
+    if lent.rows != numbers {
         return false;
     }
-    marks == ports
+    if lent.marks != ports {
+        return false;
+    }
+    lent.queue == ports
+}
+
+pub fn is_build_exact(b: Block, lent: BuildLent) -> bool
+    requires { ⌜ Sized b ⌝ }
+    ensures { λ r. ⌜ r ≡ buildExact b lent ⌝ }
+{
+    let bits = bits_length(size_of(b));
+    let settings = settings_total(size_of(b));
+    if lent.table != TABLE_LENGTH {
+        return false;
+    }
+    if lent.bits != bits {
+        return false;
+    }
+    if lent.settings != settings {
+        return false;
+    }
+    let room = lent.room;
+    is_room_exact(b, room)
+}
+
+pub fn is_follow_exact(b: Block, lent: FollowLent) -> bool
+    requires { ⌜ Sized b ⌝ }
+    ensures { λ r. ⌜ r ≡ followExact b lent ⌝ }
+{
+    let settings = settings_total(size_of(b));
+    let ports = port_count(b);
+    if lent.table != TABLE_LENGTH {
+        return false;
+    }
+    if lent.settings != settings {
+        return false;
+    }
+    if lent.wires != ports {
+        return false;
+    }
+    if lent.sources != ports {
+        return false;
+    }
+    lent.marks == ports
 }

@@ -5,20 +5,25 @@
 ghost use mathlib.Core.Path.{_≡_};
 ghost use lib.ListN.{length};
 ghost use Rattle.refusal.specs.Memory.{output, workRoom};
-ghost use Rattle.fabric.specs.Block.{block, tiles};
+ghost use Rattle.ports.specs.Block.{tiles};
 ghost use Rattle.config.specs.Blocks.{decoded, tilesOf};
 ghost use Rattle.equations.specs.Settling.{blockList};
-ghost use Rattle.block.specs.Lengths.{buildLengths, followLengths};
+ghost use Rattle.block.specs.Lengths.{roomLent, buildLent, buildExact, followLent, followExact};
 ghost use Rattle.block.specs.Building.{builtNumber, buildAnswer};
 ghost use Rattle.block.specs.Drivers.{followedNumber, followAnswer};
 ghost use Rattle.block.specs.Meaning.{BuildSays};
 ghost use Rattle.block.specs.DriverMeaning.{FollowSays};
+use crate::lengths::BuildLent;
+use crate::lengths::FollowLent;
+use crate::lengths::RoomLent;
+use crate::lengths::is_build_exact;
+use crate::lengths::is_follow_exact;
 use drivers::follow::Driver;
-use fabric::Block;
+use ports::size::Block;
 use refusal::Refusal;
 
 mod driver;
-mod lengths;
+pub mod lengths;
 pub mod list;
 
 // So many rows, or why there is no list.
@@ -37,8 +42,7 @@ pub enum Followed {
 // the list: settings, wires, sources, rows, marks and queue.
 // Rules out: refusing every block; the same list always; a list written on a no; a row count made up; marks left behind.
 pub fn build(
-    w: u32,
-    h: u32,
+    b: Block,
     table: &[u16],
     bits: &[u8],
     list: &mut [u16],
@@ -49,34 +53,35 @@ pub fn build(
     marks: &mut [u16],
     queue: &mut [u16],
 ) -> Built
-    ensures answer { λ r. ⌜ r ≡ buildAnswer w h (now (table .entry)) (tilesOf (now (bits .entry))) (buildLengths (tiles (block w h)) (length (now (table .entry))) (length (now (bits .entry))) (length (now (list .entry))) (length (now (settings .entry))) (length (now (wires .entry))) (length (now (sources .entry))) (length (now (rows .entry))) (length (now (marks .entry))) (length (now (queue .entry)))) ⌝ }
-    ensures list { λ r. ⌜ now (list .exit) ≡ output (builtNumber r) (now (list .entry)) (blockList (block w h) (now (table .entry)) (decoded (now (table .entry)) (tilesOf (now (bits .entry))) (tiles (block w h)))) ⌝ }
+    ensures answer { λ r. ⌜ r ≡ buildAnswer b (now (table .entry)) (tilesOf (now (bits .entry))) (buildExact b (buildLent (now (table .entry)) (now (bits .entry)) (now (settings .entry)) (roomLent (now (list .entry)) (now (wires .entry)) (now (sources .entry)) (now (rows .entry)) (now (marks .entry)) (now (queue .entry))))) ⌝ }
+    ensures list { λ r. ⌜ now (list .exit) ≡ output (builtNumber r) (now (list .entry)) (blockList b (now (table .entry)) (decoded (now (table .entry)) (tilesOf (now (bits .entry))) (tiles b))) ⌝ }
     ensures settings { λ r. ⌜ now (settings .exit) ≡ workRoom (builtNumber r) (now (settings .entry)) ⌝ }
     ensures wires { λ r. ⌜ now (wires .exit) ≡ workRoom (builtNumber r) (now (wires .entry)) ⌝ }
     ensures sources { λ r. ⌜ now (sources .exit) ≡ workRoom (builtNumber r) (now (sources .entry)) ⌝ }
     ensures rows { λ r. ⌜ now (rows .exit) ≡ workRoom (builtNumber r) (now (rows .entry)) ⌝ }
     ensures marks { λ r. ⌜ now (marks .exit) ≡ workRoom (builtNumber r) (now (marks .entry)) ⌝ }
     ensures queue { λ r. ⌜ now (queue .exit) ≡ workRoom (builtNumber r) (now (queue .entry)) ⌝ }
-    ensures says { λ r. ⌜ BuildSays w h (now (table .entry)) (now (bits .entry)) (length (now (list .entry))) (length (now (settings .entry))) (length (now (wires .entry))) (length (now (sources .entry))) (length (now (rows .entry))) (length (now (marks .entry))) (length (now (queue .entry))) r ⌝ }
+    ensures says { λ r. ⌜ BuildSays b (now (table .entry)) (now (bits .entry)) (buildLent (now (table .entry)) (now (bits .entry)) (now (settings .entry)) (roomLent (now (list .entry)) (now (wires .entry)) (now (sources .entry)) (now (rows .entry)) (now (marks .entry)) (now (queue .entry)))) r ⌝ }
 {
-    let b = Block { w, h };
-    if !fabric::is_sized(b) {
-        return Built::Refused(Refusal::Size);
+    if !ports::size::is_sized(b) {
+        return Built::Refused(Refusal::WrongSize);
     }
-    let n = (h * w) as usize;
-    if !lengths::build_lengths(
-        n,
-        table.len(),
-        bits.len(),
-        list.len(),
-        settings.len(),
-        wires.len(),
-        sources.len(),
-        rows.len(),
-        marks.len(),
-        queue.len(),
-    ) {
-        return Built::Refused(Refusal::Length);
+    let room = RoomLent {
+        list: list.len(),
+        wires: wires.len(),
+        sources: sources.len(),
+        rows: rows.len(),
+        marks: marks.len(),
+        queue: queue.len(),
+    };
+    let lent = BuildLent {
+        table: table.len(),
+        bits: bits.len(),
+        settings: settings.len(),
+        room: room,
+    };
+    if !is_build_exact(b, lent) {
+        return Built::Refused(Refusal::WrongLength);
     }
     let r = list::list_bits(
         b,
@@ -103,8 +108,7 @@ pub fn build(
 // room is wires, sources and marks.
 // Rules out: stopping at the first switch; a ring's wire that is not its lowest; going on through carry_in_mux.
 pub fn follow(
-    w: u32,
-    h: u32,
+    b: Block,
     table: &[u16],
     settings: &[u16],
     tile: u32,
@@ -113,26 +117,24 @@ pub fn follow(
     sources: &mut [u16],
     marks: &mut [u16],
 ) -> Followed
-    ensures answer { λ r. ⌜ r ≡ followAnswer w h (now (table .entry)) (now (settings .entry)) tile port (followLengths (tiles (block w h)) (length (now (table .entry))) (length (now (settings .entry))) (length (now (wires .entry))) (length (now (sources .entry))) (length (now (marks .entry)))) ⌝ }
+    ensures answer { λ r. ⌜ r ≡ followAnswer b (now (table .entry)) (now (settings .entry)) tile port (followExact b (followLent (now (table .entry)) (now (settings .entry)) (now (wires .entry)) (now (sources .entry)) (now (marks .entry)))) ⌝ }
     ensures wires { λ r. ⌜ now (wires .exit) ≡ workRoom (followedNumber r) (now (wires .entry)) ⌝ }
     ensures sources { λ r. ⌜ now (sources .exit) ≡ workRoom (followedNumber r) (now (sources .entry)) ⌝ }
     ensures marks { λ r. ⌜ now (marks .exit) ≡ workRoom (followedNumber r) (now (marks .entry)) ⌝ }
-    ensures says { λ r. ⌜ FollowSays w h (now (table .entry)) (now (settings .entry)) tile port (length (now (wires .entry))) (length (now (sources .entry))) (length (now (marks .entry))) r ⌝ }
+    ensures says { λ r. ⌜ FollowSays b (now (table .entry)) (now (settings .entry)) tile port (followLent (now (table .entry)) (now (settings .entry)) (now (wires .entry)) (now (sources .entry)) (now (marks .entry))) r ⌝ }
 {
-    let b = Block { w, h };
-    if !fabric::is_sized(b) {
-        return Followed::Refused(Refusal::Size);
+    if !ports::size::is_sized(b) {
+        return Followed::Refused(Refusal::WrongSize);
     }
-    let n = (h * w) as usize;
-    if !lengths::follow_lengths(
-        n,
-        table.len(),
-        settings.len(),
-        wires.len(),
-        sources.len(),
-        marks.len(),
-    ) {
-        return Followed::Refused(Refusal::Length);
+    let lent = FollowLent {
+        table: table.len(),
+        settings: settings.len(),
+        wires: wires.len(),
+        sources: sources.len(),
+        marks: marks.len(),
+    };
+    if !is_follow_exact(b, lent) {
+        return Followed::Refused(Refusal::WrongLength);
     }
     let r = driver::follow_settings(b, table, settings, tile, port, wires, sources, marks);
     lists::clear(wires);

@@ -3,22 +3,20 @@ ghost use mathlib.Core.Path.{_≡_};
 ghost use Prim.Native.Nat.{_*_, _≤_};
 ghost use lib.ListN.{length};
 ghost use Rattle.refusal.specs.Memory.{output};
-ghost use Rattle.fabric.specs.Block.{Sized, tiles, ports};
+ghost use Rattle.ports.specs.Block.{Sized, tiles};
+ghost use Rattle.ports.specs.Lengths.{ports, tableLength, tileNumbers, settingsLength};
 ghost use Rattle.fabric.specs.Wire.{wiresOf};
 ghost use Rattle.routing.specs.LogicTile.{logicTile};
-ghost use Rattle.routing.specs.Table.{tableLength};
-ghost use Rattle.codec.specs.Bits.{tileBytes};
-ghost use Rattle.codec.specs.Settings.{settingsLength};
 ghost use Rattle.config.specs.Blocks.{decoded, tilesOf};
 ghost use Rattle.equations.specs.Routed.{Routed};
 ghost use Rattle.equations.specs.Sources.{sourcesOf, contendedWire};
 ghost use Rattle.equations.specs.WireRows.{wireRows};
 ghost use Rattle.equations.specs.Settling.{blockList};
 ghost use Rattle.drivers.specs.CarryReads.{carryReadWire};
-ghost use Rattle.block.specs.Lengths.{RoomLong};
+ghost use Rattle.block.specs.Lengths.{roomLent, buildLent, RoomLong, BuildLong};
 ghost use Rattle.block.specs.Building.{builtNumber, listAnswer, bitsAnswer};
 use crate::Built;
-use fabric::Block;
+use ports::size::Block;
 use refusal::Refusal;
 use routing::table::POSITIONS;
 use scheduling::schedule::Scheduled;
@@ -38,7 +36,7 @@ fn list_rows(
 ) -> Built
     requires { ⌜ Routed b (now table) (now st) × (ports b ≤ contendedWire b (now table) (now st)) × (ports b ≤ carryReadWire b (now table) (now st)) ⌝ }
     requires { ⌜ (now wires ≡ wiresOf b) × (now sources ≡ sourcesOf b (now table) (now st)) × (now rows ≡ wireRows b (now table) (now st)) ⌝ }
-    requires { ⌜ RoomLong (tiles b) (length (now list)) (length (now wires)) (length (now sources)) (length (now rows)) (length (now marks)) (length (now queue)) ⌝ }
+    requires { ⌜ RoomLong b (roomLent (now list) (now wires) (now sources) (now rows) (now marks) (now queue)) ⌝ }
     ensures answer { λ r. ⌜ r ≡ listAnswer b (now (table .entry)) (now (st .entry)) ⌝ }
     ensures list { λ r. ⌜ now (list .exit) ≡ output (builtNumber r) (now (list .entry)) (blockList b (now (table .entry)) (now (st .entry))) ⌝ }
 {
@@ -72,7 +70,7 @@ fn list_sources(
 ) -> Built
     requires { ⌜ Routed b (now table) (now st) × (ports b ≤ contendedWire b (now table) (now st)) ⌝ }
     requires { ⌜ (now wires ≡ wiresOf b) × (now sources ≡ sourcesOf b (now table) (now st)) ⌝ }
-    requires { ⌜ RoomLong (tiles b) (length (now list)) (length (now wires)) (length (now sources)) (length (now rows)) (length (now marks)) (length (now queue)) ⌝ }
+    requires { ⌜ RoomLong b (roomLent (now list) (now wires) (now sources) (now rows) (now marks) (now queue)) ⌝ }
     ensures answer { λ r. ⌜ r ≡ listAnswer b (now (table .entry)) (now (st .entry)) ⌝ }
     ensures list { λ r. ⌜ now (list .exit) ≡ output (builtNumber r) (now (list .entry)) (blockList b (now (table .entry)) (now (st .entry))) ⌝ }
 {
@@ -98,7 +96,7 @@ pub fn list_settings(
     queue: &mut [u16],
 ) -> Built
     requires { ⌜ Routed b (now table) (now st) ⌝ }
-    requires { ⌜ RoomLong (tiles b) (length (now list)) (length (now wires)) (length (now sources)) (length (now rows)) (length (now marks)) (length (now queue)) ⌝ }
+    requires { ⌜ RoomLong b (roomLent (now list) (now wires) (now sources) (now rows) (now marks) (now queue)) ⌝ }
     ensures answer { λ r. ⌜ r ≡ listAnswer b (now (table .entry)) (now (st .entry)) ⌝ }
     ensures list { λ r. ⌜ now (list .exit) ≡ output (builtNumber r) (now (list .entry)) (blockList b (now (table .entry)) (now (st .entry))) ⌝ }
 {
@@ -124,8 +122,8 @@ pub fn list_bits(
     marks: &mut [u16],
     queue: &mut [u16],
 ) -> Built
-    requires { ⌜ Sized b × (length (now table) ≡ tableLength logicTile) × (length (now bits) ≡ tileBytes * tiles b) × (length (now settings) ≡ settingsLength logicTile * tiles b) ⌝ }
-    requires { ⌜ RoomLong (tiles b) (length (now list)) (length (now wires)) (length (now sources)) (length (now rows)) (length (now marks)) (length (now queue)) ⌝ }
+    requires { ⌜ Sized b ⌝ }
+    requires { ⌜ BuildLong b (buildLent (now table) (now bits) (now settings) (roomLent (now list) (now wires) (now sources) (now rows) (now marks) (now queue))) ⌝ }
     ensures answer { λ r. ⌜ r ≡ bitsAnswer b (now (table .entry)) (tilesOf (now (bits .entry))) ⌝ }
     ensures list { λ r. ⌜ now (list .exit) ≡ output (builtNumber r) (now (list .entry)) (blockList b (now (table .entry)) (decoded (now (table .entry)) (tilesOf (now (bits .entry))) (tiles b))) ⌝ }
 {

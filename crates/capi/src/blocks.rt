@@ -3,7 +3,7 @@ ghost use mathlib.Core.Path.{_≡_};
 ghost use lib.ListN.{length};
 ghost use Rattle.refusal.specs.Grounds.{answerNumber, answerValue};
 ghost use Rattle.refusal.specs.Memory.{output};
-ghost use Rattle.fabric.specs.Block.{block, tiles};
+ghost use Rattle.ports.specs.Block.{block, tiles};
 ghost use Rattle.config.specs.Blocks.{decoded, encoded, tilesOf};
 ghost use Rattle.config.specs.Entry.{readAnswer, writeAnswer, bitCountAnswer, bitCountNumber, bitCountValue};
 ghost use Rattle.capi.specs.Packed.{packed, groundIn};

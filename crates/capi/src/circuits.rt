@@ -2,7 +2,7 @@
 ghost use mathlib.Core.Path.{_≡_};
 ghost use lib.ListN.{length};
 ghost use Rattle.refusal.specs.Memory.{output, workRoom};
-ghost use Rattle.fabric.specs.Block.{block, tiles};
+ghost use Rattle.ports.specs.Block.{block, tiles};
 ghost use Rattle.config.specs.Blocks.{decoded, tilesOf};
 ghost use Rattle.equations.specs.Settling.{blockList};
 ghost use Rattle.block.specs.Lengths.{buildLengths, followLengths};

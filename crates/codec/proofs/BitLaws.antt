@@ -24,7 +24,8 @@ use Rattle.digits.proofs.DigitLaws.{digit-set-same, digit-set-other, set-digit-
 use Rattle.digits.proofs.OnesLaws.{ones-count}
 use Rattle.digits.proofs.MaskLaws.{digit-shl}
 use Rattle.digits.proofs.WriteLaws.{digit-split}
-use Rattle.codec.specs.Bits.{unit, tileBytes, bitIn, bitAt, setBitIn, setBit, Bytes, isSetAt, isZeroAt, isEmpty}
+use Rattle.codec.specs.Bits.{unit, bitIn, bitAt, setBitIn, setBit, Bytes, isSetAt, isZeroAt, isEmpty}
+use Rattle.ports.specs.Lengths.{tileNumbers}
 
 -- ---- u bits in a number
 
@@ -118,15 +119,15 @@ pub bit-of-zeros : (n p : ℕ) → bitAt (zeros n) p ≡ 0
 unfolding bitIn
 bit-of-zeros n p = rw (zeros-at n (p / unit)) (ap (λ (x : ℕ). x % 2) (zero-div (2 ^ (p % unit))))
 
-pub empty-clear : (bits : List ℕ) → length bits ≡ tileBytes → isEmpty bits ≡ true → (p : ℕ) → bitAt bits p ≡ 0
+pub empty-clear : (bits : List ℕ) → length bits ≡ tileNumbers → isEmpty bits ≡ true → (p : ℕ) → bitAt bits p ≡ 0
 empty-clear bits n e p =
     ap (λ (x : List ℕ). bitAt x p)
-    (ext-getD 0 bits (zeros tileBytes) (n ∙ sym (zeros-length tileBytes))
-    (λ i l. eqb-true (getD bits i 0) 0 (all-at (isZeroAt bits) 0 tileBytes i e (omega arith) (omega arith)) ∙ sym (zeros-at tileBytes i)))
-    ∙ bit-of-zeros tileBytes p
+    (ext-getD 0 bits (zeros tileNumbers) (n ∙ sym (zeros-length tileNumbers))
+    (λ i l. eqb-true (getD bits i 0) 0 (all-at (isZeroAt bits) 0 tileNumbers i e (omega arith) (omega arith)) ∙ sym (zeros-at tileNumbers i)))
+    ∙ bit-of-zeros tileNumbers p
 
 -- a position of the tile is in one of its lent numbers
-pub position-within : {p n : ℕ} → p < 864 → n ≡ tileBytes → p / unit < n
+pub position-within : {p n : ℕ} → p < 864 → n ≡ tileNumbers → p / unit < n
 position-within h e = omega arith
 
 -- the bits of byte i

@@ -10,11 +10,12 @@ use Rattle.lists.proofs.CaseLaws.{cases}
 use Rattle.digits.specs.Digits.{fromDigits}
 use Rattle.routing.specs.TileKind.{bitsPerCell}
 use Rattle.routing.specs.LogicTile.{logicTile, cellPosition}
-use Rattle.routing.specs.Table.{maxPositions, fieldAt, passiveAt, groupCount, widthOf, positionAt}
+use Rattle.ports.specs.Lengths.{maxPositions, tileNumbers}
+use Rattle.routing.specs.Table.{fieldAt, passiveAt, groupCount, widthOf, positionAt}
 use Rattle.routing.specs.Rules.{TableRules}
 use Rattle.routing.specs.Slots.{owner, slotsOf, slotAt, slotUsed, fieldSlots, passiveSlots, groupSlot, slotCount}
 use Rattle.routing.proofs.SlotLaws.{slot-cases}
-use Rattle.codec.specs.Bits.{tileBytes, bitAt, Bytes, tileOf}
+use Rattle.codec.specs.Bits.{bitAt, Bytes, tileOf}
 use Rattle.codec.specs.Settings.{fieldSetting, passiveSetting, groupSetting, cellTable, cellFlags}
 use Rattle.codec.specs.Groups.{groupPattern, readGroup, patternOf}
 use Rattle.codec.specs.Cells.{cellValue, valueIn}
@@ -85,6 +86,6 @@ module _ (table bits : List ℕ) (T : TableRules logicTile table) (D : Decodable
       P s = bitAt bits (slotAt logicTile table s) ≡ slotValue table S s
 
   -- bits that are read are written back the same
-  pub bits-back : length bits ≡ tileBytes → Bytes bits → encode table (decode table (bitAt bits)) ≡ bits
+  pub bits-back : length bits ≡ tileNumbers → Bytes bits → encode table (decode table (bitAt bits)) ≡ bits
   bits-back n by =
       sym (encode-is (slotsOf logicTile table) (slotValue table S) (slot-value-lt table S) bits n by (λ s h u. all-held s u) decodable-clear)

@@ -23,8 +23,9 @@ use Rattle.cell.proofs.SettingsLaws.{flags-of-cell}
 use Rattle.routing.specs.TileKind.{bitsPerCell}
 use Rattle.routing.specs.LogicTile.{logicTile, lcBits, lcPosition, cellPosition}
 use Rattle.routing.proofs.LogicTileLaws.{cell-position-lt, cell-position-once}
-use Rattle.codec.specs.Bits.{bitAt, tileBytes, setBits}
-use Rattle.codec.specs.Settings.{cellsFrom, settingsLength}
+use Rattle.codec.specs.Bits.{bitAt, setBits}
+use Rattle.ports.specs.Lengths.{tileNumbers, settingsLength}
+use Rattle.codec.specs.Settings.{cellsFrom}
 use Rattle.codec.specs.Cells.{cellNumber, cellBitIn, valueIn, cellIn, cellsIn, emptyCell, writeCells, putCells, sameCell}
 use Rattle.codec.proofs.BitLaws.{bit-lt, bit-of-zeros, position-within}
 use Rattle.codec.proofs.SetBitsLaws.{set-bits-other, set-bits-back}
@@ -46,7 +47,7 @@ module _ (bits : List ℕ) (i j : ℕ) where
   flags-digit h = ap (λ (x : ℕ). x % 2) (shr-shr (valueIn (bitAt bits) i) 16 j) ∙ value-digit bits i (16 + j) (omega arith)
 
 -- the round trip of one cell
-pub cell-back : (bits : List ℕ) (i v : ℕ) → length bits ≡ tileBytes → i < 8 → v < 2 ^ bitsPerCell → valueIn (bitAt (setBits bits (cellPosition i) v bitsPerCell)) i ≡ v
+pub cell-back : (bits : List ℕ) (i v : ℕ) → length bits ≡ tileNumbers → i < 8 → v < 2 ^ bitsPerCell → valueIn (bitAt (setBits bits (cellPosition i) v bitsPerCell)) i ≡ v
 cell-back bits i v n h hv =
     set-bits-back bits (cellPosition i) v bitsPerCell hv (λ j l a b e. cell-position-once i j i l a b e .1)
     (λ j a. position-within (cell-position-lt i j h a) n)
@@ -87,11 +88,11 @@ write-cells-later bits cells (suc n) i j h l b =
     (λ k a e. omega (arith, cell-position-once i j n k b a e .0))
     ∙ write-cells-later bits cells n i j (omega arith) l b
 
-pub write-cells-clear : (bits : List ℕ) (cells : List Cell) (now : List ℕ) (i : ℕ) → bits ≡ zeros tileBytes → now ≡ writeCells bits cells i → i < 8
+pub write-cells-clear : (bits : List ℕ) (cells : List Cell) (now : List ℕ) (i : ℕ) → bits ≡ zeros tileNumbers → now ≡ writeCells bits cells i → i < 8
     → (j : ℕ) → j < bitsPerCell → cellBitIn (bitAt now) i j ≡ 0
 write-cells-clear bits cells now i z e h j l =
     ap (λ (x : List ℕ). cellBitIn (bitAt x) i j) e ∙ write-cells-later bits cells i i j (omega arith) h l
-    ∙ ap (λ (x : List ℕ). cellBitIn (bitAt x) i j) z ∙ bit-of-zeros tileBytes (cellPosition i j)
+    ∙ ap (λ (x : List ℕ). cellBitIn (bitAt x) i j) z ∙ bit-of-zeros tileNumbers (cellPosition i j)
 
 module _ (settings : List ℕ) (cells : List Cell) where
   pub put-cells-length : (n : ℕ) → length (putCells settings cells n) ≡ length settings
@@ -109,9 +110,9 @@ module _ (settings : List ℕ) (cells : List Cell) where
       ∙ getD-set-other (putCells settings cells n) (cellsFrom logicTile + 2 * n) k (getD cells n emptyCell .table) 0 (λ z. omega arith)
       ∙ put-cells-kept n k h
 
-  module _ (long : length settings ≡ settingsLength logicTile) where
+  module _ (long : length settings ≡ settingsLength) where
     -- one turn: the table and the flags of cell n
-    put-at : (n i : ℕ) (x : List ℕ) (t f : ℕ) → length x ≡ settingsLength logicTile → n < 8 → i ≡ n
+    put-at : (n i : ℕ) (x : List ℕ) (t f : ℕ) → length x ≡ settingsLength → n < 8 → i ≡ n
         → (getD (set (set x (cellsFrom logicTile + 2 * n) t) (cellsFrom logicTile + 2 * n + 1) f) (cellsFrom logicTile + 2 * i) 0 ≡ t)
         × (getD (set (set x (cellsFrom logicTile + 2 * n) t) (cellsFrom logicTile + 2 * n + 1) f) (cellsFrom logicTile + 2 * i + 1) 0 ≡ f)
     put-at n i x t f e h q =

@@ -16,7 +16,8 @@ use Rattle.digits.specs.Digits.{digit}
 use Rattle.digits.proofs.DigitLaws.{from-digits-lt, digit-from-digits}
 use Rattle.routing.specs.Slots.{Slots, claims, owner, Once}
 use Rattle.routing.proofs.OwnerLaws.{claims-at, claims-used, owner-is}
-use Rattle.codec.specs.Bits.{unit, tileBytes, bitIn, bitAt, Bytes}
+use Rattle.codec.specs.Bits.{unit, bitIn, bitAt, Bytes}
+use Rattle.ports.specs.Lengths.{tileNumbers}
 use Rattle.codec.specs.Encode.{ownedBit, ownedByte, bitsOf}
 use Rattle.codec.proofs.BitLaws.{bits-ext}
 
@@ -28,29 +29,29 @@ module _ (S : Slots) (value : ℕ → ℕ) (two : (s : ℕ) → value s < 2) whe
       go true = two (owner S p)
       go false = omega arith
 
-  pub encode-length : length (bitsOf S value) ≡ tileBytes
+  pub encode-length : length (bitsOf S value) ≡ tileNumbers
   unfolding bitsOf
-  encode-length = tabulate-length (ownedByte S value) 0 tileBytes
+  encode-length = tabulate-length (ownedByte S value) 0 tileNumbers
 
   -- the bits of the tile are those that the owners say
   pub encode-bit : (p : ℕ) → p < 864 → bitAt (bitsOf S value) p ≡ ownedBit S value p
   unfolding bitIn bitsOf
   encode-bit p h =
-      ap (λ (x : ℕ). digit x (p % unit)) (tabulate-zero (ownedByte S value) 0 tileBytes (p / unit) (omega arith))
+      ap (λ (x : ℕ). digit x (p % unit)) (tabulate-zero (ownedByte S value) 0 tileNumbers (p / unit) (omega arith))
       ∙ digit-from-digits (λ (j : ℕ). ownedBit S value (unit * (p / unit) + j)) (λ j. owned-bit-lt (unit * (p / unit) + j)) unit (p % unit) (omega arith)
       ∙ ap (ownedBit S value) (let e : unit * (p / unit) + p % unit ≡ p = omega arith in e)
 
   pub encode-bytes : Bytes (bitsOf S value)
   unfolding bitsOf
-  encode-bytes i = ⊎-elim inside outside (lt-or-le i tileBytes)
+  encode-bytes i = ⊎-elim inside outside (lt-or-le i tileNumbers)
     where
-      inside : i < tileBytes → getD (tabulate (ownedByte S value) 0 tileBytes) i 0 < 2 ^ unit
+      inside : i < tileNumbers → getD (tabulate (ownedByte S value) 0 tileNumbers) i 0 < 2 ^ unit
       inside h =
-          rw (tabulate-zero (ownedByte S value) 0 tileBytes i h)
+          rw (tabulate-zero (ownedByte S value) 0 tileNumbers i h)
           (from-digits-lt (λ (j : ℕ). ownedBit S value (unit * i + j)) (λ j. owned-bit-lt (unit * i + j)) unit)
 
-      outside : tileBytes ≤ i → getD (tabulate (ownedByte S value) 0 tileBytes) i 0 < 2 ^ unit
-      outside h = rw (tabulate-past (ownedByte S value) 0 0 tileBytes i h) (omega arith)
+      outside : tileNumbers ≤ i → getD (tabulate (ownedByte S value) 0 tileNumbers) i 0 < 2 ^ unit
+      outside h = rw (tabulate-past (ownedByte S value) 0 0 tileNumbers i h) (omega arith)
 
   -- a position that nothing claims
   pub encode-unclaimed : (p : ℕ) → p < 864 → S .count ≤ owner S p → bitAt (bitsOf S value) p ≡ 0
@@ -63,7 +64,7 @@ module _ (S : Slots) (value : ℕ → ℕ) (two : (s : ℕ) → value s < 2) whe
       ∙ (let e : owner S (S .at s) ≡ s = owner-is S once s h u in rw (e, lt-ltb s (S .count) h))
 
   -- read, then written: bits that are 0 where nothing claims them, and whose slots hold the values, are those bits
-  pub encode-is : (bits : List ℕ) → length bits ≡ tileBytes → Bytes bits
+  pub encode-is : (bits : List ℕ) → length bits ≡ tileNumbers → Bytes bits
       → ((s : ℕ) → s < S .count → S .used s ≡ true → bitAt bits (S .at s) ≡ value s)
       → ((p : ℕ) → p < 864 → S .count ≤ owner S p → bitAt bits p ≡ 0)
       → bits ≡ bitsOf S value

@@ -11,7 +11,8 @@ use lib.ListN.{getD}
 use Rattle.lists.proofs.CaseLaws.{lt-or-le}
 use Rattle.lists.proofs.SearchLaws.{first-le, first-true}
 use Rattle.routing.specs.LogicTile.{logicTile, carryInSet}
-use Rattle.routing.specs.Table.{maxPositions, groupCount, widthOf}
+use Rattle.ports.specs.Lengths.{maxPositions}
+use Rattle.routing.specs.Table.{groupCount, widthOf}
 use Rattle.routing.specs.Slots.{claims, owner, ownerCode, Owned, slotsOf, slotUsed, fieldSlots, groupSlots, groupSlot, slotCount}
 use Rattle.routing.proofs.OwnerLaws.{claims-used}
 use Rattle.routing.proofs.SlotLaws.{slot-cases}

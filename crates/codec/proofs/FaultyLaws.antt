@@ -10,7 +10,8 @@ use borrow.Author.Tests.{eq-eqb, lt-ltb, eqb-true}
 use Rattle.lists.proofs.CaseLaws.{cases, clash, lt-or-le, eq-or-ne, and-left, and-right, and-true}
 use Rattle.lists.proofs.SearchLaws.{first-le, first-true, first-before, first-none}
 use Rattle.routing.specs.LogicTile.{logicTile, carryInSet}
-use Rattle.routing.specs.Table.{maxPassives, maxPositions, fieldAt, passiveCount, passiveAt, groupCount, widthOf, positionAt}
+use Rattle.ports.specs.Lengths.{maxPassives, maxPositions}
+use Rattle.routing.specs.Table.{fieldAt, passiveCount, passiveAt, groupCount, widthOf, positionAt}
 use Rattle.routing.specs.Rules.{TableRules}
 use Rattle.routing.specs.Slots.{claims, owner, Once, slotsOf, slotAt, slotUsed, fieldSlots, passiveSlots, groupSlots, groupSlot, slotCount}
 use Rattle.routing.proofs.OwnerLaws.{claims-used, claims-at, claims-it, claims-not, owner-is}

@@ -15,8 +15,9 @@ use Rattle.lists.proofs.CaseLaws.{and-left, and-right}
 use Rattle.lists.proofs.TableLaws.{tabulate-zero}
 use Rattle.lists.proofs.SearchLaws.{all-at, all-ext}
 use Rattle.routing.specs.LogicTile.{logicTile}
-use Rattle.routing.specs.Table.{maxPassives, maxGroups, passiveCount, groupCount, entryCount}
-use Rattle.codec.specs.Settings.{fieldSetting, passiveSetting, groupSetting, groupsFrom, cellsFrom, cellTable, cellFlags, settingsLength}
+use Rattle.ports.specs.Lengths.{maxPassives, maxGroups, settingsLength}
+use Rattle.routing.specs.Table.{passiveCount, groupCount, entryCount}
+use Rattle.codec.specs.Settings.{fieldSetting, passiveSetting, groupSetting, groupsFrom, cellsFrom, cellTable, cellFlags}
 use Rattle.codec.specs.Limits.{limitAt, withinLimit, limitsOf, withinAt, bothCarries, settingsFit}
 
 module _ (table : List ℕ) (n : ℕ) where
@@ -83,23 +84,23 @@ module _ (table settings : List ℕ) where
   fit-carry-pair e = rw e
 
   pub fit-within : (limits : List ℕ) → limits ≡ limitsOf table → bothCarries settings ≡ false
-      → all (withinAt limits settings) 0 (settingsLength logicTile) ≡ settingsFit table settings
+      → all (withinAt limits settings) 0 settingsLength ≡ settingsFit table settings
   unfolding settingsFit
   fit-within limits e b =
       rw b
-      (all-ext (withinAt limits settings) (withinLimit table settings) 0 (settingsLength logicTile)
+      (all-ext (withinAt limits settings) (withinLimit table settings) 0 settingsLength
       (λ k a l. ap (leb (getD settings k 0))
-      (ap (λ (x : List ℕ). getD x k 0) e ∙ tabulate-zero (limitAt table) 0 (settingsLength logicTile) k (omega arith))))
+      (ap (λ (x : List ℕ). getD x k 0) e ∙ tabulate-zero (limitAt table) 0 settingsLength k (omega arith))))
 
 -- ---- settings that fit
 
 module _ (table settings : List ℕ) (fit : settingsFit table settings ≡ true) where
   -- the code's view of a number: one of the settings, at most its limit
-  pub fit-at : (n : ℕ) → n < settingsLength logicTile → getD settings n 0 ≤ limitAt table n
+  pub fit-at : (n : ℕ) → n < settingsLength → getD settings n 0 ≤ limitAt table n
   unfolding settingsFit
   fit-at n h =
       leb-true (getD settings n 0) (limitAt table n)
-      (all-at (withinLimit table settings) 0 (settingsLength logicTile) n (and-right (not (bothCarries settings)) _ fit) (omega arith) (omega arith))
+      (all-at (withinLimit table settings) 0 settingsLength n (and-right (not (bothCarries settings)) _ fit) (omega arith) (omega arith))
 
   pub fit-carries : bothCarries settings ≡ false
   unfolding settingsFit

@@ -15,10 +15,11 @@ use Rattle.lists.proofs.SearchLaws.{all-of}
 use Rattle.digits.specs.Digits.{digit}
 use Rattle.digits.proofs.DigitLaws.{digits-same}
 use Rattle.routing.specs.LogicTile.{logicTile, carryInSet, carryChain}
-use Rattle.routing.specs.Table.{maxGroups, fieldAt, passiveAt, groupCount, entryCount}
+use Rattle.ports.specs.Lengths.{maxGroups, settingsLength}
+use Rattle.routing.specs.Table.{fieldAt, passiveAt, groupCount, entryCount}
 use Rattle.routing.specs.Rules.{TableRules}
 use Rattle.codec.specs.Bits.{bitAt, tileOf}
-use Rattle.codec.specs.Settings.{fieldSetting, groupsFrom, cellsFrom, settingsLength}
+use Rattle.codec.specs.Settings.{fieldSetting, groupsFrom, cellsFrom}
 use Rattle.codec.specs.Groups.{groupPattern, settingOfPattern}
 use Rattle.codec.specs.Decode.{settingNumber, decode}
 use Rattle.codec.specs.Encode.{slotValue, encode}
@@ -74,7 +75,7 @@ module _ (table bits : List ℕ) (T : TableRules logicTile table) where
       i (omega (arith, A .long)))
 
   -- each setting that is read is within its limit
-  decode-limit : (n : ℕ) → n < settingsLength logicTile → getD (decode table (bitAt bits)) n 0 ≤ limitAt table n
+  decode-limit : (n : ℕ) → n < settingsLength → getD (decode table (bitAt bits)) n 0 ≤ limitAt table n
   decode-limit =
       setting-kinds table (λ (n : ℕ). getD (decode table (bitAt bits)) n 0 ≤ limitAt table n)
       (λ f l. omega (arith, decode-field table bits f l, limit-field table f l, bit-lt bits (fieldAt table f)))
@@ -102,7 +103,7 @@ module _ (table bits : List ℕ) (T : TableRules logicTile table) where
   unfolding settingsFit bothCarries
   decode-fits D =
       and-true (⊎-elim (λ e. absurd (D (fieldAt table carryInSet) (carry-pair (pair e)))) (λ e. ap not e) (cases (bothCarries (decode table (bitAt bits)))))
-      (all-of (withinLimit table (decode table (bitAt bits))) 0 (settingsLength logicTile)
+      (all-of (withinLimit table (decode table (bitAt bits))) 0 settingsLength
       (λ n a b. le-leb (getD (decode table (bitAt bits)) n 0) (limitAt table n) (decode-limit n (omega arith))))
     where
       on : (f : ℕ) → f < 3 → eqb (fieldSetting (decode table (bitAt bits)) f) 1 ≡ true → bitAt bits (fieldAt table f) ≡ 1
@@ -115,7 +116,7 @@ module _ (table bits : List ℕ) (T : TableRules logicTile table) where
       )
 
 -- settings fit exactly if some bits read to them
-module _ (table settings : List ℕ) (T : TableRules logicTile table) (long : length settings ≡ settingsLength logicTile) where
+module _ (table settings : List ℕ) (T : TableRules logicTile table) (long : length settings ≡ settingsLength) where
   pub fit-has-bits : settingsFit table settings ≡ true → HasBits table settings
   fit-has-bits fit = record {
     bits = encode table settings;

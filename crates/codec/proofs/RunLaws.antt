@@ -15,7 +15,8 @@ use Rattle.digits.specs.Digits.{digit, fromDigits}
 use Rattle.digits.proofs.DigitLaws.{from-digits-ext, from-digits-all, digit-from-digits}
 use Rattle.routing.specs.Slots.{Slots, claims, Once}
 use Rattle.routing.proofs.OwnerLaws.{claims-it}
-use Rattle.codec.specs.Bits.{tileBytes, bitAt, setBits}
+use Rattle.ports.specs.Lengths.{tileNumbers}
+use Rattle.codec.specs.Bits.{bitAt, setBits}
 use Rattle.codec.specs.Encode.{bitsOf}
 use Rattle.codec.specs.Writing.{Written}
 use Rattle.codec.proofs.BitLaws.{bit-lt, bit-of-zeros, position-within}
@@ -108,7 +109,7 @@ module _ (S : Slots) (value : ℕ → ℕ) (m w n : ℕ) (at : ℕ → ℕ) (v :
 
 module _ (S : Slots) (value : ℕ → ℕ) where
   -- nothing is written yet
-  pub none-written : (bits : List ℕ) (n : ℕ) → n ≡ tileBytes → bits ≡ zeros n → Written S value 0 bits
+  pub none-written : (bits : List ℕ) (n : ℕ) → n ≡ tileNumbers → bits ≡ zeros n → Written S value 0 bits
   none-written bits n l e = record {
     long = ap length e ∙ zeros-length n ∙ l;
     bytes = λ i. omega (arith, zero-at i);

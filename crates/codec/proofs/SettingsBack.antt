@@ -11,7 +11,8 @@ use Rattle.lists.proofs.CaseLaws.{clash, and-true}
 use Rattle.digits.specs.Digits.{fromDigits}
 use Rattle.routing.specs.TileKind.{bitsPerCell}
 use Rattle.routing.specs.LogicTile.{logicTile, cellPosition, carryInSet, carryChain}
-use Rattle.routing.specs.Table.{maxPassives, maxGroups, maxPositions, fieldAt, passiveCount, passiveAt, groupCount, widthOf, positionAt}
+use Rattle.ports.specs.Lengths.{maxPassives, maxGroups, maxPositions}
+use Rattle.routing.specs.Table.{fieldAt, passiveCount, passiveAt, groupCount, widthOf, positionAt}
 use Rattle.routing.specs.Slots.{slotsOf, fieldSlots, passiveSlots, groupSlot}
 use Rattle.routing.proofs.LogicTileLaws.{logic-tile-once}
 use Rattle.routing.proofs.TableOnceLaws.{table-once}

@@ -10,7 +10,8 @@ use lib.Dec.{ltb}
 use Rattle.digits.specs.Digits.{digit}
 use Rattle.routing.specs.TileKind.{bitsPerCell}
 use Rattle.routing.specs.LogicTile.{logicTile, cellPosition}
-use Rattle.routing.specs.Table.{maxPassives, maxPositions, fieldAt, passiveCount, passiveAt, groupCount, widthOf, positionAt}
+use Rattle.ports.specs.Lengths.{maxPassives, maxPositions}
+use Rattle.routing.specs.Table.{fieldAt, passiveCount, passiveAt, groupCount, widthOf, positionAt}
 use Rattle.routing.specs.Rules.{TableRules}
 use Rattle.routing.specs.Slots.{slotsOf, slotAt, slotUsed, fieldSlots, passiveSlots, groupSlots, groupSlot, slotCount}
 use Rattle.routing.proofs.SlotLaws.{slot-at-cell, slot-used-cell, slot-at-field, slot-used-field, slot-at-passive, slot-used-passive, slot-at-group, slot-used-group}

@@ -7,13 +7,11 @@ use lib.Dec.{eqb}
 use lib.ListN.{getD, set}
 use Rattle.lists.specs.Search.{all, count}
 use Rattle.digits.specs.Digits.{digit, setDigit, fromDigits}
+use Rattle.ports.specs.Lengths.{tileNumbers}
 
--- how many positions stand in one lent number, and how many numbers a tile is: "A tile is 108 bytes"
+-- how many positions stand in one lent number; `tileNumbers` of them are a tile
 abbrev pub unit : ℕ
 unit = 8
-
-abbrev pub tileBytes : ℕ
-tileBytes = 108
 
 -- "position p is in byte p/8 with weight 2^(p mod 8)", over the number of positions in a lent number
 unfoldable pub bitIn : ℕ → List ℕ → ℕ → ℕ
@@ -57,7 +55,7 @@ abbrev pub isZeroAt : List ℕ → ℕ → Bool
 isZeroAt bits i = eqb (getD bits i 0) 0
 
 abbrev pub isEmpty : List ℕ → Bool
-isEmpty bits = all (isZeroAt bits) 0 tileBytes
+isEmpty bits = all (isZeroAt bits) 0 tileNumbers
 
 -- "how many of its 864 bits are set"
 abbrev pub bitCount : (ℕ → ℕ) → ℕ

@@ -7,9 +7,9 @@ use Rattle.lists.specs.Tables.{tabulate}
 use Rattle.digits.specs.Digits.{digit, fromDigits}
 use Rattle.routing.specs.TileKind.{bitsPerCell}
 use Rattle.routing.specs.LogicTile.{logicTile}
-use Rattle.routing.specs.Table.{maxPositions}
+use Rattle.ports.specs.Lengths.{maxPositions, tileNumbers}
 use Rattle.routing.specs.Slots.{Slots, owner, slotsOf, fieldSlots, passiveSlots, groupSlots}
-use Rattle.codec.specs.Bits.{unit, tileBytes}
+use Rattle.codec.specs.Bits.{unit}
 use Rattle.codec.specs.Settings.{fieldSetting, passiveSetting, groupSetting, cellTable, cellFlags}
 use Rattle.codec.specs.Groups.{patternOf}
 use Rattle.codec.specs.Cells.{cellValue}
@@ -33,7 +33,7 @@ abbrev pub ownedByte : Slots → (ℕ → ℕ) → ℕ → ℕ
 ownedByte S value i = fromDigits (λ (j : ℕ). ownedBit S value (unit * i + j)) unit
 
 unfoldable pub bitsOf : Slots → (ℕ → ℕ) → List ℕ
-bitsOf S value = tabulate (ownedByte S value) 0 tileBytes
+bitsOf S value = tabulate (ownedByte S value) 0 tileNumbers
 
 abbrev pub encode : List ℕ → List ℕ → List ℕ
 encode table settings = bitsOf (slotsOf logicTile table) (slotValue table settings)

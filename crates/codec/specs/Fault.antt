@@ -5,7 +5,8 @@ use mathlib.Core.List.{List}
 use lib.Dec.{eqb, ltb}
 use Rattle.lists.specs.Search.{first}
 use Rattle.routing.specs.LogicTile.{logicTile, carryInSet, carryChain}
-use Rattle.routing.specs.Table.{maxPositions, fieldAt}
+use Rattle.ports.specs.Lengths.{maxPositions}
+use Rattle.routing.specs.Table.{fieldAt}
 use Rattle.routing.specs.Slots.{slotsOf, owner, fieldSlots, groupSlots, slotCount}
 use Rattle.codec.specs.Bits.{TileBits, isSetAt}
 use Rattle.codec.specs.Groups.{readGroup}

@@ -8,7 +8,8 @@ use Rattle.lists.specs.Search.{all}
 use Rattle.lists.specs.Tables.{tabulate}
 use Rattle.routing.specs.LogicTile.{logicTile, carryInSet, carryChain}
 use Rattle.routing.specs.Table.{passiveCount, groupCount, entryCount}
-use Rattle.codec.specs.Settings.{fieldSetting, groupsFrom, cellsFrom, settingsLength}
+use Rattle.codec.specs.Settings.{fieldSetting, groupsFrom, cellsFrom}
+use Rattle.ports.specs.Lengths.{settingsLength}
 
 -- the largest value of setting n: a field or a listed passive bit is a bit, a group has its entries, a lookup table has 16 bits and a cell
 -- 4 flags; what is past the table's counts is 0
@@ -21,7 +22,7 @@ limitAt table n =
 
 -- the largest values of all settings
 abbrev pub limitsOf : List ℕ → List ℕ
-limitsOf table = tabulate (limitAt table) 0 (settingsLength logicTile)
+limitsOf table = tabulate (limitAt table) 0 settingsLength
 
 -- setting n against a list of largest values
 abbrev pub withinAt : List ℕ → List ℕ → ℕ → Bool
@@ -34,4 +35,4 @@ abbrev pub withinLimit : List ℕ → List ℕ → ℕ → Bool
 withinLimit table settings n = leb (getD settings n 0) (limitAt table n)
 
 unfoldable pub settingsFit : List ℕ → List ℕ → Bool
-settingsFit table settings = not (bothCarries settings) && all (withinLimit table settings) 0 (settingsLength logicTile)
+settingsFit table settings = not (bothCarries settings) && all (withinLimit table settings) 0 settingsLength

@@ -6,10 +6,11 @@ use mathlib.Core.List.{List}
 use lib.ListN.{length, getD}
 use Rattle.digits.specs.Digits.{digit}
 use Rattle.routing.specs.LogicTile.{logicTile, lcBits, lcPosition, carryInSet, carryChain}
-use Rattle.routing.specs.Table.{maxPassives, maxGroups, fieldAt, passiveCount, passiveAt, groupCount, positionAt, entryCount, patternAt}
+use Rattle.ports.specs.Lengths.{maxPassives, maxGroups, tileNumbers, settingsLength}
+use Rattle.routing.specs.Table.{fieldAt, passiveCount, passiveAt, groupCount, positionAt, entryCount, patternAt}
 use Rattle.routing.specs.Rules.{Claimed}
-use Rattle.codec.specs.Bits.{TileBits, bitAt, tileOf, Bytes, tileBytes}
-use Rattle.codec.specs.Settings.{fieldSetting, passiveSetting, groupSetting, cellTable, cellFlags, settingsLength}
+use Rattle.codec.specs.Bits.{TileBits, bitAt, tileOf, Bytes}
+use Rattle.codec.specs.Settings.{fieldSetting, passiveSetting, groupSetting, cellTable, cellFlags}
 use Rattle.codec.specs.Groups.{groupPattern}
 
 -- "a set bit that nothing claims", by logic cell bits, fields, passive list or groups
@@ -31,7 +32,7 @@ module _ (table : List ℕ) (bit : ℕ → ℕ) where
 
   -- the settings that the bits read to
   pub record ReadsTo (settings : List ℕ) : Type 0 where
-    pub long : length settings ≡ settingsLength logicTile
+    pub long : length settings ≡ settingsLength
     pub field : (f : ℕ) → f < 3 → fieldSetting settings f ≡ bit (fieldAt table f)
     pub passive : (j : ℕ) → j < passiveCount logicTile table → passiveSetting logicTile settings j ≡ bit (passiveAt logicTile table j)
     pub group-off : (g : ℕ) → g < groupCount logicTile table → Off g → groupSetting logicTile settings g ≡ 0
@@ -59,7 +60,7 @@ module _ (table : List ℕ) (tile : TileBits) where
 -- some bits read to these settings: the opposite of "settings that no bits have"
 pub record HasBits (table settings : List ℕ) : Type 0 where
   pub bits : List ℕ
-  pub long : length bits ≡ tileBytes
+  pub long : length bits ≡ tileNumbers
   pub bytes : Bytes bits
   pub decodable : Decodable table (tileOf bits)
   pub reads : ReadsTo table (bitAt bits) settings

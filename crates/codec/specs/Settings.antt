@@ -5,7 +5,7 @@ use Prim.Native.Nat.{ℕ, _+_, _*_}
 use mathlib.Core.List.{List}
 use lib.ListN.{getD}
 use Rattle.routing.specs.TileKind.{TileKind}
-use Rattle.routing.specs.Table.{maxPassives, maxGroups}
+use Rattle.ports.specs.Lengths.{maxPassives, maxGroups}
 
 abbrev pub fieldSetting : List ℕ → ℕ → ℕ
 fieldSetting settings f = getD settings f 0
@@ -29,6 +29,3 @@ module _ (K : TileKind) where
 
   abbrev pub cellFlags : List ℕ → ℕ → ℕ
   cellFlags settings i = getD settings (cellsFrom + 2 * i + 1) 0
-
-  abbrev pub settingsLength : ℕ
-  settingsLength = cellsFrom + 2 * K .cells

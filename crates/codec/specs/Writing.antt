@@ -8,14 +8,14 @@ use lib.ListN.{length}
 use Rattle.routing.specs.LogicTile.{logicTile}
 use Rattle.routing.specs.Rules.{TableRules}
 use Rattle.routing.specs.Slots.{Slots, slotsOf}
-use Rattle.codec.specs.Bits.{tileBytes, bitAt, Bytes}
-use Rattle.codec.specs.Settings.{settingsLength}
+use Rattle.ports.specs.Lengths.{tileNumbers, settingsLength}
+use Rattle.codec.specs.Bits.{bitAt, Bytes}
 use Rattle.codec.specs.Encode.{slotValue}
 use Rattle.codec.specs.Limits.{settingsFit}
 
 -- the first m slots hold their values, and every position that they do not claim is 0
 pub record Written (S : Slots) (value : ℕ → ℕ) (m : ℕ) (bits : List ℕ) : Type 0 where
-  pub long : length bits ≡ tileBytes
+  pub long : length bits ≡ tileNumbers
   pub bytes : Bytes bits
   pub held : (s : ℕ) → s < m → S .used s ≡ true → bitAt bits (S .at s) ≡ value s
   pub clear : (p : ℕ) → p < 864 → ((s : ℕ) → s < m → S .used s ≡ true → S .at s ≢ p) → bitAt bits p ≡ 0
@@ -26,5 +26,5 @@ TileWritten table settings m bits = Written (slotsOf logicTile table) (slotValue
 -- a table that breaks no rule, and settings that some bits have under it
 pub record Writable (table settings : List ℕ) : Type 0 where
   pub rules : TableRules logicTile table
-  pub long : length settings ≡ settingsLength logicTile
+  pub long : length settings ≡ settingsLength
   pub fit : settingsFit table settings ≡ true

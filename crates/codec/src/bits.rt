@@ -2,9 +2,9 @@
 ghost use mathlib.Core.Path.{_≡_};
 ghost use Prim.Native.Nat.{_+_, _/_, _%_, _<_, _≤_};
 ghost use lib.ListN.{length};
-ghost use Rattle.codec.specs.Bits.{unit, tileBytes, bitAt, setBit, tenFrom, isEmpty, bitCount};
-
-pub const TILE_BYTES: usize = 108;
+ghost use Rattle.codec.specs.Bits.{unit, bitAt, setBit, tenFrom, isEmpty, bitCount};
+ghost use Rattle.ports.specs.Lengths.{tileNumbers};
+use ports::lengths::TILE_NUMBERS;
 
 // How many positions a lent number has.
 pub const UNIT: usize = 8;
@@ -55,11 +55,11 @@ pub fn write_clear_bit(bits: &mut [u8], p: usize, value: u8)
 
 // Whether no bit of a tile is set.
 pub fn is_empty(bits: &[u8]) -> bool
-    requires { ⌜ length (now bits) ≡ tileBytes ⌝ }
+    requires { ⌜ length (now bits) ≡ tileNumbers ⌝ }
     ensures { λ r. ⌜ r ≡ isEmpty (now (bits .entry)) ⌝ }
 {
     let mut i = 0;
-    while i < TILE_BYTES {
+    while i < TILE_NUMBERS {
         if bits[i] != 0 {
             return false;
         }
@@ -71,12 +71,12 @@ pub fn is_empty(bits: &[u8]) -> bool
 // How many of a tile's 864 bits are set.
 // Rules out: counting bytes that are not zero; leaving the last byte.
 pub fn count_bits(bits: &[u8]) -> u32
-    requires { ⌜ length (now bits) ≡ tileBytes ⌝ }
+    requires { ⌜ length (now bits) ≡ tileNumbers ⌝ }
     ensures { λ r. ⌜ r ≡ bitCount (bitAt (now (bits .entry))) ⌝ }
 {
     let mut n: u32 = 0;
     let mut i = 0;
-    while i < TILE_BYTES {
+    while i < TILE_NUMBERS {
         n += u8::count_ones(bits[i]);
         i += 1;
     }

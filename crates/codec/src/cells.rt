@@ -5,8 +5,8 @@ ghost use lib.ListN.{length};
 ghost use Rattle.lists.specs.Tables.{zeros};
 ghost use Rattle.routing.specs.TileKind.{bitsPerCell};
 ghost use Rattle.routing.specs.LogicTile.{logicTile, cellPosition};
-ghost use Rattle.codec.specs.Bits.{tileBytes, setBits, bitAt};
-ghost use Rattle.codec.specs.Settings.{settingsLength};
+ghost use Rattle.ports.specs.Lengths.{tileNumbers, settingsLength};
+ghost use Rattle.codec.specs.Bits.{setBits, bitAt};
 ghost use Rattle.codec.specs.Cells.{cellBitIn, valueIn, cellsIn, cellSettings, writeCells, putCells, sameCell, firstDifference};
 use crate::bits::PAST_TEN;
 use crate::bits::read_ten;
@@ -27,7 +27,7 @@ const SECOND_TEN: usize = 90;
 
 // A cell's 20 bits as one number: its table, and its flags with weight 65,536. An empty cell takes no time.
 pub fn read_value(bits: &[u8], i: usize) -> u32
-    requires { ⌜ (length (now bits) ≡ tileBytes) × (i < 8) ⌝ }
+    requires { ⌜ (length (now bits) ≡ tileNumbers) × (i < 8) ⌝ }
     ensures { λ r. ⌜ r ≡ valueIn (bitAt (now (bits .entry))) i ⌝ }
 {
     let p = CELL_POSITIONS * i;
@@ -49,7 +49,7 @@ pub fn read_value(bits: &[u8], i: usize) -> u32
 
 // The cells that a tile's bits hold.
 pub fn decode_cells(bits: &[u8]) -> [Cell; 8]
-    requires { ⌜ length (now bits) ≡ tileBytes ⌝ }
+    requires { ⌜ length (now bits) ≡ tileNumbers ⌝ }
     ensures { λ r. ⌜ r ≡ cellsIn (bitAt (now (bits .entry))) ⌝ }
 {
     let mut cells = [Cell {
@@ -70,7 +70,7 @@ pub fn decode_cells(bits: &[u8]) -> [Cell; 8]
 
 // The cells that a tile's settings hold.
 pub fn cells_of(settings: &[u16]) -> [Cell; 8]
-    requires { ⌜ length (now settings) ≡ settingsLength logicTile ⌝ }
+    requires { ⌜ length (now settings) ≡ settingsLength ⌝ }
     ensures { λ r. ⌜ r ≡ cellSettings (now (settings .entry)) ⌝ }
 {
     let mut cells = [Cell {
@@ -92,7 +92,7 @@ pub fn cells_of(settings: &[u16]) -> [Cell; 8]
 
 // A cell's 20 bits written where all of them are clear, so that an empty cell takes no time.
 pub fn write_value(bits: &mut [u8], i: usize, value: u32)
-    requires { ⌜ (length (now bits) ≡ tileBytes) × (i < 8) × ((j : ℕ) → j < bitsPerCell → cellBitIn (bitAt (now bits)) i j ≡ 0) ⌝ }
+    requires { ⌜ (length (now bits) ≡ tileNumbers) × (i < 8) × ((j : ℕ) → j < bitsPerCell → cellBitIn (bitAt (now bits)) i j ≡ 0) ⌝ }
     ensures { λ r. ⌜ now (bits .exit) ≡ setBits (now (bits .entry)) (cellPosition i) value bitsPerCell ⌝ }
 {
     if value == 0 {
@@ -108,7 +108,7 @@ pub fn write_value(bits: &mut [u8], i: usize, value: u32)
 
 // Eight cells written to a tile's bits, which are clear.
 pub fn write_cells(bits: &mut [u8], cells: [Cell; 8])
-    requires { ⌜ now bits ≡ zeros tileBytes ⌝ }
+    requires { ⌜ now bits ≡ zeros tileNumbers ⌝ }
     ensures { λ r. ⌜ now (bits .exit) ≡ writeCells (now (bits .entry)) cells 8 ⌝ }
 {
     let mut i = 0;
@@ -122,7 +122,7 @@ pub fn write_cells(bits: &mut [u8], cells: [Cell; 8])
 
 // Eight cells put into a tile's settings.
 pub fn put_cells(settings: &mut [u16], cells: [Cell; 8])
-    requires { ⌜ length (now settings) ≡ settingsLength logicTile ⌝ }
+    requires { ⌜ length (now settings) ≡ settingsLength ⌝ }
     ensures { λ r. ⌜ now (settings .exit) ≡ putCells (now (settings .entry)) cells 8 ⌝ }
 {
     let mut i = 0;

@@ -6,7 +6,8 @@ ghost use Rattle.routing.specs.LogicTile.{logicTile};
 ghost use Rattle.routing.specs.Table.{groupCount};
 ghost use Rattle.routing.specs.Rules.{TableRules};
 ghost use Rattle.routing.specs.Slots.{Owned, slotsOf, slotCount};
-ghost use Rattle.codec.specs.Bits.{tileBytes, bitAt, tileOf};
+ghost use Rattle.ports.specs.Lengths.{tileNumbers};
+ghost use Rattle.codec.specs.Bits.{bitAt, tileOf};
 ghost use Rattle.codec.specs.Groups.{readGroup};
 ghost use Rattle.codec.specs.Fault.{isUnlisted, carryPair, faultAt};
 use crate::bits::read_bit;
@@ -22,7 +23,7 @@ const MAX_POSITIONS: usize = 8;
 
 // Whether a group's pattern is neither zero nor listed.
 pub fn is_unlisted(table: &[u16], g: usize, bits: &[u8]) -> bool
-    requires { ⌜ (TableRules logicTile (now table)) × (g < groupCount logicTile (now table)) × (length (now bits) ≡ tileBytes) ⌝ }
+    requires { ⌜ (TableRules logicTile (now table)) × (g < groupCount logicTile (now table)) × (length (now bits) ≡ tileNumbers) ⌝ }
     ensures { λ r. ⌜ r ≡ isUnlisted (readGroup logicTile (now (table .entry)) (bitAt (now (bits .entry))) g) ⌝ }
 {
     let r = read_group(table, g, bits);
@@ -34,7 +35,7 @@ pub fn is_unlisted(table: &[u16], g: usize, bits: &[u8]) -> bool
 
 // CarryInSet together with the chain switch.
 pub fn is_carry_pair(table: &[u16], bits: &[u8]) -> bool
-    requires { ⌜ (TableRules logicTile (now table)) × (length (now bits) ≡ tileBytes) ⌝ }
+    requires { ⌜ (TableRules logicTile (now table)) × (length (now bits) ≡ tileNumbers) ⌝ }
     ensures { λ r. ⌜ r ≡ carryPair (now (table .entry)) (bitAt (now (bits .entry))) ⌝ }
 {
     let set = routing::table::field(table, 1);
@@ -48,7 +49,7 @@ pub fn is_carry_pair(table: &[u16], bits: &[u8]) -> bool
 // Whether position p is at fault; `own` says which slot claims it.
 // Rules out: a set bit that nothing claims let through; a fault reported at a group's second position.
 pub fn is_fault_at(table: &[u16], own: &[u16], bits: &[u8], p: usize) -> bool
-    requires { ⌜ (TableRules logicTile (now table)) × (Owned 864 (slotsOf logicTile (now table)) (slotCount logicTile) (now own)) × (length (now bits) ≡ tileBytes) × (p < 864) ⌝ }
+    requires { ⌜ (TableRules logicTile (now table)) × (Owned 864 (slotsOf logicTile (now table)) (slotCount logicTile) (now own)) × (length (now bits) ≡ tileNumbers) × (p < 864) ⌝ }
     ensures { λ r. ⌜ r ≡ faultAt (now (table .entry)) (tileOf (now (bits .entry))) p ⌝ }
 {
     let code = own[p] as usize;

@@ -6,8 +6,9 @@ ghost use lib.ListN.{length};
 ghost use Rattle.routing.specs.LogicTile.{logicTile};
 ghost use Rattle.routing.specs.Table.{groupCount};
 ghost use Rattle.routing.specs.Rules.{TableRules};
-ghost use Rattle.codec.specs.Bits.{tileBytes, bitAt};
-ghost use Rattle.codec.specs.Settings.{groupsFrom, settingsLength};
+ghost use Rattle.ports.specs.Lengths.{tileNumbers, settingsLength};
+ghost use Rattle.codec.specs.Bits.{bitAt};
+ghost use Rattle.codec.specs.Settings.{groupsFrom};
 ghost use Rattle.codec.specs.Groups.{readGroup};
 ghost use Rattle.codec.specs.Decode.{settingNumber, settingAt};
 ghost use Rattle.codec.specs.Limits.{limitAt, limitsOf, bothCarries};
@@ -15,8 +16,7 @@ use crate::bits::read_bit;
 use crate::cells::CELLS_FROM;
 use crate::groups::GroupRead;
 use crate::groups::read_group;
-
-pub const SETTINGS_LENGTH: usize = 595;
+use ports::lengths::SETTINGS_LENGTH;
 
 pub const PASSIVES_FROM: usize = 3;
 
@@ -24,7 +24,7 @@ pub const GROUPS_FROM: usize = 67;
 
 // A group's setting.
 pub fn group_setting(table: &[u16], g: usize, bits: &[u8]) -> u16
-    requires { ⌜ (TableRules logicTile (now table)) × (g < groupCount logicTile (now table)) × (length (now bits) ≡ tileBytes) ⌝ }
+    requires { ⌜ (TableRules logicTile (now table)) × (g < groupCount logicTile (now table)) × (length (now bits) ≡ tileNumbers) ⌝ }
     ensures { λ r. ⌜ r ≡ settingNumber (readGroup logicTile (now (table .entry)) (bitAt (now (bits .entry))) g) ⌝ }
 {
     let r = read_group(table, g, bits);
@@ -36,7 +36,7 @@ pub fn group_setting(table: &[u16], g: usize, bits: &[u8]) -> u16
 
 // Setting n of what the bits read to, below the groups: a field or a passive bit.
 pub fn setting_at(table: &[u16], bits: &[u8], n: usize) -> u16
-    requires { ⌜ (TableRules logicTile (now table)) × (length (now bits) ≡ tileBytes) × (n < groupsFrom logicTile) ⌝ }
+    requires { ⌜ (TableRules logicTile (now table)) × (length (now bits) ≡ tileNumbers) × (n < groupsFrom logicTile) ⌝ }
     ensures { λ r. ⌜ r ≡ settingAt (now (table .entry)) (bitAt (now (bits .entry))) n ⌝ }
 {
     if n < PASSIVES_FROM {
@@ -53,7 +53,7 @@ pub fn setting_at(table: &[u16], bits: &[u8], n: usize) -> u16
 
 // The largest value of setting n.
 pub fn limit_at(table: &[u16], n: usize) -> u16
-    requires { ⌜ (TableRules logicTile (now table)) × (n < settingsLength logicTile) ⌝ }
+    requires { ⌜ (TableRules logicTile (now table)) × (n < settingsLength) ⌝ }
     ensures { λ r. ⌜ r ≡ limitAt (now (table .entry)) n ⌝ }
 {
     if n < PASSIVES_FROM {
@@ -94,7 +94,7 @@ pub fn limits(table: &[u16]) -> [u16; SETTINGS_LENGTH]
 
 // Whether settings have CarryInSet together with the chain switch.
 pub fn has_both_carries(settings: &[u16]) -> bool
-    requires { ⌜ length (now settings) ≡ settingsLength logicTile ⌝ }
+    requires { ⌜ length (now settings) ≡ settingsLength ⌝ }
     ensures { λ r. ⌜ r ≡ bothCarries (now (settings .entry)) ⌝ }
 {
     if settings[1] == 1 {

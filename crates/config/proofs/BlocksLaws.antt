@@ -14,8 +14,8 @@ use Rattle.lists.proofs.PartLaws.{part-length, joined-length, part-joined}
 use Rattle.routing.specs.LogicTile.{logicTile}
 use Rattle.routing.specs.Rules.{TableRules}
 use Rattle.routing.specs.Slots.{slotsOf}
-use Rattle.codec.specs.Bits.{tileBytes, bitAt, tileOf}
-use Rattle.codec.specs.Settings.{settingsLength}
+use Rattle.ports.specs.Lengths.{tileNumbers, settingsLength}
+use Rattle.codec.specs.Bits.{bitAt, tileOf}
 use Rattle.codec.specs.Reading.{Decodable, ReadsTo, HasBits}
 use Rattle.codec.specs.Decode.{decode}
 use Rattle.codec.specs.Encode.{encode, slotValue}
@@ -32,30 +32,30 @@ use Rattle.config.specs.Blocks.{bitsAt, settingsAt, roomLength, undecoda
 use Rattle.config.specs.Facts.{LowestUndecodable, LowestBitless, TilesRead}
 
 -- the bits, and the settings, of a tile have a tile's length
-pub bits-at-length : (bits : List ℕ) (n t : ℕ) → length bits ≡ tileBytes * n → t < n → length (bitsAt bits t) ≡ tileBytes
-bits-at-length bits n t e h = part-length tileBytes t n bits e (omega arith)
+pub bits-at-length : (bits : List ℕ) (n t : ℕ) → length bits ≡ tileNumbers * n → t < n → length (bitsAt bits t) ≡ tileNumbers
+bits-at-length bits n t e h = part-length tileNumbers t n bits e (omega arith)
 
-pub settings-at-length : (settings : List ℕ) (n t : ℕ) → length settings ≡ settingsLength logicTile * n → t < n
-    → length (settingsAt settings t) ≡ settingsLength logicTile
-settings-at-length settings n t e h = part-length (settingsLength logicTile) t n settings e (omega arith)
+pub settings-at-length : (settings : List ℕ) (n t : ℕ) → length settings ≡ settingsLength * n → t < n
+    → length (settingsAt settings t) ≡ settingsLength
+settings-at-length settings n t e h = part-length settingsLength t n settings e (omega arith)
 
 -- the front of the room that reading decodes into, as long as the settings of n tiles
-pub front-length : (n k : ℕ) (room : List ℕ) → n ≤ 64 → k ≡ settingsLength logicTile * n → length room ≡ roomLength → length (take k room) ≡ k
+pub front-length : (n k : ℕ) (room : List ℕ) → n ≤ 64 → k ≡ settingsLength * n → length room ≡ roomLength → length (take k room) ≡ k
 front-length n k room few e long = length-take-le k room (omega arith)
 
 -- ---- bits to settings
 
 module _ (table bits : List ℕ) (n : ℕ) where
-  decoded-tile : (t : ℕ) → t < n → length (decodedAt table (tilesOf bits) t) ≡ settingsLength logicTile
+  decoded-tile : (t : ℕ) → t < n → length (decodedAt table (tilesOf bits) t) ≡ settingsLength
   unfolding decodedAt
   decoded-tile t h = decode-length table (bitsAt bits t)
 
-  pub decoded-length : length (decoded table (tilesOf bits) n) ≡ settingsLength logicTile * n
-  decoded-length = joined-length (settingsLength logicTile) (decodedAt table (tilesOf bits)) n decoded-tile
+  pub decoded-length : length (decoded table (tilesOf bits) n) ≡ settingsLength * n
+  decoded-length = joined-length settingsLength (decodedAt table (tilesOf bits)) n decoded-tile
 
   pub decoded-at : (t : ℕ) → t < n → settingsAt (decoded table (tilesOf bits) n) t ≡ decode table (bitAt (bitsAt bits t))
   unfolding decodedAt
-  decoded-at t h = part-joined (settingsLength logicTile) (decodedAt table (tilesOf bits)) n t h decoded-tile
+  decoded-at t h = part-joined settingsLength (decodedAt table (tilesOf bits)) n t h decoded-tile
 
   module _ (T : TableRules logicTile table) where
     -- a tile that is not undecodable can be decoded, and the other way
@@ -90,18 +90,18 @@ module _ (table bits : List ℕ) (n : ℕ) where
 -- ---- settings to bits
 
 module _ (table settings : List ℕ) (n : ℕ) where
-  encoded-tile : (t : ℕ) → t < n → length (encodedAt table settings t) ≡ tileBytes
+  encoded-tile : (t : ℕ) → t < n → length (encodedAt table settings t) ≡ tileNumbers
   unfolding encodedAt
   encoded-tile t h = encode-length (slotsOf logicTile table) (slotValue table (settingsAt settings t)) (slot-value-lt table (settingsAt settings t))
 
-  pub encoded-length : length (encoded table settings n) ≡ tileBytes * n
-  encoded-length = joined-length tileBytes (encodedAt table settings) n encoded-tile
+  pub encoded-length : length (encoded table settings n) ≡ tileNumbers * n
+  encoded-length = joined-length tileNumbers (encodedAt table settings) n encoded-tile
 
   pub encoded-at : (t : ℕ) → t < n → bitsAt (encoded table settings n) t ≡ encode table (settingsAt settings t)
   unfolding encodedAt
-  encoded-at t h = part-joined tileBytes (encodedAt table settings) n t h encoded-tile
+  encoded-at t h = part-joined tileNumbers (encodedAt table settings) n t h encoded-tile
 
-  module _ (T : TableRules logicTile table) (long : length settings ≡ settingsLength logicTile * n) where
+  module _ (T : TableRules logicTile table) (long : length settings ≡ settingsLength * n) where
     pub fit-bits : (t : ℕ) → t < n → settingsFit table (settingsAt settings t) ≡ true → HasBits table (settingsAt settings t)
     fit-bits t h e = settings-fit-exact table (settingsAt settings t) T (settings-at-length settings n t long h) .0 e
 

@@ -8,118 +8,117 @@ use Prim.Native.Nat.{ℕ, _*_, _<_, _≤_}
 use borrow.Author.Tests.{eq-eqb, ne-eqb, le-leb, lt-leb, eqb-true}
 use lib.ListN.{length}
 use Rattle.lists.proofs.CaseLaws.{equal-and, and-equal}
-use Rattle.refusal.specs.declared.Refusal.the-variants.{Size, Length, Table, Undecodable, NoSuchSettings}
+use Rattle.refusal.specs.declared.Refusal.the-variants.{WrongSize, WrongLength, Table, Undecodable, NoSuchSettings}
 use Rattle.refusal.specs.declared.Answer.the-variants.{Done, Refused}
-use Rattle.fabric.specs.Block.{Sized, block, tiles, sized}
-use Rattle.fabric.proofs.BlockLaws.{sized-true}
+use Rattle.ports.specs.declared.size.Size.{Size}
+use Rattle.ports.specs.Block.{Allowed, tileCount, allowed}
+use Rattle.ports.proofs.BlockLaws.{allowed-true}
 use Rattle.routing.specs.LogicTile.{logicTile}
-use Rattle.routing.specs.Table.{tableLength}
+use Rattle.ports.specs.Lengths.{tableLength, bitsLength, settingsTotal}
 use Rattle.routing.specs.TableCheck.{faultyPart, partCount, tableOk}
 use Rattle.routing.proofs.TableCheckLaws.{table-exact}
-use Rattle.codec.specs.Bits.{tileBytes}
-use Rattle.codec.specs.Settings.{settingsLength}
 use Rattle.config.specs.Blocks.{undecodableTile, bitlessTile, tilesOf}
 use Rattle.config.specs.Entry.{lengthsOk, readAnswer, writeAnswer}
 use Rattle.config.specs.Facts.{ExactLengths, Checked}
 
 -- the test of the lengths and the facts
-module _ (n table bits settings : ℕ) where
-  pub lengths-true : ExactLengths n table bits settings → lengthsOk n table bits settings ≡ true
+module _ (S : Size) (table bits settings : ℕ) where
+  pub lengths-true : ExactLengths S table bits settings → lengthsOk S table bits settings ≡ true
   lengths-true l =
-      and-equal table (tableLength logicTile) (l .table-long)
-      (and-equal bits (tileBytes * n) (l .bits-long) (eq-eqb settings (settingsLength logicTile * n) (l .settings-long)))
+      and-equal table tableLength (l .table-long)
+      (and-equal bits (bitsLength S) (l .bits-long) (eq-eqb settings (settingsTotal S) (l .settings-long)))
 
-  pub lengths-exact : (lengthsOk n table bits settings ≡ true) ↔ ExactLengths n table bits settings
+  pub lengths-exact : (lengthsOk S table bits settings ≡ true) ↔ ExactLengths S table bits settings
   lengths-exact = (facts, lengths-true)
     where
-      facts : lengthsOk n table bits settings ≡ true → ExactLengths n table bits settings
+      facts : lengthsOk S table bits settings ≡ true → ExactLengths S table bits settings
       facts e =
-          let a = equal-and table (tableLength logicTile) _ e in
-          let b = equal-and bits (tileBytes * n) _ (a .1) in
-          record { table-long = a .0; bits-long = b .0; settings-long = eqb-true settings (settingsLength logicTile * n) (b .1) }
+          let a = equal-and table tableLength _ e in
+          let b = equal-and bits (bitsLength S) _ (a .1) in
+          record { table-long = a .0; bits-long = b .0; settings-long = eqb-true settings (settingsTotal S) (b .1) }
 
 -- a table that keeps the rules passes the check, in the check's terms
-table-true : (w h : ℕ) (table : List ℕ) (bits settings : ℕ) → Checked w h table bits settings → tableOk logicTile table ≡ true
-table-true w h table bits settings C = table-exact logicTile table (C .lengths .table-long) .1 (C .rules)
+table-true : (S : Size) (table : List ℕ) (bits settings : ℕ) → Checked S table bits settings → tableOk logicTile table ≡ true
+table-true S table bits settings C = table-exact logicTile table (C .lengths .table-long) .1 (C .rules)
 
 -- ---- reading, ground by ground
 
-module _ (w h : ℕ) (table bits : List ℕ) (settings : ℕ) where
-  pub read-size : sized (block w h) ≡ false → Refused Size ≡ readAnswer w h table bits settings
+module _ (S : Size) (table bits : List ℕ) (settings : ℕ) where
+  pub read-size : allowed S ≡ false → Refused WrongSize ≡ readAnswer S table bits settings
   unfolding readAnswer
   read-size e = rw e
 
-  module _ (s : Sized (block w h)) where
-    pub read-length : lengthsOk (tiles (block w h)) (length table) (length bits) settings ≡ false → Refused Length ≡ readAnswer w h table bits settings
+  module _ (s : Allowed S) where
+    pub read-length : lengthsOk S (length table) (length bits) settings ≡ false → Refused WrongLength ≡ readAnswer S table bits settings
     unfolding readAnswer
-    read-length e = rw (sized-true (block w h) s, e)
+    read-length e = rw (allowed-true S s, e)
 
-    pub read-table : ExactLengths (tiles (block w h)) (length table) (length bits) settings
-        → (p : ℕ) → p ≡ faultyPart logicTile table → p ≢ partCount logicTile table → Refused (Table p) ≡ readAnswer w h table bits settings
+    pub read-table : ExactLengths S (length table) (length bits) settings
+        → (p : ℕ) → p ≡ faultyPart logicTile table → p ≢ partCount logicTile table → Refused (Table p) ≡ readAnswer S table bits settings
     unfolding readAnswer
     read-table l p e n =
-        rw (sized-true (block w h) s, lengths-true (tiles (block w h)) (length table) (length bits) settings l, ← e, ne-eqb p (partCount logicTile table) n)
+        rw (allowed-true S s, lengths-true S (length table) (length bits) settings l, ← e, ne-eqb p (partCount logicTile table) n)
 
-  module _ (C : Checked w h table (length bits) settings) (t : ℕ) (e : t ≡ undecodableTile table (tilesOf bits) (tiles (block w h))) where
-    pub read-undecodable : t < tiles (block w h) → Refused (Undecodable t) ≡ readAnswer w h table bits settings
+  module _ (C : Checked S table (length bits) settings) (t : ℕ) (e : t ≡ undecodableTile table (tilesOf bits) (tileCount S)) where
+    pub read-undecodable : t < tileCount S → Refused (Undecodable t) ≡ readAnswer S table bits settings
     unfolding readAnswer
     read-undecodable l =
         rw (
-          sized-true (block w h) (C .size),
-          lengths-true (tiles (block w h)) (length table) (length bits) settings (C .lengths),
-          table-true w h table (length bits) settings C,
+          allowed-true S (C .size),
+          lengths-true S (length table) (length bits) settings (C .lengths),
+          table-true S table (length bits) settings C,
           ← e,
-          lt-leb (tiles (block w h)) t l,
+          lt-leb (tileCount S) t l,
         )
 
-    pub read-done : tiles (block w h) ≤ t → Done ≡ readAnswer w h table bits settings
+    pub read-done : tileCount S ≤ t → Done ≡ readAnswer S table bits settings
     unfolding readAnswer
     read-done l =
         rw (
-          sized-true (block w h) (C .size),
-          lengths-true (tiles (block w h)) (length table) (length bits) settings (C .lengths),
-          table-true w h table (length bits) settings C,
+          allowed-true S (C .size),
+          lengths-true S (length table) (length bits) settings (C .lengths),
+          table-true S table (length bits) settings C,
           ← e,
-          le-leb (tiles (block w h)) t l,
+          le-leb (tileCount S) t l,
         )
 
 -- ---- writing, ground by ground
 
-module _ (w h : ℕ) (table settings : List ℕ) (bits : ℕ) where
-  pub write-size : sized (block w h) ≡ false → Refused Size ≡ writeAnswer w h table settings bits
+module _ (S : Size) (table settings : List ℕ) (bits : ℕ) where
+  pub write-size : allowed S ≡ false → Refused WrongSize ≡ writeAnswer S table settings bits
   unfolding writeAnswer
   write-size e = rw e
 
-  module _ (s : Sized (block w h)) where
-    pub write-length : lengthsOk (tiles (block w h)) (length table) bits (length settings) ≡ false → Refused Length ≡ writeAnswer w h table settings bits
+  module _ (s : Allowed S) where
+    pub write-length : lengthsOk S (length table) bits (length settings) ≡ false → Refused WrongLength ≡ writeAnswer S table settings bits
     unfolding writeAnswer
-    write-length e = rw (sized-true (block w h) s, e)
+    write-length e = rw (allowed-true S s, e)
 
-    pub write-table : ExactLengths (tiles (block w h)) (length table) bits (length settings)
-        → (p : ℕ) → p ≡ faultyPart logicTile table → p ≢ partCount logicTile table → Refused (Table p) ≡ writeAnswer w h table settings bits
+    pub write-table : ExactLengths S (length table) bits (length settings)
+        → (p : ℕ) → p ≡ faultyPart logicTile table → p ≢ partCount logicTile table → Refused (Table p) ≡ writeAnswer S table settings bits
     unfolding writeAnswer
     write-table l p e n =
-        rw (sized-true (block w h) s, lengths-true (tiles (block w h)) (length table) bits (length settings) l, ← e, ne-eqb p (partCount logicTile table) n)
+        rw (allowed-true S s, lengths-true S (length table) bits (length settings) l, ← e, ne-eqb p (partCount logicTile table) n)
 
-  module _ (C : Checked w h table bits (length settings)) (t : ℕ) (e : t ≡ bitlessTile table settings (tiles (block w h))) where
-    pub write-bitless : t < tiles (block w h) → Refused (NoSuchSettings t) ≡ writeAnswer w h table settings bits
+  module _ (C : Checked S table bits (length settings)) (t : ℕ) (e : t ≡ bitlessTile table settings (tileCount S)) where
+    pub write-bitless : t < tileCount S → Refused (NoSuchSettings t) ≡ writeAnswer S table settings bits
     unfolding writeAnswer
     write-bitless l =
         rw (
-          sized-true (block w h) (C .size),
-          lengths-true (tiles (block w h)) (length table) bits (length settings) (C .lengths),
-          table-true w h table bits (length settings) C,
+          allowed-true S (C .size),
+          lengths-true S (length table) bits (length settings) (C .lengths),
+          table-true S table bits (length settings) C,
           ← e,
-          lt-leb (tiles (block w h)) t l,
+          lt-leb (tileCount S) t l,
         )
 
-    pub write-done : tiles (block w h) ≤ t → Done ≡ writeAnswer w h table settings bits
+    pub write-done : tileCount S ≤ t → Done ≡ writeAnswer S table settings bits
     unfolding writeAnswer
     write-done l =
         rw (
-          sized-true (block w h) (C .size),
-          lengths-true (tiles (block w h)) (length table) bits (length settings) (C .lengths),
-          table-true w h table bits (length settings) C,
+          allowed-true S (C .size),
+          lengths-true S (length table) bits (length settings) (C .lengths),
+          table-true S table bits (length settings) C,
           ← e,
-          le-leb (tiles (block w h)) t l,
+          le-leb (tileCount S) t l,
         )

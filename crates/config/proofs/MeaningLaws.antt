@@ -13,111 +13,114 @@ use Rattle.refusal.specs.Grounds.{answerNumber}
 use Rattle.refusal.specs.Memory.{output}
 use Rattle.refusal.specs.declared.Refusal.the-variants.{Undecodable, NoSuchSettings}
 use Rattle.refusal.specs.declared.Answer.{Answer}
-use Rattle.fabric.specs.Block.{block, tiles, sized}
-use Rattle.fabric.proofs.BlockLaws.{sized-exact, sized-true}
+use Rattle.ports.specs.declared.size.Size.{Size}
+use Rattle.ports.specs.Block.{tileCount, allowed}
+use Rattle.ports.proofs.BlockLaws.{allowed-exact, allowed-true}
 use Rattle.routing.specs.LogicTile.{logicTile}
 use Rattle.routing.specs.TableCheck.{faultyPart, tableOk}
 use Rattle.routing.proofs.TableCheckLaws.{table-broken}
 use Rattle.config.specs.Blocks.{undecodableAt, undecodableTile, decoded, bitlessAt, bitlessTile, encoded, tilesOf}
 use Rattle.config.specs.Entry.{lengthsOk, readAnswer, writeAnswer}
 use Rattle.config.specs.Facts.{NoSize, NoLength, NoTable}
-use Rattle.config.specs.Meaning.{ReadSays, WriteSays}
+use Rattle.config.specs.Meaning.{ReadSays, wrong-size, wrong-length, broken, undecodable}
+use Rattle.config.specs.WriteMeaning.{WriteSays}
+use Rattle.config.specs.WriteMeaning as writing
 use Rattle.config.proofs.EntryLaws.{lengths-exact, lengths-true}
 use Rattle.config.proofs.PassedLaws.{checks-cases, checked-of}
 use Rattle.config.proofs.BlocksLaws.{decoded-length, decoded-reads, undecodable-lowest, encoded-length, encoded-reads, bitless-lowest}
 
 -- ---- the grounds that reading and writing share
 
-module _ (w h : ℕ) (table : List ℕ) (bits settings : ℕ) where
-  no-size : sized (block w h) ≡ false → NoSize w h table bits settings
-  no-size s S = clash (sized-true (block w h) S) s
+module _ (S : Size) (table : List ℕ) (bits settings : ℕ) where
+  no-size : allowed S ≡ false → NoSize S table bits settings
+  no-size s a = clash (allowed-true S a) s
 
-  no-length : sized (block w h) ≡ true → lengthsOk (tiles (block w h)) (length table) bits settings ≡ false → NoLength w h table bits settings
-  no-length s l = (sized-exact (block w h) .0 s, λ L. clash (lengths-true (tiles (block w h)) (length table) bits settings L) l)
+  no-length : allowed S ≡ true → lengthsOk S (length table) bits settings ≡ false → NoLength S table bits settings
+  no-length s l = (allowed-exact S .0 s, λ L. clash (lengths-true S (length table) bits settings L) l)
 
-  no-table : sized (block w h) ≡ true → lengthsOk (tiles (block w h)) (length table) bits settings ≡ true → tableOk logicTile table ≡ false
-      → NoTable w h table bits settings (faultyPart logicTile table)
-  no-table s l t = (sized-exact (block w h) .0 s, lengths-exact (tiles (block w h)) (length table) bits settings .0 l, table-broken logicTile table t)
+  no-table : allowed S ≡ true → lengthsOk S (length table) bits settings ≡ true → tableOk logicTile table ≡ false
+      → NoTable S table bits settings (faultyPart logicTile table)
+  no-table s l t = (allowed-exact S .0 s, lengths-exact S (length table) bits settings .0 l, table-broken logicTile table t)
 
 -- ---- reading
 
-module _ (w h : ℕ) (table bits : List ℕ) where
+module _ (S : Size) (table bits : List ℕ) where
   pub read-means : (settings : List ℕ)
-      → ReadSays w h table bits settings
-      (output (answerNumber (readAnswer w h table bits (length settings))) settings (decoded table (tilesOf bits) (tiles (block w h))))
-      (readAnswer w h table bits (length settings))
+      → ReadSays S table bits settings
+      (output (answerNumber (readAnswer S table bits (length settings))) settings (decoded table (tilesOf bits) (tileCount S)))
+      (readAnswer S table bits (length settings))
   unfolding readAnswer
   read-means settings =
-      checks-cases (sized (block w h)) (lengthsOk (tiles (block w h)) (length table) (length bits) (length settings)) (tableOk logicTile table)
-      (leb (tiles (block w h)) (undecodableTile table (tilesOf bits) (tiles (block w h)))) (faultyPart logicTile table)
-      (Undecodable (undecodableTile table (tilesOf bits) (tiles (block w h))))
-      (λ (a : Answer). ReadSays w h table bits settings (output (answerNumber a) settings (decoded table (tilesOf bits) (tiles (block w h)))) a)
-      (λ s. (refl, no-size w h table (length bits) (length settings) s))
-      (λ s l. (refl, no-length w h table (length bits) (length settings) s l))
-      (λ s l t. (refl, no-table w h table (length bits) (length settings) s l t))
+      checks-cases (allowed S) (lengthsOk S (length table) (length bits) (length settings)) (tableOk logicTile table)
+      (leb (tileCount S) (undecodableTile table (tilesOf bits) (tileCount S))) (faultyPart logicTile table)
+      (Undecodable (undecodableTile table (tilesOf bits) (tileCount S)))
+      (λ (a : Answer). ReadSays S table bits settings (output (answerNumber a) settings (decoded table (tilesOf bits) (tileCount S))) a)
+      (λ s. (refl, wrong-size (no-size S table (length bits) (length settings) s)))
+      (λ s l. (refl, wrong-length (no-length S table (length bits) (length settings) s l)))
+      (λ s l t. (refl, broken _ (no-table S table (length bits) (length settings) s l t)))
       (λ s l t c.
-      let C = checked-of w h table (length bits) (length settings) s l t in
-      (refl, (C, undecodable-lowest table bits (tiles (block w h)) (C .rules) (leb-false (tiles (block w h)) _ c))))
+      let C = checked-of S table (length bits) (length settings) s l t in
+      (refl, undecodable _ C (undecodable-lowest table bits (tileCount S) (C .rules) (leb-false (tileCount S) _ c))))
       (λ s l t c.
-      let C = checked-of w h table (length bits) (length settings) s l t in (
+      let C = checked-of S table (length bits) (length settings) s l t in (
         record {
           size = C .size;
           lengths = record {
             table-long = C .lengths .table-long;
             bits-long = C .lengths .bits-long;
-            settings-long = decoded-length table bits (tiles (block w h));
+            settings-long = decoded-length table bits (tileCount S);
           };
           rules = C .rules;
         },
-        decoded-reads table bits (tiles (block w h)) (C .rules) (λ i z. first-before (undecodableAt table (tilesOf bits)) 0 (tiles (block w h)) i (omega arith)
-            (omega (arith, leb-true (tiles (block w h)) (undecodableTile table (tilesOf bits) (tiles (block w h))) c))),
+        decoded-reads table bits (tileCount S) (C .rules) (λ i z. first-before (undecodableAt table (tilesOf bits)) 0 (tileCount S) i (omega arith)
+            (omega (arith, leb-true (tileCount S) (undecodableTile table (tilesOf bits) (tileCount S)) c))),
       ))
 
   -- the same over what `read` promises of its answer and of the lent settings
-  pub read-says : (before after : List ℕ) (a : Answer) → a ≡ readAnswer w h table bits (length before)
-      → after ≡ output (answerNumber a) before (decoded table (tilesOf bits) (tiles (block w h))) → ReadSays w h table bits before after a
+  pub read-says : (before after : List ℕ) (a : Answer) → a ≡ readAnswer S table bits (length before)
+      → after ≡ output (answerNumber a) before (decoded table (tilesOf bits) (tileCount S)) → ReadSays S table bits before after a
   read-says before after a e q =
-      subst (λ (x : List ℕ). ReadSays w h table bits before x a) (sym q)
-      (subst (λ (x : Answer). ReadSays w h table bits before (output (answerNumber x) before (decoded table (tilesOf bits) (tiles (block w h)))) x) (sym e) (read-means before))
+      subst (λ (x : List ℕ). ReadSays S table bits before x a) (sym q)
+      (subst (λ (x : Answer). ReadSays S table bits before (output (answerNumber x) before (decoded table (tilesOf bits) (tileCount S))) x) (sym e) (read-means before))
 
 -- ---- writing
 
-module _ (w h : ℕ) (table settings : List ℕ) where
+module _ (S : Size) (table settings : List ℕ) where
   pub write-means : (bits : List ℕ)
-      → WriteSays w h table settings bits
-      (output (answerNumber (writeAnswer w h table settings (length bits))) bits (encoded table settings (tiles (block w h))))
-      (writeAnswer w h table settings (length bits))
+      → WriteSays S table settings bits
+      (output (answerNumber (writeAnswer S table settings (length bits))) bits (encoded table settings (tileCount S)))
+      (writeAnswer S table settings (length bits))
   unfolding writeAnswer bitlessAt
   write-means bits =
-      checks-cases (sized (block w h)) (lengthsOk (tiles (block w h)) (length table) (length bits) (length settings)) (tableOk logicTile table)
-      (leb (tiles (block w h)) (bitlessTile table settings (tiles (block w h)))) (faultyPart logicTile table)
-      (NoSuchSettings (bitlessTile table settings (tiles (block w h))))
-      (λ (a : Answer). WriteSays w h table settings bits (output (answerNumber a) bits (encoded table settings (tiles (block w h)))) a)
-      (λ s. (refl, no-size w h table (length bits) (length settings) s))
-      (λ s l. (refl, no-length w h table (length bits) (length settings) s l))
-      (λ s l t. (refl, no-table w h table (length bits) (length settings) s l t))
+      checks-cases (allowed S) (lengthsOk S (length table) (length bits) (length settings)) (tableOk logicTile table)
+      (leb (tileCount S) (bitlessTile table settings (tileCount S))) (faultyPart logicTile table)
+      (NoSuchSettings (bitlessTile table settings (tileCount S)))
+      (λ (a : Answer). WriteSays S table settings bits (output (answerNumber a) bits (encoded table settings (tileCount S))) a)
+      (λ s. (refl, writing.wrong-size (no-size S table (length bits) (length settings) s)))
+      (λ s l. (refl, writing.wrong-length (no-length S table (length bits) (length settings) s l)))
+      (λ s l t. (refl, writing.broken _ (no-table S table (length bits) (length settings) s l t)))
       (λ s l t c.
-      let C = checked-of w h table (length bits) (length settings) s l t in
-      (refl, (C, bitless-lowest table settings (tiles (block w h)) (C .rules) (C .lengths .settings-long) (leb-false (tiles (block w h)) _ c))))
+      let C = checked-of S table (length bits) (length settings) s l t in
+      (refl, writing.bitless _ C (bitless-lowest table settings (tileCount S) (C .rules) (C .lengths .settings-long) (leb-false (tileCount S) _ c))))
       (λ s l t c.
-      let C = checked-of w h table (length bits) (length settings) s l t in (
+      let C = checked-of S table (length bits) (length settings) s l t in (
         record {
           size = C .size;
           lengths = record {
             table-long = C .lengths .table-long;
-            bits-long = encoded-length table settings (tiles (block w h));
+            bits-long = encoded-length table settings (tileCount S);
             settings-long = C .lengths .settings-long;
           };
           rules = C .rules;
         },
-        encoded-reads table settings (tiles (block w h)) (C .rules) (C .lengths .settings-long)
-            (λ i z. not-false _ (first-before (bitlessAt table settings) 0 (tiles (block w h)) i (omega arith)
-            (omega (arith, leb-true (tiles (block w h)) (bitlessTile table settings (tiles (block w h))) c)))),
+        encoded-reads table settings (tileCount S) (C .rules) (C .lengths .settings-long)
+            (λ i z. not-false _ (first-before (bitlessAt table settings) 0 (tileCount S) i (omega arith)
+            (omega (arith, leb-true (tileCount S) (bitlessTile table settings (tileCount S)) c)))),
       ))
 
   -- the same over what `write` promises of its answer and of the lent bits
-  pub write-says : (before after : List ℕ) (a : Answer) → a ≡ writeAnswer w h table settings (length before)
-      → after ≡ output (answerNumber a) before (encoded table settings (tiles (block w h))) → WriteSays w h table settings before after a
+  pub write-says : (before after : List ℕ) (a : Answer) → a ≡ writeAnswer S table settings (length before)
+      → after ≡ output (answerNumber a) before (encoded table settings (tileCount S)) → WriteSays S table settings before after a
   write-says before after a e q =
-      subst (λ (x : List ℕ). WriteSays w h table settings before x a) (sym q)
-      (subst (λ (x : Answer). WriteSays w h table settings before (output (answerNumber x) before (encoded table settings (tiles (block w h)))) x) (sym e) (write-means before))
+      subst (λ (x : List ℕ). WriteSays S table settings before x a) (sym q)
+      (subst (λ (x : Answer). WriteSays S table settings before (output (answerNumber x) before (encoded table settings (tileCount S))) x) (sym e) (write-means before))

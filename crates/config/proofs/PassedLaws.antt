@@ -11,11 +11,12 @@ use lib.ListN.{length}
 use Rattle.lists.proofs.SearchLaws.{first-before}
 use Rattle.refusal.specs.Grounds.{unless}
 use Rattle.refusal.specs.declared.Refusal.{Refusal}
-use Rattle.refusal.specs.declared.Refusal.the-variants.{Size, Length, Table, Undecodable, NoSuchSettings}
+use Rattle.refusal.specs.declared.Refusal.the-variants.{WrongSize, WrongLength, Table, Undecodable, NoSuchSettings}
 use Rattle.refusal.specs.declared.Answer.{Answer}
 use Rattle.refusal.specs.declared.Answer.the-variants.{Done, Refused}
-use Rattle.fabric.specs.Block.{block, tiles, sized}
-use Rattle.fabric.proofs.BlockLaws.{sized-exact}
+use Rattle.ports.specs.declared.size.Size.{Size}
+use Rattle.ports.specs.Block.{tileCount, allowed}
+use Rattle.ports.proofs.BlockLaws.{allowed-exact}
 use Rattle.routing.specs.LogicTile.{logicTile}
 use Rattle.routing.specs.TableCheck.{faultyPart, tableOk}
 use Rattle.routing.proofs.TableCheckLaws.{table-exact}
@@ -28,12 +29,12 @@ use Rattle.config.proofs.EntryLaws.{lengths-exact}
 -- grounds 1, 2, 3 and that of the tiles, from their tests
 abbrev pub checks : Bool → Bool → Bool → Bool → ℕ → Refusal → Answer
 checks size lengths table clean part last =
-    unless size (Refused Size) (unless lengths (Refused Length) (unless table (Refused (Table part)) (unless clean (Refused last) Done)))
+    unless size (Refused WrongSize) (unless lengths (Refused WrongLength) (unless table (Refused (Table part)) (unless clean (Refused last) Done)))
 
 -- what holds of the first no, whichever it is, and of the yes holds of the answer
 pub checks-cases : (size lengths table clean : Bool) (part : ℕ) (last : Refusal) (P : Answer → Type 0)
-    → (size ≡ false → P (Refused Size))
-    → (size ≡ true → lengths ≡ false → P (Refused Length))
+    → (size ≡ false → P (Refused WrongSize))
+    → (size ≡ true → lengths ≡ false → P (Refused WrongLength))
     → (size ≡ true → lengths ≡ true → table ≡ false → P (Refused (Table part)))
     → (size ≡ true → lengths ≡ true → table ≡ true → clean ≡ false → P (Refused last))
     → (size ≡ true → lengths ≡ true → table ≡ true → clean ≡ true → P Done)
@@ -66,40 +67,40 @@ checks-done size lengths table clean part last =
     (λ s l t c e. record { size-pass = s; lengths-pass = l; table-pass = t; clean-pass = c })
 
 -- the first three tests, as facts
-pub checked-of : (w h : ℕ) (table : List ℕ) (bits settings : ℕ) → sized (block w h) ≡ true
-    → lengthsOk (tiles (block w h)) (length table) bits settings ≡ true → tableOk logicTile table ≡ true → Checked w h table bits settings
-checked-of w h table bits settings s l t =
-    let lengths = lengths-exact (tiles (block w h)) (length table) bits settings .0 l in
-    record { size = sized-exact (block w h) .0 s; lengths = lengths; rules = table-exact logicTile table (lengths .table-long) .0 t }
+pub checked-of : (S : Size) (table : List ℕ) (bits settings : ℕ) → allowed S ≡ true
+    → lengthsOk S (length table) bits settings ≡ true → tableOk logicTile table ≡ true → Checked S table bits settings
+checked-of S table bits settings s l t =
+    let lengths = lengths-exact S (length table) bits settings .0 l in
+    record { size = allowed-exact S .0 s; lengths = lengths; rules = table-exact logicTile table (lengths .table-long) .0 t }
 
-module _ (w h : ℕ) (table bits : List ℕ) (settings : ℕ) (done : readAnswer w h table bits settings ≡ Done) where
-  read-pass : AllPass (sized (block w h)) (lengthsOk (tiles (block w h)) (length table) (length bits) settings) (tableOk logicTile table)
-      (leb (tiles (block w h)) (undecodableTile table (tilesOf bits) (tiles (block w h))))
+module _ (S : Size) (table bits : List ℕ) (settings : ℕ) (done : readAnswer S table bits settings ≡ Done) where
+  read-pass : AllPass (allowed S) (lengthsOk S (length table) (length bits) settings) (tableOk logicTile table)
+      (leb (tileCount S) (undecodableTile table (tilesOf bits) (tileCount S)))
   unfolding readAnswer
-  read-pass = checks-done _ _ _ _ (faultyPart logicTile table) (Undecodable (undecodableTile table (tilesOf bits) (tiles (block w h)))) done
+  read-pass = checks-done _ _ _ _ (faultyPart logicTile table) (Undecodable (undecodableTile table (tilesOf bits) (tileCount S))) done
 
-  pub read-passed : Checked w h table (length bits) settings
-  read-passed = checked-of w h table (length bits) settings (read-pass .size-pass) (read-pass .lengths-pass) (read-pass .table-pass)
+  pub read-passed : Checked S table (length bits) settings
+  read-passed = checked-of S table (length bits) settings (read-pass .size-pass) (read-pass .lengths-pass) (read-pass .table-pass)
 
   -- no tile has a position at fault
-  pub read-clean : (t : ℕ) → t < tiles (block w h) → undecodableAt table (tilesOf bits) t ≡ false
+  pub read-clean : (t : ℕ) → t < tileCount S → undecodableAt table (tilesOf bits) t ≡ false
   read-clean t l =
-      first-before (undecodableAt table (tilesOf bits)) 0 (tiles (block w h)) t (omega arith)
-      (omega (arith, leb-true (tiles (block w h)) (undecodableTile table (tilesOf bits) (tiles (block w h))) (read-pass .clean-pass)))
+      first-before (undecodableAt table (tilesOf bits)) 0 (tileCount S) t (omega arith)
+      (omega (arith, leb-true (tileCount S) (undecodableTile table (tilesOf bits) (tileCount S)) (read-pass .clean-pass)))
 
-module _ (w h : ℕ) (table settings : List ℕ) (bits : ℕ) (done : writeAnswer w h table settings bits ≡ Done) where
-  write-pass : AllPass (sized (block w h)) (lengthsOk (tiles (block w h)) (length table) bits (length settings)) (tableOk logicTile table)
-      (leb (tiles (block w h)) (bitlessTile table settings (tiles (block w h))))
+module _ (S : Size) (table settings : List ℕ) (bits : ℕ) (done : writeAnswer S table settings bits ≡ Done) where
+  write-pass : AllPass (allowed S) (lengthsOk S (length table) bits (length settings)) (tableOk logicTile table)
+      (leb (tileCount S) (bitlessTile table settings (tileCount S)))
   unfolding writeAnswer
-  write-pass = checks-done _ _ _ _ (faultyPart logicTile table) (NoSuchSettings (bitlessTile table settings (tiles (block w h)))) done
+  write-pass = checks-done _ _ _ _ (faultyPart logicTile table) (NoSuchSettings (bitlessTile table settings (tileCount S))) done
 
-  pub write-passed : Checked w h table bits (length settings)
-  write-passed = checked-of w h table bits (length settings) (write-pass .size-pass) (write-pass .lengths-pass) (write-pass .table-pass)
+  pub write-passed : Checked S table bits (length settings)
+  write-passed = checked-of S table bits (length settings) (write-pass .size-pass) (write-pass .lengths-pass) (write-pass .table-pass)
 
   -- each tile's settings fit
-  pub write-fit : (t : ℕ) → t < tiles (block w h) → settingsFit table (settingsAt settings t) ≡ true
+  pub write-fit : (t : ℕ) → t < tileCount S → settingsFit table (settingsAt settings t) ≡ true
   unfolding bitlessAt
   write-fit t l =
       not-false (settingsFit table (settingsAt settings t))
-      (first-before (bitlessAt table settings) 0 (tiles (block w h)) t (omega arith)
-      (omega (arith, leb-true (tiles (block w h)) (bitlessTile table settings (tiles (block w h))) (write-pass .clean-pass))))
+      (first-before (bitlessAt table settings) 0 (tileCount S) t (omega arith)
+      (omega (arith, leb-true (tileCount S) (bitlessTile table settings (tileCount S)) (write-pass .clean-pass))))

@@ -6,8 +6,8 @@ use lib.Dec.{ltb}
 use Rattle.lists.specs.Search.{first}
 use Rattle.lists.specs.Parts.{part, joined}
 use Rattle.routing.specs.LogicTile.{logicTile}
-use Rattle.codec.specs.Bits.{tileBytes, TileBits, tileOf}
-use Rattle.codec.specs.Settings.{settingsLength}
+use Rattle.ports.specs.Lengths.{tileNumbers, settingsLength}
+use Rattle.codec.specs.Bits.{TileBits, tileOf}
 use Rattle.codec.specs.Decode.{decode}
 use Rattle.codec.specs.Encode.{encode}
 use Rattle.codec.specs.Fault.{tileFault}
@@ -15,10 +15,10 @@ use Rattle.codec.specs.Limits.{settingsFit}
 
 -- the bits, and the settings, of tile t
 abbrev pub bitsAt : List ℕ → ℕ → List ℕ
-bitsAt bits t = part tileBytes t bits
+bitsAt bits t = part tileNumbers t bits
 
 abbrev pub settingsAt : List ℕ → ℕ → List ℕ
-settingsAt settings t = part (settingsLength logicTile) t settings
+settingsAt settings t = part settingsLength t settings
 
 -- a block as its tiles are read
 abbrev pub tilesOf : List ℕ → ℕ → TileBits
@@ -26,7 +26,7 @@ tilesOf bits t = tileOf (bitsAt bits t)
 
 -- the settings of the largest block, 64 tiles
 abbrev pub roomLength : ℕ
-roomLength = settingsLength logicTile * 64
+roomLength = settingsLength * 64
 
 module _ (table : List ℕ) where
   -- tile t cannot be decoded

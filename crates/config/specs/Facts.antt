@@ -4,39 +4,39 @@ use Prim.Native.Nat.{ℕ, _*_, _<_}
 use mathlib.Core.Path.{_≡_}
 use mathlib.Core.List.{List}
 use lib.ListN.{length}
-use Rattle.fabric.specs.Block.{Sized, block, tiles}
+use Rattle.ports.specs.declared.size.Size.{Size}
+use Rattle.ports.specs.Block.{Allowed, tileCount}
 use Rattle.routing.specs.LogicTile.{logicTile}
-use Rattle.routing.specs.Table.{tableLength}
+use Rattle.ports.specs.Lengths.{tableLength, bitsLength, settingsTotal}
 use Rattle.routing.specs.Rules.{TableRules, FirstBroken}
-use Rattle.codec.specs.Bits.{tileBytes, TileBits}
-use Rattle.codec.specs.Settings.{settingsLength}
+use Rattle.codec.specs.Bits.{TileBits}
 use Rattle.codec.specs.Reading.{Faulty, Decodable, ReadsTo, HasBits}
 use Rattle.config.specs.Blocks.{settingsAt}
 
--- "Lengths: bits 108 [..], each times W·H; those of table, settings [..] stand in docs/": the exact lengths for n tiles
-pub record ExactLengths (n table bits settings : ℕ) : Type 0 where
-  pub table-long : table ≡ tableLength logicTile
-  pub bits-long : bits ≡ tileBytes * n
-  pub settings-long : settings ≡ settingsLength logicTile * n
+-- "Lengths: bits 108 [..], each times W·H; those of table, settings [..] stand in docs/": the exact lengths
+pub record ExactLengths (S : Size) (table bits settings : ℕ) : Type 0 where
+  pub table-long : table ≡ tableLength
+  pub bits-long : bits ≡ bitsLength S
+  pub settings-long : settings ≡ settingsTotal S
 
 -- the grounds that `read` and `write` check first; `bits` and `settings` are lengths
-module _ (w h : ℕ) (table : List ℕ) (bits settings : ℕ) where
+module _ (S : Size) (table : List ℕ) (bits settings : ℕ) where
   -- "1: W or H not 1 to 8"
   abbrev pub NoSize : Type 0
-  NoSize = Sized (block w h) → ⊥
+  NoSize = Allowed S → ⊥
 
   -- "2: a lent length differs from the exact one"
   abbrev pub NoLength : Type 0
-  NoLength = Sized (block w h) × (ExactLengths (tiles (block w h)) (length table) bits settings → ⊥)
+  NoLength = Allowed S × (ExactLengths S (length table) bits settings → ⊥)
 
   -- "3: table breaks a rule: first of fields, passive list, groups that does": part p
   abbrev pub NoTable : ℕ → Type 0
-  NoTable p = Sized (block w h) × ExactLengths (tiles (block w h)) (length table) bits settings × FirstBroken logicTile table p
+  NoTable p = Allowed S × ExactLengths S (length table) bits settings × FirstBroken logicTile table p
 
   -- none of the three
   pub record Checked : Type 0 where
-    pub size : Sized (block w h)
-    pub lengths : ExactLengths (tiles (block w h)) (length table) bits settings
+    pub size : Allowed S
+    pub lengths : ExactLengths S (length table) bits settings
     pub rules : TableRules logicTile table
 
 -- "4: undecodable: lowest tile": tile t of n has a position at fault, and no lower tile has one

@@ -2,4 +2,5 @@
 pub mod Blocks  -- a block's bits and settings as its tiles', one after another; decoded, encoded: what a yes writes
 pub mod Entry  -- readAnswer, writeAnswer, bitCountAnswer: the grounds in their orders
 pub mod Facts  -- what each ground and a yes say, sentence by sentence
-pub mod Meaning  -- ReadSays, WriteSays: what each answer says
+pub mod Meaning  -- ReadSays: what each answer of reading says
+pub mod WriteMeaning  -- WriteSays: what each answer of writing says

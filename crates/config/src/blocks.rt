@@ -7,24 +7,23 @@ ghost use Rattle.routing.specs.LogicTile.{logicTile};
 ghost use Rattle.routing.specs.Rules.{TableRules};
 ghost use Rattle.routing.specs.Slots.{slotCount};
 ghost use Rattle.routing.specs.Claiming.{TableOwned};
-ghost use Rattle.codec.specs.Bits.{tileBytes};
-ghost use Rattle.codec.specs.Settings.{settingsLength};
+ghost use Rattle.ports.specs.Lengths.{tileNumbers, settingsLength};
 ghost use Rattle.codec.specs.Limits.{settingsFit};
 ghost use Rattle.config.specs.Blocks.{settingsAt, undecodableTile, decoded, bitlessTile, encoded, tilesOf};
-use codec::bits::TILE_BYTES;
-use codec::settings::SETTINGS_LENGTH;
+use ports::lengths::SETTINGS_LENGTH;
+use ports::lengths::TILE_NUMBERS;
 use routing::table::POSITIONS;
 
 // The lowest tile that cannot be decoded; where all n can, n with their settings.
 pub fn read_block(table: &[u16], own: &[u16], bits: &[u8], settings: &mut [u16], n: usize) -> usize
-    requires { ⌜ (n ≤ 64) × TableRules logicTile (now table) × TableOwned logicTile (now table) (slotCount logicTile) (now own) × (length (now bits) ≡ tileBytes * n) × (length (now settings) ≡ settingsLength logicTile * n) ⌝ }
+    requires { ⌜ (n ≤ 64) × TableRules logicTile (now table) × TableOwned logicTile (now table) (slotCount logicTile) (now own) × (length (now bits) ≡ tileNumbers * n) × (length (now settings) ≡ settingsLength * n) ⌝ }
     ensures tile { λ r. ⌜ r ≡ undecodableTile (now (table .entry)) (tilesOf (now (bits .entry))) n ⌝ }
     ensures settings { λ r. ⌜ (r ≡ n → now (settings .exit) ≡ decoded (now (table .entry)) (tilesOf (now (bits .entry))) n) ⌝ }
 {
     let mut t = 0;
     while t < n {
-        let from = TILE_BYTES * t;
-        let to = from + TILE_BYTES;
+        let from = TILE_NUMBERS * t;
+        let to = from + TILE_NUMBERS;
         let start = SETTINGS_LENGTH * t;
         let end = start + SETTINGS_LENGTH;
         let fault = tile::read_tile(table, own, &bits[from..to], &mut settings[start..end]);
@@ -38,13 +37,13 @@ pub fn read_block(table: &[u16], own: &[u16], bits: &[u8], settings: &mut [u16],
 
 // The settings of n tiles that can be decoded.
 pub fn decode_block(table: &[u16], bits: &[u8], settings: &mut [u16], n: usize)
-    requires { ⌜ (n ≤ 64) × TableRules logicTile (now table) × (length (now bits) ≡ tileBytes * n) × (length (now settings) ≡ settingsLength logicTile * n) ⌝ }
+    requires { ⌜ (n ≤ 64) × TableRules logicTile (now table) × (length (now bits) ≡ tileNumbers * n) × (length (now settings) ≡ settingsLength * n) ⌝ }
     ensures { λ r. ⌜ now (settings .exit) ≡ decoded (now (table .entry)) (tilesOf (now (bits .entry))) n ⌝ }
 {
     let mut t = 0;
     while t < n {
-        let from = TILE_BYTES * t;
-        let to = from + TILE_BYTES;
+        let from = TILE_NUMBERS * t;
+        let to = from + TILE_NUMBERS;
         let start = SETTINGS_LENGTH * t;
         let end = start + SETTINGS_LENGTH;
         tile::decode_tile(table, &bits[from..to], &mut settings[start..end]);
@@ -54,7 +53,7 @@ pub fn decode_block(table: &[u16], bits: &[u8], settings: &mut [u16], n: usize)
 
 // The lowest tile whose settings no bits have; n where some bits have those of each.
 pub fn bitless_tile(table: &[u16], settings: &[u16], n: usize) -> usize
-    requires { ⌜ (n ≤ 64) × TableRules logicTile (now table) × (length (now settings) ≡ settingsLength logicTile * n) ⌝ }
+    requires { ⌜ (n ≤ 64) × TableRules logicTile (now table) × (length (now settings) ≡ settingsLength * n) ⌝ }
     ensures { λ r. ⌜ r ≡ bitlessTile (now (table .entry)) (now (settings .entry)) n ⌝ }
 {
     let limits = codec::settings::limits(table);
@@ -72,15 +71,15 @@ pub fn bitless_tile(table: &[u16], settings: &[u16], n: usize) -> usize
 
 // The bits of n tiles whose settings some bits have.
 pub fn encode_block(table: &[u16], settings: &[u16], bits: &mut [u8], n: usize)
-    requires { ⌜ (n ≤ 64) × TableRules logicTile (now table) × (length (now settings) ≡ settingsLength logicTile * n) × (length (now bits) ≡ tileBytes * n) × ((t : ℕ) → t < n → settingsFit (now table) (settingsAt (now settings) t) ≡ true) ⌝ }
+    requires { ⌜ (n ≤ 64) × TableRules logicTile (now table) × (length (now settings) ≡ settingsLength * n) × (length (now bits) ≡ tileNumbers * n) × ((t : ℕ) → t < n → settingsFit (now table) (settingsAt (now settings) t) ≡ true) ⌝ }
     ensures { λ r. ⌜ now (bits .exit) ≡ encoded (now (table .entry)) (now (settings .entry)) n ⌝ }
 {
     let mut t = 0;
     while t < n {
         let start = SETTINGS_LENGTH * t;
         let end = start + SETTINGS_LENGTH;
-        let from = TILE_BYTES * t;
-        let to = from + TILE_BYTES;
+        let from = TILE_NUMBERS * t;
+        let to = from + TILE_NUMBERS;
         tile::encode_tile(table, &settings[start..end], &mut bits[from..to]);
         t += 1;
     }

@@ -7,12 +7,15 @@ ghost use mathlib.Core.Path.{_≡_};
 ghost use lib.ListN.{length};
 ghost use Rattle.refusal.specs.Grounds.{answerNumber};
 ghost use Rattle.refusal.specs.Memory.{output};
-ghost use Rattle.fabric.specs.Block.{block, tiles};
+ghost use Rattle.ports.specs.Block.{tileCount};
 ghost use Rattle.config.specs.Blocks.{decoded, encoded, tilesOf};
 ghost use Rattle.config.specs.Entry.{readAnswer, writeAnswer, bitCountAnswer};
-ghost use Rattle.config.specs.Meaning.{ReadSays, WriteSays};
-use codec::bits::TILE_BYTES;
-use fabric::Block;
+ghost use Rattle.config.specs.Meaning.{ReadSays};
+ghost use Rattle.config.specs.WriteMeaning.{WriteSays};
+use ports::lengths::TILE_NUMBERS;
+use ports::lengths::bits_length;
+use ports::size::Size;
+use ports::size::is_allowed;
 use refusal::Answer;
 use refusal::Refusal;
 
@@ -28,14 +31,14 @@ pub enum BitCount {
 
 // Reads a block's bits to its settings. Grounds 1 to 4, in this order (`readAnswer`).
 // Rules out: refusing every block; settings written on a no; the same settings for all bits.
-pub fn read(w: u32, h: u32, table: &[u16], bits: &[u8], settings: &mut [u16]) -> Answer
-    ensures answer { λ r. ⌜ r ≡ readAnswer w h (now (table .entry)) (now (bits .entry)) (length (now (settings .entry))) ⌝ }
-    ensures settings { λ r. ⌜ now (settings .exit) ≡ output (answerNumber r) (now (settings .entry)) (decoded (now (table .entry)) (tilesOf (now (bits .entry))) (tiles (block w h))) ⌝ }
-    ensures says { λ r. ⌜ ReadSays w h (now (table .entry)) (now (bits .entry)) (now (settings .entry)) (now (settings .exit)) r ⌝ }
+pub fn read(s: Size, table: &[u16], bits: &[u8], settings: &mut [u16]) -> Answer
+    ensures answer { λ r. ⌜ r ≡ readAnswer s (now (table .entry)) (now (bits .entry)) (length (now (settings .entry))) ⌝ }
+    ensures settings { λ r. ⌜ now (settings .exit) ≡ output (answerNumber r) (now (settings .entry)) (decoded (now (table .entry)) (tilesOf (now (bits .entry))) (tileCount s)) ⌝ }
+    ensures says { λ r. ⌜ ReadSays s (now (table .entry)) (now (bits .entry)) (now (settings .entry)) (now (settings .exit)) r ⌝ }
 {
     let len = settings.len();
     let mut room = room::settings_room();
-    let can_read = checks::read_checks(w, h, table, bits, len, &mut room);
+    let can_read = checks::read_checks(s, table, bits, len, &mut room);
     let Answer::Done = can_read else {
         return can_read;
     };
@@ -45,37 +48,37 @@ pub fn read(w: u32, h: u32, table: &[u16], bits: &[u8], settings: &mut [u16]) ->
 
 // Writes a block's settings as bits. Grounds 1, 2, 3, 9, in this order (`writeAnswer`).
 // Rules out: writing nothing; bits of settings that no bits have; bits written on a no.
-pub fn write(w: u32, h: u32, table: &[u16], settings: &[u16], bits: &mut [u8]) -> Answer
-    ensures answer { λ r. ⌜ r ≡ writeAnswer w h (now (table .entry)) (now (settings .entry)) (length (now (bits .entry))) ⌝ }
-    ensures bits { λ r. ⌜ now (bits .exit) ≡ output (answerNumber r) (now (bits .entry)) (encoded (now (table .entry)) (now (settings .entry)) (tiles (block w h))) ⌝ }
-    ensures says { λ r. ⌜ WriteSays w h (now (table .entry)) (now (settings .entry)) (now (bits .entry)) (now (bits .exit)) r ⌝ }
+pub fn write(s: Size, table: &[u16], settings: &[u16], bits: &mut [u8]) -> Answer
+    ensures answer { λ r. ⌜ r ≡ writeAnswer s (now (table .entry)) (now (settings .entry)) (length (now (bits .entry))) ⌝ }
+    ensures bits { λ r. ⌜ now (bits .exit) ≡ output (answerNumber r) (now (bits .entry)) (encoded (now (table .entry)) (now (settings .entry)) (tileCount s)) ⌝ }
+    ensures says { λ r. ⌜ WriteSays s (now (table .entry)) (now (settings .entry)) (now (bits .entry)) (now (bits .exit)) r ⌝ }
 {
     let len = bits.len();
-    let can_write = checks::write_checks(w, h, table, settings, len);
+    let can_write = checks::write_checks(s, table, settings, len);
     let Answer::Done = can_write else {
         return can_write;
     };
-    blocks::encode_block(table, settings, bits, (h * w) as usize);
+    blocks::encode_block(table, settings, bits, (s.h * s.w) as usize);
     Answer::Done
 }
 
 // How many of a tile's bits are set. Grounds 1, 2, 20, in this order (`bitCountAnswer`). It takes no table and counts undecodable tiles too.
 // Rules out: counting the whole block; counting bytes.
-pub fn bit_count(w: u32, h: u32, bits: &[u8], tile: u32) -> BitCount
-    ensures { λ r. ⌜ r ≡ bitCountAnswer w h (now (bits .entry)) tile ⌝ }
+pub fn bit_count(s: Size, bits: &[u8], tile: u32) -> BitCount
+    ensures { λ r. ⌜ r ≡ bitCountAnswer s (now (bits .entry)) tile ⌝ }
 {
-    if !fabric::is_sized(Block { w, h }) {
-        return BitCount::Refused(Refusal::Size);
+    if !is_allowed(s) {
+        return BitCount::Refused(Refusal::WrongSize);
     }
-    let n = (h * w) as usize;
-    if bits.len() != TILE_BYTES * n {
-        return BitCount::Refused(Refusal::Length);
+    let n = (s.h * s.w) as usize;
+    if bits.len() != bits_length(s) {
+        return BitCount::Refused(Refusal::WrongLength);
     }
     let t = tile as usize;
     if n <= t {
         return BitCount::Refused(Refusal::OutOfRange(tile));
     }
-    let from = TILE_BYTES * t;
-    let to = from + TILE_BYTES;
+    let from = TILE_NUMBERS * t;
+    let to = from + TILE_NUMBERS;
     BitCount::Set(codec::bits::count_bits(&bits[from..to]))
 }

@@ -13,8 +13,8 @@ use borrow.Author.Tests.{eqb-true, lt-ltb, le-ltb}
 use Rattle.lists.specs.Search.{first, all}
 use Rattle.lists.proofs.CaseLaws.{cases, lt-or-le, and-false-right}
 use Rattle.lists.proofs.SearchLaws.{first-none, first-ext}
-use Rattle.fabric.specs.declared.Block.{Block}
-use Rattle.fabric.specs.Block.{ports}
+use Rattle.ports.specs.declared.size.Block.{Block}
+use Rattle.ports.specs.Lengths.{ports}
 use Rattle.netlist.specs.declared.row.Row.{Row}
 use Rattle.netlist.specs.Rows.{operandOf, arityOf}
 use Rattle.equations.specs.declared.drives.Drive.{Drive}

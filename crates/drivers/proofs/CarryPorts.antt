@@ -5,14 +5,14 @@ use mathlib.Core.Bool.{Bool, true, false, cond, _&&_}
 use mathlib.Core.List.{List}
 use native.Mathlib.Omega.{arith}
 use lib.Dec.{ltb}
-use Rattle.fabric.specs.declared.Block.{Block}
-use Rattle.fabric.specs.declared.ports.Port.{Port}
-use Rattle.fabric.specs.declared.ports.Port.the-variants.{Sp4HL, Sp4HR, Sp4VT, Sp4VB, Sp4RVB, Sp12HL, Sp12HR, Sp12VT, Sp12VB, Local, Glb2Local, In, Out, NeighOp, Clk, Cen, SR, GlbNetwk, CarryIn, CarryInMux, Cout, Lout, Ltin}
-use Rattle.fabric.specs.Block.{portsPerTile}
-use Rattle.fabric.specs.Ports.{portAt}
-use Rattle.fabric.specs.PortIndex.{carryIn}
-use Rattle.fabric.specs.PortNames.{indexOf}
-use Rattle.fabric.proofs.PortLaws.{port-at-back}
+use Rattle.ports.specs.declared.size.Block.{Block}
+use Rattle.ports.specs.declared.Port.{Port}
+use Rattle.ports.specs.declared.Port.the-variants.{Sp4HL, Sp4HR, Sp4VT, Sp4VB, Sp4RVB, Sp12HL, Sp12HR, Sp12VT, Sp12VB, Local, Glb2Local, In, Out, NeighOp, Clk, Cen, SR, GlbNetwk, CarryIn, CarryInMux, Cout, Lout, Ltin}
+use Rattle.ports.specs.Lengths.{portsPerTile}
+use Rattle.ports.specs.Ports.{portAt}
+use Rattle.ports.specs.PortIndex.{carryIn}
+use Rattle.ports.specs.PortNames.{indexOf}
+use Rattle.ports.proofs.PortLaws.{port-at-back}
 use Rattle.equations.specs.declared.drives.Drive.the-variants.{Nothing, CellOut}
 use Rattle.equations.specs.Drives.{outputDrive, driveAt, driveOf}
 use Rattle.drivers.specs.CarryReads.{isDisabledCarry}

@@ -8,9 +8,10 @@ use native.Mathlib.Omega.{arith}
 use lib.Dec.{eqb}
 use borrow.Author.Tests.{eq-eqb, eqb-true, not-true}
 use Rattle.lists.proofs.CaseLaws.{cases, clash, lt-or-le, and-left, and-right, and-true}
-use Rattle.fabric.specs.declared.Block.{Block}
-use Rattle.fabric.specs.Block.{tiles, ports, portsPerTile}
-use Rattle.fabric.specs.PortIndex.{inPort, coutPort, carryInMux}
+use Rattle.ports.specs.declared.size.Block.{Block}
+use Rattle.ports.specs.Block.{tiles}
+use Rattle.ports.specs.Lengths.{ports, portsPerTile}
+use Rattle.ports.specs.PortIndex.{inPort, coutPort, carryInMux}
 use Rattle.netlist.specs.declared.row.Row.{Row}
 use Rattle.netlist.specs.Graph.{Reads}
 use Rattle.netlist.specs.Rows.{operandOf, arityOf}

@@ -7,10 +7,11 @@ use mathlib.Core.List.{List}
 use native.Mathlib.Omega.{arith}
 use borrow.Author.Tests.{not-true}
 use Rattle.lists.proofs.CaseLaws.{clash, and-left, and-right, and-true, or-is, or-right}
-use Rattle.fabric.specs.declared.Block.{Block}
-use Rattle.fabric.specs.Block.{tiles, portsPerTile}
-use Rattle.fabric.specs.PortIndex.{clk, sR}
-use Rattle.fabric.proofs.BlockLaws.{port-of-lt}
+use Rattle.ports.specs.declared.size.Block.{Block}
+use Rattle.ports.specs.Block.{tiles}
+use Rattle.ports.specs.Lengths.{portsPerTile}
+use Rattle.ports.specs.PortIndex.{clk, sR}
+use Rattle.ports.proofs.BlockLaws.{port-of-lt}
 use Rattle.fabric.proofs.WireLaws.{wire-within, wire-idempotent}
 use Rattle.equations.specs.Tiles.{flopOn}
 use Rattle.equations.specs.Switches.{NoContention}

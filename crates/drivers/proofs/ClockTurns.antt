@@ -7,8 +7,8 @@ use types.Run.{OneOf, miss}
 use denote.Enum.Declared.{tagOf}
 use Rattle.lists.specs.Search.{all}
 use Rattle.lists.proofs.SearchLaws.{all-turn-hit, all-turn-skip, all-turn-end}
-use Rattle.fabric.specs.declared.Block.{Block}
-use Rattle.fabric.specs.PortIndex.{clk, sR}
+use Rattle.ports.specs.declared.size.Block.{Block}
+use Rattle.ports.specs.PortIndex.{clk, sR}
 use Rattle.equations.specs.Tiles.{flopOn}
 use Rattle.drivers.specs.declared.follow.Driver.{Driver}
 use Rattle.drivers.specs.declared.follow.Driver.the-variants.{Open, Constant, Cell, Ring}

@@ -10,8 +10,8 @@ use lib.ListN.{length, getD}
 use Rattle.lists.specs.Tables.{zeros}
 use Rattle.lists.proofs.CaseLaws.{clash, lt-or-le}
 use Rattle.lists.proofs.SearchLaws.{first-true, first-before}
-use Rattle.fabric.specs.declared.Block.{Block}
-use Rattle.fabric.specs.Block.{ports}
+use Rattle.ports.specs.declared.size.Block.{Block}
+use Rattle.ports.specs.Lengths.{ports}
 use Rattle.fabric.specs.Wire.{wireOf}
 use Rattle.netlist.specs.Marks.{listed}
 use Rattle.equations.specs.declared.drives.Drive.{Drive}

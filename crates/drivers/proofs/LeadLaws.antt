@@ -9,8 +9,8 @@ use lib.ListN.{length, getD}
 use borrow.Author.Tests.{lt-ltb, le-ltb}
 use Rattle.lists.proofs.CaseLaws.{lt-or-le}
 use Rattle.lists.proofs.TableLaws.{tabulate-length, tabulate-zero, tabulate-past}
-use Rattle.fabric.specs.declared.Block.{Block}
-use Rattle.fabric.specs.Block.{ports}
+use Rattle.ports.specs.declared.size.Block.{Block}
+use Rattle.ports.specs.Lengths.{ports}
 use Rattle.fabric.specs.Wire.{wireOf}
 use Rattle.fabric.proofs.WireLaws.{wire-idempotent}
 use Rattle.equations.specs.Switches.{switches, origin, Ends, NoContention}

@@ -3,10 +3,11 @@ use Prim.Native.Nat.{ℕ, _+_, _*_, _/_, _%_, _<_}
 use mathlib.Core.Path.{_≡_, refl, sym, _∙_, ap}
 use mathlib.Core.List.{List}
 use native.Mathlib.Omega.{arith}
-use Rattle.fabric.specs.declared.Block.{Block}
-use Rattle.fabric.specs.Block.{tiles, ports, portOf, portsPerTile}
+use Rattle.ports.specs.declared.size.Block.{Block}
+use Rattle.ports.specs.Block.{tiles, portOf}
+use Rattle.ports.specs.Lengths.{ports, portsPerTile}
 use Rattle.fabric.specs.Wire.{wireOf}
-use Rattle.fabric.proofs.BlockLaws.{port-of-lt}
+use Rattle.ports.proofs.BlockLaws.{port-of-lt}
 use Rattle.equations.specs.declared.drives.Drive.{Drive}
 use Rattle.equations.specs.declared.drives.Drive.the-variants.{Nothing, Low, High, CellOut, CellLout, CellCout, CarryMux}
 use Rattle.equations.specs.Switches.{NoSwitch}

@@ -7,11 +7,12 @@ use mathlib.Core.Logic.{_≢_}
 use mathlib.Core.List.{List}
 use native.Mathlib.Omega.{arith}
 use borrow.Author.Tests.{eq-eqb, ne-eqb, lt-ltb, le-ltb}
-use Rattle.fabric.specs.declared.Block.{Block}
-use Rattle.fabric.specs.Block.{tiles, ports, portOf}
+use Rattle.ports.specs.declared.size.Block.{Block}
+use Rattle.ports.specs.Block.{tiles, portOf}
+use Rattle.ports.specs.Lengths.{ports, maxGroups, maxEntries}
 use Rattle.fabric.specs.Wire.{wireOf}
 use Rattle.routing.specs.LogicTile.{logicTile}
-use Rattle.routing.specs.Table.{maxGroups, maxEntries, groupCount, destinationOf, sourceAt}
+use Rattle.routing.specs.Table.{groupCount, destinationOf, sourceAt}
 use Rattle.equations.specs.Tiles.{groupOf}
 use Rattle.equations.specs.Switches.{switches, tileOf, groupIn, enabled, target, origin}
 use Rattle.equations.specs.Sources.{Sourced}

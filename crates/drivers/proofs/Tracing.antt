@@ -11,7 +11,7 @@ use Rattle.lists.specs.Search.{first}
 use Rattle.lists.specs.Tables.{zeros}
 use Rattle.lists.proofs.SearchLaws.{first-le}
 use Rattle.lists.proofs.TableLaws.{zeros-length}
-use Rattle.fabric.specs.declared.Block.{Block}
+use Rattle.ports.specs.declared.size.Block.{Block}
 use Rattle.netlist.specs.Marks.{listed, unmarked}
 use Rattle.netlist.proofs.MarkLaws.{unmarked-zeros}
 use Rattle.drivers.specs.declared.follow.Trace.{Trace}

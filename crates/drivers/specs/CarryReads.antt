@@ -4,8 +4,8 @@ use mathlib.Core.Bool.{Bool, false, not, cond, _&&_}
 use mathlib.Core.List.{List}
 use lib.Dec.{eqb, ltb}
 use Rattle.lists.specs.Search.{first, all}
-use Rattle.fabric.specs.declared.Block.{Block}
-use Rattle.fabric.specs.Block.{ports}
+use Rattle.ports.specs.declared.size.Block.{Block}
+use Rattle.ports.specs.Lengths.{ports}
 use Rattle.netlist.specs.declared.row.Row.{Row}
 use Rattle.netlist.specs.Rows.{operandOf, arityOf}
 use Rattle.equations.specs.declared.drives.Drive.{Drive}

@@ -5,9 +5,9 @@ use mathlib.Core.Bool.{Bool, true, false, not, _&&_, _||_}
 use mathlib.Core.List.{List}
 use Rattle.lists.specs.Search.{first, all}
 use Rattle.digits.specs.Digits.{isSet}
-use Rattle.fabric.specs.declared.Block.{Block}
-use Rattle.fabric.specs.Block.{tiles, portOf}
-use Rattle.fabric.specs.PortIndex.{clk, sR}
+use Rattle.ports.specs.declared.size.Block.{Block}
+use Rattle.ports.specs.Block.{tiles, portOf}
+use Rattle.ports.specs.PortIndex.{clk, sR}
 use Rattle.fabric.specs.Wire.{wireOf}
 use Rattle.equations.specs.Tiles.{flagsAt, flopOn}
 use Rattle.equations.specs.Equations.{wire}

@@ -10,9 +10,9 @@ use lib.Dec.{eqb}
 use lib.ListN.{length, getD, set}
 use Rattle.lists.specs.Search.{first}
 use Rattle.lists.specs.Tables.{zeros}
-use Rattle.fabric.specs.declared.Block.{Block}
-use Rattle.fabric.specs.Block.{tiles}
-use Rattle.fabric.specs.PortIndex.{outPort, loutPort, coutPort, carryInMux, cen}
+use Rattle.ports.specs.declared.size.Block.{Block}
+use Rattle.ports.specs.Block.{tiles}
+use Rattle.ports.specs.PortIndex.{outPort, loutPort, coutPort, carryInMux, cen}
 use Rattle.netlist.specs.Marks.{listed}
 use Rattle.equations.specs.declared.drives.Drive.{Drive}
 use Rattle.equations.specs.declared.drives.Drive.the-variants.{Nothing, Low, High, CellOut, CellLout, CellCout, CarryMux}

@@ -2,9 +2,9 @@
 ghost use mathlib.Core.Path.{_≡_};
 ghost use Prim.Native.Nat.{_*_, _<_};
 ghost use lib.ListN.{length};
-ghost use Rattle.fabric.specs.Block.{Sized, tiles, ports};
+ghost use Rattle.ports.specs.Block.{Sized, tiles};
+ghost use Rattle.ports.specs.Lengths.{ports, settingsLength};
 ghost use Rattle.routing.specs.LogicTile.{logicTile};
-ghost use Rattle.codec.specs.Settings.{settingsLength};
 ghost use Rattle.netlist.specs.Rows.{arityOf};
 ghost use Rattle.equations.specs.Routed.{Routed, Driven};
 ghost use Rattle.equations.specs.WireRows.{wireRows};
@@ -13,17 +13,17 @@ use equations::drives::Drive;
 use equations::drives::drive_of;
 use equations::tiles::PORTS_PER_TILE;
 use equations::tiles::cell_at;
-use fabric::Block;
 use netlist::row;
 use netlist::row::Row;
+use ports::size::Block;
 
-const PORTS: u16 = fabric::ports::PORTS_PER_TILE as u16;
+const PORTS: u16 = ports::lengths::PORTS_PER_TILE as u16;
 
-const CARRY_IN: u16 = fabric::ports::CARRY_IN as u16;
+const CARRY_IN: u16 = ports::CARRY_IN as u16;
 
 // Whether what drives a wire is the cout of a cell whose carry is disabled.
 fn is_disabled_carry(b: Block, st: &[u16], d: Drive) -> bool
-    requires { ⌜ (length (now st) ≡ settingsLength logicTile * tiles b) × Driven b d ⌝ }
+    requires { ⌜ (length (now st) ≡ settingsLength * tiles b) × Driven b d ⌝ }
     ensures { λ r. ⌜ r ≡ isDisabledCarry (now (st .entry)) d ⌝ }
 {
     match d {
@@ -37,7 +37,7 @@ fn is_disabled_carry(b: Block, st: &[u16], d: Drive) -> bool
 
 // The lowest so far, and wire w. No port before carry_in has a cout's wire.
 fn lower_carry(b: Block, st: &[u16], low: usize, w: u16) -> usize
-    requires { ⌜ Sized b × (length (now st) ≡ settingsLength logicTile * tiles b) × (w < ports b) ⌝ }
+    requires { ⌜ Sized b × (length (now st) ≡ settingsLength * tiles b) × (w < ports b) ⌝ }
     ensures { λ r. ⌜ r ≡ lowerCarry b (now (st .entry)) low w ⌝ }
 {
     if w % PORTS < CARRY_IN {
@@ -55,7 +55,7 @@ fn lower_carry(b: Block, st: &[u16], low: usize, w: u16) -> usize
 
 // The lowest so far, and what a row reads.
 fn lower_carries(b: Block, st: &[u16], low: usize, row: Row) -> usize
-    requires { ⌜ Sized b × (length (now st) ≡ settingsLength logicTile * tiles b) × OperandsWithin b row ⌝ }
+    requires { ⌜ Sized b × (length (now st) ≡ settingsLength * tiles b) × OperandsWithin b row ⌝ }
     ensures { λ r. ⌜ r ≡ lowerCarries b (now (st .entry)) row low (arityOf row) ⌝ }
 {
     let n = row::arity(row);

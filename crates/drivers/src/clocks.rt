@@ -3,7 +3,8 @@ ghost use mathlib.Core.Path.{_≡_};
 ghost use mathlib.Core.Bool.{not, _&&_};
 ghost use Prim.Native.Nat.{_<_};
 ghost use lib.ListN.{length};
-ghost use Rattle.fabric.specs.Block.{tiles, ports, portsPerTile};
+ghost use Rattle.ports.specs.Block.{tiles};
+ghost use Rattle.ports.specs.Lengths.{ports, portsPerTile};
 ghost use Rattle.equations.specs.Tiles.{TileInside, flopOn};
 ghost use Rattle.equations.specs.Routed.{Mapped};
 ghost use Rattle.drivers.specs.Following.{Bounded};
@@ -12,9 +13,8 @@ use crate::follow::Driver;
 use crate::follow::driver_of;
 use equations::tiles::cell_at;
 use equations::tiles::wire_at;
-use fabric::Block;
-use fabric::ports;
 use netlist::row::wide;
+use ports::size::Block;
 
 const CELLS: usize = 8;
 

@@ -4,14 +4,15 @@ ghost use Prim.Native.Nat.{suc, _<_, _≤_};
 ghost use lib.ListN.{length, getD};
 ghost use Rattle.lists.specs.Search.{first};
 ghost use Rattle.lists.specs.Tables.{zeros};
-ghost use Rattle.fabric.specs.Block.{Sized, ports};
+ghost use Rattle.ports.specs.Block.{Sized};
+ghost use Rattle.ports.specs.Lengths.{ports};
 ghost use Rattle.netlist.specs.Marks.{listed};
 ghost use Rattle.drivers.specs.declared.follow.Trace.the-variants.{End};
 ghost use Rattle.drivers.specs.Following.{Bounded, endDriver, traced, tracedMarks, ringLowest, driverOf};
 use equations::drives::Drive;
 use equations::drives::drive_of;
-use fabric::Block;
 use netlist::row::wide;
+use ports::size::Block;
 
 // How many steps a walk goes without marks.
 const SHORT: usize = 64;

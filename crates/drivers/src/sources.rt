@@ -2,16 +2,17 @@
 ghost use mathlib.Core.Path.{_≡_};
 ghost use Prim.Native.Nat.{_+_, _*_, _<_};
 ghost use lib.ListN.{length};
-ghost use Rattle.fabric.specs.Block.{tiles, ports};
+ghost use Rattle.ports.specs.Block.{tiles};
+ghost use Rattle.ports.specs.Lengths.{ports, maxGroups};
 ghost use Rattle.fabric.specs.Wire.{wiresOf};
 ghost use Rattle.routing.specs.LogicTile.{logicTile};
-ghost use Rattle.routing.specs.Table.{maxGroups, groupCount};
+ghost use Rattle.routing.specs.Table.{groupCount};
 ghost use Rattle.equations.specs.Routed.{Routed};
 ghost use Rattle.equations.specs.Sources.{sourcesOf, contendedWire, Sourced};
 use equations::tiles::group_at;
 use equations::tiles::wire_at;
-use fabric::Block;
 use netlist::row::wide;
+use ports::size::Block;
 use routing::table;
 
 // One switch more: that of group g of a tile. The answer is the lowest wire on which two end so far.

@@ -7,11 +7,12 @@ use mathlib.Core.Logic.{⊎-elim, _↔_}
 use mathlib.Core.List.{List}
 use native.Mathlib.Omega.{arith}
 use Rattle.lists.proofs.CaseLaws.{lt-or-le}
-use Rattle.fabric.specs.declared.Block.{Block}
-use Rattle.fabric.specs.Block.{tiles, ports, portOf, portsPerTile}
-use Rattle.fabric.specs.PortIndex.{inPort, outPort, coutPort, loutPort, carryIn, carryInMux}
+use Rattle.ports.specs.declared.size.Block.{Block}
+use Rattle.ports.specs.Block.{tiles, portOf}
+use Rattle.ports.specs.Lengths.{ports, portsPerTile}
+use Rattle.ports.specs.PortIndex.{inPort, outPort, coutPort, loutPort, carryIn, carryInMux}
 use Rattle.fabric.specs.Wire.{wireOf}
-use Rattle.fabric.proofs.BlockLaws.{port-of-lt}
+use Rattle.ports.proofs.BlockLaws.{port-of-lt}
 use Rattle.fabric.proofs.WireLaws.{wire-within, wire-idempotent}
 use Rattle.netlist.specs.declared.row.Row.{Row}
 use Rattle.netlist.specs.Graph.{Reads, DependsOn, reads, via, Closed}

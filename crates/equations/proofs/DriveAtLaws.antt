@@ -9,11 +9,11 @@ use borrow.Author.Tests.{lt-ltb, le-ltb}
 use types.Run.{OneOf, miss}
 use denote.Enum.Declared.{tagOf}
 use Rattle.lists.proofs.CaseLaws.{and-false-right}
-use Rattle.fabric.specs.declared.Block.{Block}
-use Rattle.fabric.specs.declared.ports.Port.{Port}
-use Rattle.fabric.specs.declared.ports.Port.the-variants.{Sp4HL, Sp4HR, Sp4VT, Sp4VB, Sp4RVB, Sp12HL, Sp12HR, Sp12VT, Sp12VB, Local, Glb2Local, In, Out, NeighOp, Clk, Cen, SR, GlbNetwk, CarryIn, CarryInMux, Cout, Lout, Ltin}
-use Rattle.fabric.specs.Block.{Sized}
-use Rattle.fabric.proofs.ports.Port.{the-type}
+use Rattle.ports.specs.declared.size.Block.{Block}
+use Rattle.ports.specs.declared.Port.{Port}
+use Rattle.ports.specs.declared.Port.the-variants.{Sp4HL, Sp4HR, Sp4VT, Sp4VB, Sp4RVB, Sp12HL, Sp12HR, Sp12VT, Sp12VB, Local, Glb2Local, In, Out, NeighOp, Clk, Cen, SR, GlbNetwk, CarryIn, CarryInMux, Cout, Lout, Ltin}
+use Rattle.ports.specs.Block.{Sized}
+use Rattle.ports.proofs.Port.{the-type}
 use Rattle.equations.specs.declared.drives.Drive.{Drive}
 use Rattle.equations.specs.declared.drives.Drive.the-variants.{Nothing, CellOut}
 use Rattle.equations.specs.Drives.{outputDrive, belowDrive, driveAt}

@@ -6,17 +6,18 @@ use native.Mathlib.Omega.{arith}
 use native.Mathlib.Nat.{div-add-mod'}
 use lib.Arith.{digits-div, digits-mod}
 use borrow.Author.Tests.{lt-ltb}
-use Rattle.fabric.specs.declared.Block.{Block}
-use Rattle.fabric.specs.declared.ports.Port.{Port}
-use Rattle.fabric.specs.declared.ports.Port.the-variants.{Sp4HL, Sp4HR, Sp4VT, Sp4VB, Sp4RVB, Sp12HL, Sp12HR, Sp12VT, Sp12VB, Local, Glb2Local, In, Out, NeighOp, Clk, Cen, SR, GlbNetwk, CarryIn, CarryInMux, Cout, Lout, Ltin}
-use Rattle.fabric.specs.Block.{port, ports, portOf, portsPerTile}
-use Rattle.fabric.specs.PortIndex.{outPort, coutPort, loutPort, carryInMux, cen, outputAt}
-use Rattle.fabric.specs.PortNames.{indexOf, Neighbour, Within}
+use Rattle.ports.specs.declared.size.Block.{Block}
+use Rattle.ports.specs.declared.Port.{Port}
+use Rattle.ports.specs.declared.Port.the-variants.{Sp4HL, Sp4HR, Sp4VT, Sp4VB, Sp4RVB, Sp12HL, Sp12HR, Sp12VT, Sp12VB, Local, Glb2Local, In, Out, NeighOp, Clk, Cen, SR, GlbNetwk, CarryIn, CarryInMux, Cout, Lout, Ltin}
+use Rattle.ports.specs.Block.{port, portOf}
+use Rattle.ports.specs.Lengths.{ports, portsPerTile}
+use Rattle.ports.specs.PortIndex.{outPort, coutPort, loutPort, carryInMux, cen, outputAt}
+use Rattle.ports.specs.PortNames.{indexOf, Neighbour, Within}
 use Rattle.fabric.specs.Span.{flip}
 use Rattle.fabric.specs.Joins.{Join, Linked, same, one, back, on, sp4-h-side, sp4-h-in, sp4-v-side, sp4-v-in, sp4-right, sp12-h-side, sp12-h-in, sp12-v-side, sp12-v-in, neigh-bnl, neigh-bot, neigh-bnr, neigh-lft, neigh-rgt, neigh-tnl, neigh-top, neigh-tnr, global, carry-chain, lut-cascade}
 use Rattle.fabric.specs.Wire.{wireOf}
 use Rattle.fabric.proofs.FlipLaws.{flip-lt}
-use Rattle.fabric.proofs.PortLaws.{neighbour, index-back}
+use Rattle.ports.proofs.PortLaws.{neighbour, index-back}
 use Rattle.fabric.proofs.NeighbourLaws.{output-at-lt}
 use Rattle.fabric.proofs.WireLaws.{wire-linked}
 use Rattle.equations.specs.declared.drives.Drive.the-variants.{Low, High, CellOut, CellLout, CellCout, CarryMux}

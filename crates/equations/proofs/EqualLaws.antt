@@ -5,11 +5,12 @@ use mathlib.Core.Bool.{true}
 use mathlib.Core.List.{List}
 use native.Mathlib.Omega.{arith}
 use lib.ListN.{getD}
-use Rattle.fabric.specs.declared.Block.{Block}
-use Rattle.fabric.specs.Block.{tiles, ports, portOf, portsPerTile}
-use Rattle.fabric.specs.PortIndex.{inPort, outPort, coutPort, loutPort, carryIn, carryInMux, cen}
+use Rattle.ports.specs.declared.size.Block.{Block}
+use Rattle.ports.specs.Block.{tiles, portOf}
+use Rattle.ports.specs.Lengths.{ports, portsPerTile}
+use Rattle.ports.specs.PortIndex.{inPort, outPort, coutPort, loutPort, carryIn, carryInMux, cen}
 use Rattle.fabric.specs.Wire.{wireOf}
-use Rattle.fabric.proofs.BlockLaws.{port-of-lt}
+use Rattle.ports.proofs.BlockLaws.{port-of-lt}
 use Rattle.fabric.proofs.WireLaws.{wire-within, wire-idempotent}
 use Rattle.cell.specs.Lookup.{majority}
 use Rattle.netlist.specs.declared.row.Row.{Row}

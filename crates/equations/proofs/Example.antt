@@ -6,8 +6,8 @@ use mathlib.Core.List.{List, [], _∷_, _++_}
 use native.Mathlib.Omega.{arith}
 use Rattle.lists.specs.Search.{first}
 use Rattle.lists.specs.Tables.{zeros}
-use Rattle.fabric.specs.Block.{block}
-use Rattle.fabric.specs.Ports.{portAt}
+use Rattle.ports.specs.Block.{block}
+use Rattle.ports.specs.Ports.{portAt}
 use Rattle.fabric.specs.Span.{walk, flip}
 use Rattle.fabric.specs.Wire.{wireOf, wireAt}
 use Rattle.netlist.specs.Rows.{numbersOf}

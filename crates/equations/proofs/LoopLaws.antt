@@ -5,8 +5,8 @@ use mathlib.Core.Logic.{⊎-elim, _↔_}
 use mathlib.Core.List.{List}
 use native.Mathlib.Omega.{arith}
 use Rattle.lists.proofs.CaseLaws.{lt-or-le}
-use Rattle.fabric.specs.declared.Block.{Block}
-use Rattle.fabric.specs.Block.{ports}
+use Rattle.ports.specs.declared.size.Block.{Block}
+use Rattle.ports.specs.Lengths.{ports}
 use Rattle.netlist.specs.Graph.{LowestLoop}
 use Rattle.netlist.specs.Order.{AllListed}
 use Rattle.netlist.proofs.OrderLaws.{order-exact}

@@ -9,8 +9,8 @@ use native.Mathlib.Nat.{zero-add}
 use lib.Dec.{leb}
 use borrow.Author.Tests.{lt-ltb, le-ltb, lt-leb}
 use Rattle.lists.proofs.CaseLaws.{and-false-right}
-use Rattle.fabric.specs.Block.{portsPerTile}
-use Rattle.fabric.specs.PortIndex.{cen}
+use Rattle.ports.specs.Lengths.{portsPerTile}
+use Rattle.ports.specs.PortIndex.{cen}
 use Rattle.routing.specs.LogicTile.{isDestination}
 use Rattle.equations.specs.Equations.{ZeroPort, in-port, clk-port, s-r-port, local-port, glb2local-port, OpenPort, span-port, neigh-op-port, glb-netwk-port, carry-in-port, ltin-port}
 

@@ -9,17 +9,19 @@ use native.Mathlib.Nat.{mul-le-mul-right}
 use lib.Dec.{ltb}
 use borrow.Author.Tests.{ltb-true}
 use Rattle.lists.proofs.CaseLaws.{clash}
-use Rattle.fabric.specs.declared.Block.{Block}
-use Rattle.fabric.specs.declared.ports.Port.{Port}
-use Rattle.fabric.specs.declared.ports.Port.the-variants.{Sp4HL, Sp4HR, Sp4VT, Sp4VB, Sp4RVB, Sp12HL, Sp12HR, Sp12VT, Sp12VB, Local, Glb2Local, In, Out, NeighOp, Clk, Cen, SR, GlbNetwk, CarryIn, CarryInMux, Cout, Lout, Ltin}
-use Rattle.fabric.specs.Block.{port, ports, portOf, portsPerTile, tiles}
-use Rattle.fabric.specs.PortIndex.{localPort, outPort, coutPort, loutPort, carryIn, carryInMux, ltin, cen, outputAt}
-use Rattle.fabric.specs.Ports.{portAt}
-use Rattle.fabric.specs.PortNames.{indexOf, Neighbour, Within}
+use Rattle.ports.specs.declared.size.Block.{Block}
+use Rattle.ports.specs.declared.Port.{Port}
+use Rattle.ports.specs.declared.Port.the-variants.{Sp4HL, Sp4HR, Sp4VT, Sp4VB, Sp4RVB, Sp12HL, Sp12HR, Sp12VT, Sp12VB, Local, Glb2Local, In, Out, NeighOp, Clk, Cen, SR, GlbNetwk, CarryIn, CarryInMux, Cout, Lout, Ltin}
+use Rattle.ports.specs.Block.{port, portOf, tiles}
+use Rattle.ports.specs.Lengths.{ports, portsPerTile}
+use Rattle.ports.specs.PortIndex.{localPort, outPort, coutPort, loutPort, carryIn, carryInMux, ltin, cen, outputAt}
+use Rattle.ports.specs.Ports.{portAt}
+use Rattle.ports.specs.PortNames.{indexOf, Neighbour, Within}
 use Rattle.fabric.specs.Joins.{carry-chain, lut-cascade}
 use Rattle.fabric.specs.Wire.{wireOf, wireAt}
-use Rattle.fabric.proofs.PortLaws.{port-at-back, port-at-within}
-use Rattle.fabric.proofs.PlaceLaws.{wire-name, tile-column-lt, tile-row-lt, port-place}
+use Rattle.ports.proofs.PortLaws.{port-at-back, port-at-within}
+use Rattle.fabric.proofs.PlaceLaws.{wire-name}
+use Rattle.ports.proofs.PlaceLaws.{tile-column-lt, tile-row-lt, port-place}
 use Rattle.fabric.proofs.NeighbourLaws.{output-at-lt}
 use Rattle.fabric.proofs.OutputLaws.{output-same}
 use Rattle.fabric.proofs.JoinLaws.{join-same}

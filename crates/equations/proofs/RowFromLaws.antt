@@ -7,9 +7,10 @@ use native.Mathlib.Omega.{arith}
 use native.Mathlib.Nat.{add-zero}
 use lib.ListN.{getD}
 use borrow.Author.Tests.{eq-eqb, ne-eqb}
-use Rattle.fabric.specs.declared.Block.{Block}
-use Rattle.fabric.specs.Block.{ports, portOf, portsPerTile}
-use Rattle.fabric.specs.PortIndex.{carryInMux, coutPort}
+use Rattle.ports.specs.declared.size.Block.{Block}
+use Rattle.ports.specs.Lengths.{ports, portsPerTile}
+use Rattle.ports.specs.Block.{portOf}
+use Rattle.ports.specs.PortIndex.{carryInMux, coutPort}
 use Rattle.fabric.specs.Wire.{wireOf}
 use Rattle.netlist.specs.Kinds.{copyKind}
 use Rattle.netlist.specs.Rows.{zeroRow}

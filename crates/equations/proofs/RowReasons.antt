@@ -9,11 +9,12 @@ use native.Mathlib.Omega.{arith}
 use lib.Dec.{eqb, ltb}
 use borrow.Author.Tests.{eq-eqb, eqb-true, eqb-false, lt-ltb, le-ltb}
 use Rattle.lists.proofs.CaseLaws.{clash, lt-or-le}
-use Rattle.fabric.specs.declared.Block.{Block}
-use Rattle.fabric.specs.Block.{tiles, ports, portOf, portsPerTile}
-use Rattle.fabric.specs.PortIndex.{outPort, coutPort, loutPort, carryIn, carryInMux, cen}
+use Rattle.ports.specs.declared.size.Block.{Block}
+use Rattle.ports.specs.Block.{tiles, portOf}
+use Rattle.ports.specs.Lengths.{ports, portsPerTile}
+use Rattle.ports.specs.PortIndex.{outPort, coutPort, loutPort, carryIn, carryInMux, cen}
 use Rattle.fabric.specs.Wire.{wireOf}
-use Rattle.fabric.proofs.BlockLaws.{port-of-lt}
+use Rattle.ports.proofs.BlockLaws.{port-of-lt}
 use Rattle.fabric.proofs.WireLaws.{wire-idempotent}
 use Rattle.netlist.specs.declared.row.Row.{Row}
 use Rattle.netlist.specs.Kinds.{lentKind, zeroKind, oneKind, flipFlopKind, copyKind}

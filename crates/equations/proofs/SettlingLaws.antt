@@ -10,8 +10,9 @@ use lib.ListN.{length, getD}
 use borrow.Author.Tests.{eq-eqb, ne-eqb}
 use Rattle.lists.proofs.CaseLaws.{cases, eq-or-ne, lt-or-le}
 use Rattle.lists.proofs.CountLaws.{count-ext}
-use Rattle.fabric.specs.declared.Block.{Block}
-use Rattle.fabric.specs.Block.{tiles, ports}
+use Rattle.ports.specs.declared.size.Block.{Block}
+use Rattle.ports.specs.Block.{tiles}
+use Rattle.ports.specs.Lengths.{ports}
 use Rattle.fabric.specs.Wire.{wireOf}
 use Rattle.fabric.specs.Count.{ownWire, wires}
 use Rattle.fabric.proofs.WireLaws.{wire-within, wire-idempotent}

@@ -14,8 +14,8 @@ use Rattle.lists.proofs.CaseLaws.{clash, lt-or-le, and-left, and-right, or-is, 
 use Rattle.lists.proofs.SearchLaws.{first-true, first-before, first-le}
 use Rattle.lists.proofs.TableLaws.{tabulate-zero}
 use Rattle.lists.proofs.PartLaws.{joined-ext}
-use Rattle.fabric.specs.declared.Block.{Block}
-use Rattle.fabric.specs.Block.{ports}
+use Rattle.ports.specs.declared.size.Block.{Block}
+use Rattle.ports.specs.Lengths.{ports}
 use Rattle.netlist.specs.Rows.{numbersOf}
 use Rattle.equations.specs.Switches.{switches, origin, Contention, NoContention, LowestContention}
 use Rattle.equations.specs.Routed.{Routed}

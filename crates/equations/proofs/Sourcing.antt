@@ -15,8 +15,8 @@ use Rattle.lists.specs.Tables.{zeros}
 use Rattle.lists.proofs.CaseLaws.{lt-or-le, eq-or-ne, and-false-left, and-false-right}
 use Rattle.lists.proofs.SearchLaws.{first-none, first-ext}
 use Rattle.lists.proofs.TableLaws.{tabulate-is, zeros-length, zeros-at}
-use Rattle.fabric.specs.declared.Block.{Block}
-use Rattle.fabric.specs.Block.{ports}
+use Rattle.ports.specs.declared.size.Block.{Block}
+use Rattle.ports.specs.Lengths.{ports}
 use Rattle.equations.specs.Switches.{switches, enabled, target, origin}
 use Rattle.equations.specs.WireRows.{endsOn, driverIn}
 use Rattle.equations.specs.Sources.{sourceIn, sourcesOf, contendedIn, contendedWire, Sourced}

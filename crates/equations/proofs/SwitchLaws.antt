@@ -10,10 +10,11 @@ use lib.Dec.{ltb}
 use borrow.Author.Tests.{eq-eqb, eqb-true, eqb-false, ltb-true, le-ltb, not-true}
 use Rattle.lists.proofs.CaseLaws.{clash, lt-or-le, eq-or-ne, and-left, and-right, and-true}
 use Rattle.lists.proofs.SearchLaws.{first-true, first-before}
-use Rattle.fabric.specs.declared.Block.{Block}
-use Rattle.fabric.specs.Block.{tiles, ports, portOf, portsPerTile}
+use Rattle.ports.specs.declared.size.Block.{Block}
+use Rattle.ports.specs.Block.{tiles, portOf}
+use Rattle.ports.specs.Lengths.{ports, portsPerTile}
 use Rattle.fabric.specs.Wire.{wireOf}
-use Rattle.fabric.proofs.BlockLaws.{port-of-lt}
+use Rattle.ports.proofs.BlockLaws.{port-of-lt}
 use Rattle.fabric.proofs.WireLaws.{wire-within, wire-idempotent}
 use Rattle.routing.specs.LogicTile.{logicTile, isDestination, isSource}
 use Rattle.routing.specs.Table.{groupCount, destinationOf, sourceAt}

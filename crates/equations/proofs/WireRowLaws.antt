@@ -9,9 +9,10 @@ use native.Mathlib.Omega.{arith}
 use lib.ListN.{length, List·getD-eq-default}
 use borrow.Author.Tests.{ne-eqb}
 use Rattle.lists.proofs.CaseLaws.{clash, lt-or-le, eq-or-ne}
-use Rattle.fabric.specs.declared.Block.{Block}
-use Rattle.fabric.specs.Block.{ports, portOf}
-use Rattle.fabric.specs.PortIndex.{carryIn}
+use Rattle.ports.specs.declared.size.Block.{Block}
+use Rattle.ports.specs.Lengths.{ports}
+use Rattle.ports.specs.Block.{portOf}
+use Rattle.ports.specs.PortIndex.{carryIn}
 use Rattle.fabric.specs.Wire.{wireOf}
 use Rattle.netlist.specs.declared.row.Row.{Row}
 use Rattle.netlist.specs.Graph.{Graph}

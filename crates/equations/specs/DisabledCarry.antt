@@ -3,9 +3,9 @@ use Prim.Native.Nat.{ℕ, suc, _≤_, _<_}
 use mathlib.Core.Path.{_≡_}
 use mathlib.Core.Bool.{true, false}
 use mathlib.Core.List.{List}
-use Rattle.fabric.specs.declared.Block.{Block}
-use Rattle.fabric.specs.Block.{tiles}
-use Rattle.fabric.specs.PortIndex.{carryIn, coutPort}
+use Rattle.ports.specs.declared.size.Block.{Block}
+use Rattle.ports.specs.Block.{tiles}
+use Rattle.ports.specs.PortIndex.{carryIn, coutPort}
 use Rattle.equations.specs.Tiles.{carryOn, chained}
 use Rattle.equations.specs.Switches.{switches, enabled, origin}
 use Rattle.equations.specs.Equations.{wire}

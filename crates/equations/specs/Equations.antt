@@ -4,9 +4,9 @@ use mathlib.Core.Path.{_≡_}
 use mathlib.Core.Bool.{true, false}
 use mathlib.Core.List.{List}
 use lib.ListN.{getD}
-use Rattle.fabric.specs.declared.Block.{Block}
-use Rattle.fabric.specs.Block.{tiles, portOf}
-use Rattle.fabric.specs.PortIndex.{localPort, glb2Local, inPort, outPort, clk, cen, sR, glbNetwk, carryIn, carryInMux, coutPort, loutPort, ltin, sp4HL, neighBnl}
+use Rattle.ports.specs.declared.size.Block.{Block}
+use Rattle.ports.specs.Block.{tiles, portOf}
+use Rattle.ports.specs.PortIndex.{localPort, glb2Local, inPort, outPort, clk, cen, sR, glbNetwk, carryIn, carryInMux, coutPort, loutPort, ltin, sp4HL, neighBnl}
 use Rattle.fabric.specs.Wire.{wireOf}
 use Rattle.cell.specs.Lookup.{lookupBit, majority}
 use Rattle.equations.specs.Tiles.{tableOf, carryOn, flopOn, carrySet, chained}

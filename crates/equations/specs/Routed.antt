@@ -5,20 +5,20 @@ use mathlib.Core.Path.{_≡_}
 use mathlib.Core.Bool.{true}
 use mathlib.Core.List.{List}
 use lib.ListN.{length}
-use Rattle.fabric.specs.declared.Block.{Block}
-use Rattle.fabric.specs.Block.{tiles, Sized}
+use Rattle.ports.specs.declared.size.Block.{Block}
+use Rattle.ports.specs.Block.{tiles, Sized}
 use Rattle.fabric.specs.Wire.{wiresOf}
 use Rattle.routing.specs.LogicTile.{logicTile, isDestination, isSource}
-use Rattle.routing.specs.Table.{tableLength, maxGroups, maxEntries, groupCount, destinationOf, entryCount, sourceAt}
-use Rattle.codec.specs.Settings.{settingsLength}
+use Rattle.ports.specs.Lengths.{tableLength, maxGroups, maxEntries, settingsLength}
+use Rattle.routing.specs.Table.{groupCount, destinationOf, entryCount, sourceAt}
 use Rattle.equations.specs.declared.drives.Drive.{Drive}
 use Rattle.equations.specs.declared.drives.Drive.the-variants.{Nothing, Low, High, CellOut, CellLout, CellCout, CarryMux}
 use Rattle.equations.specs.Tiles.{groupOf, carrySet, chained}
 
 pub record Routed (B : Block) (t st : List ℕ) : Type 0 where
   pub size : Sized B
-  pub table-long : length t ≡ tableLength logicTile
-  pub settings-long : length st ≡ settingsLength logicTile * tiles B
+  pub table-long : length t ≡ tableLength
+  pub settings-long : length st ≡ settingsLength * tiles B
   pub few-groups : groupCount logicTile t ≤ maxGroups
   pub few-entries : (g : ℕ) → g < groupCount logicTile t → entryCount logicTile t g ≤ maxEntries
   pub destinations : (g : ℕ) → g < groupCount logicTile t → isDestination (destinationOf logicTile t g) ≡ true
@@ -31,7 +31,7 @@ pub record Routed (B : Block) (t st : List ℕ) : Type 0 where
 -- the settings are as long as they must be, and `wires` has the wire of each port
 pub record Mapped (B : Block) (st wires : List ℕ) : Type 0 where
   pub size : Sized B
-  pub settings-long : length st ≡ settingsLength logicTile * tiles B
+  pub settings-long : length st ≡ settingsLength * tiles B
   pub wired : wires ≡ wiresOf B
 
 -- tile and cell of a drive are the block's

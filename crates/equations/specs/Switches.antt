@@ -5,11 +5,12 @@ use mathlib.Core.Logic.{_≢_}
 use mathlib.Core.Bool.{Bool, true, not, _&&_}
 use mathlib.Core.List.{List}
 use lib.Dec.{eqb, ltb}
-use Rattle.fabric.specs.declared.Block.{Block}
-use Rattle.fabric.specs.Block.{tiles, portOf}
+use Rattle.ports.specs.declared.size.Block.{Block}
+use Rattle.ports.specs.Block.{tiles, portOf}
 use Rattle.fabric.specs.Wire.{wireOf}
 use Rattle.routing.specs.LogicTile.{logicTile}
-use Rattle.routing.specs.Table.{maxGroups, groupCount, destinationOf, sourceAt}
+use Rattle.ports.specs.Lengths.{maxGroups}
+use Rattle.routing.specs.Table.{groupCount, destinationOf, sourceAt}
 use Rattle.equations.specs.Tiles.{groupOf}
 
 -- Switch s of a block is that of group s % 512 of tile s / 512, so the order of numbers is that of tile and group.

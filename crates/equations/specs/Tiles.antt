@@ -6,15 +6,16 @@ use lib.Dec.{eqb}
 use lib.ListN.{getD, length}
 use Rattle.digits.specs.Digits.{isSet}
 use Rattle.routing.specs.LogicTile.{logicTile, negClk, carryInSet, carryChain}
-use Rattle.codec.specs.Settings.{settingsLength, groupsFrom, cellsFrom}
+use Rattle.ports.specs.Lengths.{settingsLength}
+use Rattle.codec.specs.Settings.{groupsFrom, cellsFrom}
 
 -- the settings of tile T are among st
 abbrev pub TileInside : List ℕ → ℕ → Type 0
-TileInside st T = settingsLength logicTile * T + settingsLength logicTile ≤ length st
+TileInside st T = settingsLength * T + settingsLength ≤ length st
 
 -- number n of the settings of tile T
 abbrev pub settingOf : List ℕ → ℕ → ℕ → ℕ
-settingOf st T n = getD st (settingsLength logicTile * T + n) 0
+settingOf st T n = getD st (settingsLength * T + n) 0
 
 -- "for each group, off or an entry": 0, or the entry from 1
 abbrev pub groupOf : List ℕ → ℕ → ℕ → ℕ

@@ -5,9 +5,10 @@ use mathlib.Core.Bool.{Bool, cond, _&&_}
 use mathlib.Core.List.{List}
 use lib.Dec.{eqb, ltb}
 use Rattle.lists.specs.Search.{first}
-use Rattle.fabric.specs.declared.Block.{Block}
-use Rattle.fabric.specs.Block.{ports, portOf}
-use Rattle.fabric.specs.PortIndex.{inPort, carryIn}
+use Rattle.ports.specs.declared.size.Block.{Block}
+use Rattle.ports.specs.Lengths.{ports}
+use Rattle.ports.specs.Block.{portOf}
+use Rattle.ports.specs.PortIndex.{inPort, carryIn}
 use Rattle.fabric.specs.Wire.{wireOf}
 use Rattle.netlist.specs.declared.row.Row.{Row}
 use Rattle.netlist.specs.Kinds.{lentKind, zeroKind, oneKind, flipFlopKind, copyKind, lookupKind, majorityKind}

@@ -1,7 +1,8 @@
 // The rows of what a cell drives: its lookup, out, cout, and its tile's carry_in_mux, from the settings and the wire of each port.
 ghost use mathlib.Core.Path.{_≡_};
 ghost use Prim.Native.Nat.{_<_};
-ghost use Rattle.fabric.specs.Block.{tiles, portsPerTile};
+ghost use Rattle.ports.specs.Block.{tiles};
+ghost use Rattle.ports.specs.Lengths.{portsPerTile};
 ghost use Rattle.equations.specs.declared.drives.Drive.the-variants.{CellOut, CellCout, CarryMux};
 ghost use Rattle.equations.specs.Equations.{carryPort};
 ghost use Rattle.equations.specs.Routed.{Mapped};
@@ -9,10 +10,9 @@ ghost use Rattle.equations.specs.WireRows.{plainRow, lookupRow, majority
 use crate::tiles::cell_at;
 use crate::tiles::setting_at;
 use crate::tiles::wire_at;
-use fabric::Block;
-use fabric::ports;
 use netlist::row;
 use netlist::row::Row;
+use ports::size::Block;
 
 // Which fields of a tile's settings say where carry_in_mux comes from.
 const CARRY_IN_SET: usize = 1;

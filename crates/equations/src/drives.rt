@@ -1,16 +1,17 @@
 // What drives the wire of a port where no switch does (document 01, 'Cells').
 ghost use mathlib.Core.Path.{_≡_};
 ghost use Prim.Native.Nat.{_<_};
-ghost use Rattle.fabric.specs.Block.{Sized, ports};
-ghost use Rattle.fabric.specs.PortNames.{Within};
+ghost use Rattle.ports.specs.Block.{Sized};
+ghost use Rattle.ports.specs.Lengths.{ports};
+ghost use Rattle.ports.specs.PortNames.{Within};
 ghost use Rattle.equations.specs.declared.drives.Drive.the-variants.{CellLout, CellCout};
 ghost use Rattle.equations.specs.Drives.{outputDrive, belowDrive, driveAt, driveOf};
-use fabric::Block;
-use fabric::ports::LOCAL;
-use fabric::ports::OUT;
-use fabric::ports::PORTS_PER_TILE;
-use fabric::ports::Port;
-use fabric::ports::port_at;
+use ports::LOCAL;
+use ports::OUT;
+use ports::Port;
+use ports::lengths::PORTS_PER_TILE;
+use ports::port_at;
+use ports::size::Block;
 
 // What drives a wire.
 pub enum Drive {

@@ -2,7 +2,7 @@
 ghost use mathlib.Core.Path.{_≡_};
 ghost use Prim.Native.Nat.{_*_, _<_};
 ghost use lib.ListN.{length};
-ghost use Rattle.fabric.specs.Block.{ports};
+ghost use Rattle.ports.specs.Lengths.{ports};
 ghost use Rattle.netlist.specs.Rows.{rowLength};
 ghost use Rattle.equations.specs.Routed.{Mapped, Driven};
 ghost use Rattle.equations.specs.WireRows.{driveRow};
@@ -14,9 +14,9 @@ use crate::cell_rows::out_row;
 use crate::cell_rows::plain_row;
 use crate::drives::Drive;
 use crate::drives::drive_of;
-use fabric::Block;
 use netlist::row;
 use netlist::row::Row;
+use ports::size::Block;
 
 // The row of wire w where no switch ends on it.
 fn drive_row(b: Block, st: &[u16], wires: &[u16], w: u16, drive: Drive) -> Row

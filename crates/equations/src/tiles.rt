@@ -1,25 +1,24 @@
 // The settings of a block and the map of its wires, read by tile.
 ghost use mathlib.Core.Path.{_≡_};
 ghost use Prim.Native.Nat.{_<_};
-ghost use Rattle.fabric.specs.Block.{ports, portOf};
+ghost use Rattle.ports.specs.Lengths.{ports, maxGroups, settingsLength};
+ghost use Rattle.ports.specs.Block.{portOf};
 ghost use Rattle.fabric.specs.Wire.{wireOf, wiresOf};
 ghost use Rattle.cell.specs.Settings.{cellOf};
 ghost use Rattle.routing.specs.LogicTile.{logicTile};
-ghost use Rattle.routing.specs.Table.{maxGroups};
-ghost use Rattle.codec.specs.Settings.{settingsLength};
 ghost use Rattle.equations.specs.Tiles.{TileInside, settingOf, groupOf, tableOf, flagsAt};
 use cell::logic::Cell;
 use codec::cells::CELLS_FROM;
 use codec::settings::GROUPS_FROM;
-use codec::settings::SETTINGS_LENGTH;
-use fabric::Block;
 use netlist::row::wide;
+use ports::lengths::SETTINGS_LENGTH;
+use ports::size::Block;
 
-pub const PORTS_PER_TILE: usize = fabric::ports::PORTS_PER_TILE as usize;
+pub const PORTS_PER_TILE: usize = ports::lengths::PORTS_PER_TILE as usize;
 
 // Number n of the settings of a tile.
 pub fn setting_at(st: &[u16], tile: usize, n: usize) -> u16
-    requires { ⌜ TileInside (now st) tile × (n < settingsLength logicTile) ⌝ }
+    requires { ⌜ TileInside (now st) tile × (n < settingsLength) ⌝ }
     ensures { λ r. ⌜ r ≡ settingOf (now (st .entry)) tile n ⌝ }
 {
     st[SETTINGS_LENGTH * tile + n]

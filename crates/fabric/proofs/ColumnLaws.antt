@@ -6,9 +6,9 @@ use mathlib.Core.Bool.{Bool, true, false, cond}
 use native.Mathlib.Omega.{arith}
 use lib.Dec.{leb, ltb}
 use borrow.Author.Tests.{lt-ltb, ltb-true, le-leb, leb-true}
-use Rattle.fabric.specs.declared.Block.{Block}
+use Rattle.ports.specs.declared.size.Block.{Block}
 use Rattle.fabric.specs.declared.span.Span.{Span}
-use Rattle.fabric.specs.Block.{port}
+use Rattle.ports.specs.Block.{port}
 use Rattle.fabric.specs.Span.{names, Proper}
 use Rattle.fabric.specs.Joins.{Join, one, back, on}
 use Rattle.fabric.specs.SpanWire.{ends, columnPort, columnWire, foot}

@@ -4,10 +4,10 @@ use mathlib.Core.Path.{_≡_, refl}
 use native.Mathlib.Omega.{arith}
 use native.Mathlib.Numerals.{add-one}
 use borrow.Author.Tests.{lt-ltb, le-ltb}
-use Rattle.fabric.specs.declared.Block.{Block}
+use Rattle.ports.specs.declared.size.Block.{Block}
 use Rattle.fabric.specs.declared.span.Span.{Span}
-use Rattle.fabric.specs.Block.{port}
-use Rattle.fabric.specs.PortIndex.{sp4RVB}
+use Rattle.ports.specs.Block.{port}
+use Rattle.ports.specs.PortIndex.{sp4RVB}
 use Rattle.fabric.specs.Span.{flip, span4Column}
 use Rattle.fabric.specs.SpanWire.{rowPort, columnPort, foot, sp4Foot, sp4Column, rightWire}
 use Rattle.fabric.specs.Wire.{below}

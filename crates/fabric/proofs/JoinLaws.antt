@@ -4,18 +4,20 @@ use mathlib.Core.Path.{_≡_, refl, sym, _∙_}
 use mathlib.Core.Logic.{_↔_}
 use native.Mathlib.Omega.{arith}
 use borrow.Author.Tests.{lt-ltb}
-use Rattle.fabric.specs.declared.Block.{Block}
-use Rattle.fabric.specs.declared.ports.Port.the-variants.{Sp4HL, Sp4HR, Sp4VT, Sp4VB, Sp4RVB, Sp12HL, Sp12HR, Sp12VT, Sp12VB, Out, NeighOp, GlbNetwk, CarryIn, Cout, Lout, Ltin}
-use Rattle.fabric.specs.Block.{port, ports}
-use Rattle.fabric.specs.PortIndex.{outPort, outputAt}
-use Rattle.fabric.specs.PortNames.{Neighbour}
+use Rattle.ports.specs.declared.size.Block.{Block}
+use Rattle.ports.specs.declared.Port.the-variants.{Sp4HL, Sp4HR, Sp4VT, Sp4VB, Sp4RVB, Sp12HL, Sp12HR, Sp12VT, Sp12VB, Out, NeighOp, GlbNetwk, CarryIn, Cout, Lout, Ltin}
+use Rattle.ports.specs.Block.{port}
+use Rattle.ports.specs.Lengths.{ports}
+use Rattle.ports.specs.PortIndex.{outPort, outputAt}
+use Rattle.ports.specs.PortNames.{Neighbour}
 use Rattle.fabric.specs.Span.{flip}
 use Rattle.fabric.specs.Joins.{Join, Linked, same, one, back, on, sp4-h-side, sp4-h-in, sp4-v-side, sp4-v-in, sp4-right, sp12-h-side, sp12-h-in, sp12-v-side, sp12-v-in, neigh-bnl, neigh-bot, neigh-bnr, neigh-lft, neigh-rgt, neigh-tnl, neigh-top, neigh-tnr, global, carry-chain, lut-cascade}
 use Rattle.fabric.specs.SpanWire.{sp4Foot}
 use Rattle.fabric.specs.Wire.{wireOf, wireAt}
 use Rattle.fabric.proofs.FlipLaws.{flip-lt}
-use Rattle.fabric.proofs.PortLaws.{neighbour}
-use Rattle.fabric.proofs.PlaceLaws.{port-lt, wire-name}
+use Rattle.ports.proofs.PortLaws.{neighbour}
+use Rattle.ports.proofs.PlaceLaws.{port-lt}
+use Rattle.fabric.proofs.PlaceLaws.{wire-name}
 use Rattle.fabric.proofs.RowLaws.{row-across}
 use Rattle.fabric.proofs.ColumnLaws.{column-across}
 use Rattle.fabric.proofs.SpanLaws.{span4-row-joins, span12-row-joins, span4-column-joins, span12-column-joins}

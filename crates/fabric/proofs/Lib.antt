@@ -1,11 +1,8 @@
 -- The laws of `fabric` that its callers cite, and below them what they rest on.
 pub mod WireLaws  -- wire-exact: one wire exactly if linked by joins. wire-low, -within, -fits, -linked, -lowest, -idempotent, -own-exact; wires-le; wires-at: the list of all wires
-pub mod PortLaws  -- index-back, port-at-back: the table of ports read forth and back. port-at-within: its numbers are in their ranges
-pub mod BlockLaws  -- sized-exact, tiles-le, ports-le, port-of-lt
-pub mod PlaceLaws  -- port-lt: a port's number is the block's. wire-port: its wire, from its place
+pub mod PlaceLaws  -- wire-port, wire-name: the wire of a port from its place and from its name
 pub mod WireNumberLaws  -- the cases of `wireNumber`
 pub mod FlipLaws  -- flip-flip, flip-lt, xor-flip
-pub mod FindLaws  -- find-range, find-all: what stands in a table of ranges
 pub mod WalkLaws  -- walk-reach: what each step gives the whole walk gives
 pub mod Reaching  -- Reach: a port of the same wire that is no higher
 pub mod RowLaws  -- a span along a row, for any length, offset and crossing

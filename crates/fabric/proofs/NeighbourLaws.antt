@@ -5,8 +5,8 @@ use mathlib.Core.Bool.{true, false, and-false}
 use native.Mathlib.Omega.{arith}
 use borrow.Author.Tests.{lt-leb, le-leb}
 use lib.Dec.{leb}
-use Rattle.fabric.specs.declared.Block.{Block}
-use Rattle.fabric.specs.PortIndex.{outputAt, outPort, neighBnl, neighLft, neighRgt, neighTnl, clk}
+use Rattle.ports.specs.declared.size.Block.{Block}
+use Rattle.ports.specs.PortIndex.{outputAt, outPort, neighBnl, neighLft, neighRgt, neighTnl, clk}
 use Rattle.fabric.specs.OutputWire.{inside}
 
 pub output-at-lt : (dx dy i : ℕ) → i < 8 → outputAt dx dy i < clk

@@ -7,9 +7,9 @@ use native.Mathlib.Omega.{arith}
 use native.Mathlib.Nat.{mul-le-mul-right, eq-or-lt-of-le}
 use lib.Dec.{leb}
 use borrow.Author.Tests.{leb-true}
-use Rattle.fabric.specs.declared.Block.{Block}
-use Rattle.fabric.specs.Block.{port}
-use Rattle.fabric.specs.PortIndex.{outputAt, outPort}
+use Rattle.ports.specs.declared.size.Block.{Block}
+use Rattle.ports.specs.Block.{port}
+use Rattle.ports.specs.PortIndex.{outputAt, outPort}
 use Rattle.fabric.specs.Joins.{Linked, same, one, back, on, neigh-bnl, neigh-bot, neigh-bnr, neigh-lft, neigh-rgt, neigh-tnl, neigh-top, neigh-tnr}
 use Rattle.fabric.specs.OutputWire.{inside, firstOutput, outputWire}
 use Rattle.fabric.proofs.NeighbourLaws.{output-at-lt, inside-true}

@@ -4,18 +4,19 @@ use mathlib.Core.Path.{subst}
 use native.Mathlib.Omega.{arith}
 use lib.Dec.{ltb}
 use borrow.Author.Tests.{ltb-true}
-use Rattle.fabric.specs.declared.Block.{Block}
-use Rattle.fabric.specs.declared.ports.Port.{Port}
-use Rattle.fabric.specs.declared.ports.Port.the-variants.{Sp4HL, Sp4HR, Sp4VT, Sp4VB, Sp4RVB, Sp12HL, Sp12HR, Sp12VT, Sp12VB, Local, Glb2Local, In, Out, NeighOp, Clk, Cen, SR, GlbNetwk, CarryIn, CarryInMux, Cout, Lout, Ltin}
-use Rattle.fabric.specs.Block.{port, ports, portsPerTile}
-use Rattle.fabric.specs.PortIndex.{carryIn, coutPort, loutPort, ltin}
-use Rattle.fabric.specs.Ports.{portAt}
-use Rattle.fabric.specs.PortNames.{indexOf, Within}
+use Rattle.ports.specs.declared.size.Block.{Block}
+use Rattle.ports.specs.declared.Port.{Port}
+use Rattle.ports.specs.declared.Port.the-variants.{Sp4HL, Sp4HR, Sp4VT, Sp4VB, Sp4RVB, Sp12HL, Sp12HR, Sp12VT, Sp12VB, Local, Glb2Local, In, Out, NeighOp, Clk, Cen, SR, GlbNetwk, CarryIn, CarryInMux, Cout, Lout, Ltin}
+use Rattle.ports.specs.Block.{port}
+use Rattle.ports.specs.Lengths.{ports, portsPerTile}
+use Rattle.ports.specs.PortIndex.{carryIn, coutPort, loutPort, ltin}
+use Rattle.ports.specs.Ports.{portAt}
+use Rattle.ports.specs.PortNames.{indexOf, Within}
 use Rattle.fabric.specs.Joins.{one, global, carry-chain, lut-cascade}
 use Rattle.fabric.specs.Wire.{wireOf, wireAt, below}
 use Rattle.fabric.proofs.Reaching.{Reach, reach-refl, reach-if}
-use Rattle.fabric.proofs.PortLaws.{port-at-back, port-at-within}
-use Rattle.fabric.proofs.PlaceLaws.{tile-column-lt, tile-row-lt, port-place}
+use Rattle.ports.proofs.PortLaws.{port-at-back, port-at-within}
+use Rattle.ports.proofs.PlaceLaws.{tile-column-lt, tile-row-lt, port-place}
 use Rattle.fabric.proofs.RowLaws.{row-reach, near-reach}
 use Rattle.fabric.proofs.ColumnLaws.{column-reach, far-reach, foot-footed}
 use Rattle.fabric.proofs.SpanLaws.{span4-row-joins, span12-row-joins, span4-column-joins, span12-column-joins, sp4-footed, right-reach}

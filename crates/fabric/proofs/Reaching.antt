@@ -3,7 +3,7 @@ use Prim.Native.Nat.{ℕ, _≤_}
 use mathlib.Core.Path.{_≡_, refl}
 use mathlib.Core.Bool.{Bool, true, false, cond}
 use native.Mathlib.Omega.{arith}
-use Rattle.fabric.specs.declared.Block.{Block}
+use Rattle.ports.specs.declared.size.Block.{Block}
 use Rattle.fabric.specs.Joins.{Linked, same, on}
 
 pub record Reach (B : Block) (p q : ℕ) : Type 0 where

@@ -6,9 +6,9 @@ use mathlib.Core.Bool.{true}
 use native.Mathlib.Omega.{arith}
 use lib.Dec.{leb}
 use borrow.Author.Tests.{le-leb, leb-true}
-use Rattle.fabric.specs.declared.Block.{Block}
+use Rattle.ports.specs.declared.size.Block.{Block}
 use Rattle.fabric.specs.declared.span.Span.{Span}
-use Rattle.fabric.specs.Block.{port}
+use Rattle.ports.specs.Block.{port}
 use Rattle.fabric.specs.Span.{names, Proper}
 use Rattle.fabric.specs.Joins.{Join, one, back}
 use Rattle.fabric.specs.SpanWire.{ends, rowPort, rowWire}

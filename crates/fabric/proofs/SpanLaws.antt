@@ -2,9 +2,9 @@
 use Prim.Native.Nat.{ℕ, zero, suc, _%_, _≤_, _<_}
 use mathlib.Core.Path.{_≡_, refl}
 use native.Mathlib.Omega.{arith}
-use Rattle.fabric.specs.declared.Block.{Block}
-use Rattle.fabric.specs.Block.{port}
-use Rattle.fabric.specs.PortIndex.{sp4RVB}
+use Rattle.ports.specs.declared.size.Block.{Block}
+use Rattle.ports.specs.Block.{port}
+use Rattle.ports.specs.PortIndex.{sp4RVB}
 use Rattle.fabric.specs.Span.{flip, Proper, span4Row, span12Row, span4Column, span12Column}
 use Rattle.fabric.specs.Joins.{one, back, on, sp4-h-side, sp4-h-in, sp4-v-side, sp4-v-in, sp4-right, sp12-h-side, sp12-h-in, sp12-v-side, sp12-v-in}
 use Rattle.fabric.specs.SpanWire.{sp4Foot, columnPort, sp4Column}

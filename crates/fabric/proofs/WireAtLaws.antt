@@ -4,16 +4,17 @@ use mathlib.Core.Path.{_≡_, refl, sym, _∙_, ap, subst}
 use mathlib.Core.List.{List, [], _∷_}
 use types.Run.{OneOf, miss}
 use denote.Enum.Declared.{tagOf}
-use Rattle.fabric.specs.declared.Block.{Block}
-use Rattle.fabric.specs.declared.ports.Port.{Port}
-use Rattle.fabric.specs.declared.ports.Port.the-variants.{Sp4HL, Sp4HR, Sp4VT, Sp4VB, Sp4RVB, Sp12HL, Sp12HR, Sp12VT, Sp12VB, Local, Glb2Local, In, Out, NeighOp, Clk, Cen, SR, GlbNetwk, CarryIn, CarryInMux, Cout, Lout, Ltin}
-use Rattle.fabric.specs.Block.{port, portsPerTile}
-use Rattle.fabric.specs.Ports.{portAt}
-use Rattle.fabric.specs.PortNames.{indexOf, Within}
+use Rattle.ports.specs.declared.size.Block.{Block}
+use Rattle.ports.specs.declared.Port.{Port}
+use Rattle.ports.specs.declared.Port.the-variants.{Sp4HL, Sp4HR, Sp4VT, Sp4VB, Sp4RVB, Sp12HL, Sp12HR, Sp12VT, Sp12VB, Local, Glb2Local, In, Out, NeighOp, Clk, Cen, SR, GlbNetwk, CarryIn, CarryInMux, Cout, Lout, Ltin}
+use Rattle.ports.specs.Block.{port}
+use Rattle.ports.specs.Lengths.{portsPerTile}
+use Rattle.ports.specs.Ports.{portAt}
+use Rattle.ports.specs.PortNames.{indexOf, Within}
 use Rattle.fabric.specs.Wire.{wireOf, wireAt}
-use Rattle.fabric.proofs.PortLaws.{port-at-back, port-at-within}
+use Rattle.ports.proofs.PortLaws.{port-at-back, port-at-within}
 use Rattle.fabric.proofs.PlaceLaws.{wire-port}
-use Rattle.fabric.proofs.ports.Port.{the-type}
+use Rattle.ports.proofs.Port.{the-type}
 
 -- the name of port q has its numbers in their ranges
 pub name-within : (P : Port) (q : ℕ) → q < portsPerTile → P ≡ portAt q → Within P

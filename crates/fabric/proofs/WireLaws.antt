@@ -10,12 +10,13 @@ use borrow.Author.Tests.{eq-eqb, eqb-true}
 use lib.ListN.{length, getD}
 use Rattle.lists.proofs.CountLaws.{count-le}
 use Rattle.lists.proofs.TableLaws.{tabulate-length, tabulate-zero}
-use Rattle.fabric.specs.declared.Block.{Block}
-use Rattle.fabric.specs.Block.{Sized, ports}
+use Rattle.ports.specs.declared.size.Block.{Block}
+use Rattle.ports.specs.Block.{Sized}
+use Rattle.ports.specs.Lengths.{ports}
 use Rattle.fabric.specs.Joins.{Linked, Lowest, back, on}
 use Rattle.fabric.specs.Wire.{wireOf, wiresOf}
 use Rattle.fabric.specs.Count.{ownWire, wires}
-use Rattle.fabric.proofs.BlockLaws.{ports-le}
+use Rattle.ports.proofs.BlockLaws.{ports-le}
 use Rattle.fabric.proofs.JoinLaws.{linked-same, linked-within}
 use Rattle.fabric.proofs.PortReach.{reach}
 

@@ -1,10 +1,10 @@
 -- The joins between ports of a block as published, all tiles inside the block, and the ports that a chain of them links
 -- (document 01, 'Joins'). "A way through a tile outside the block is not followed."
 use Prim.Native.Nat.{ℕ, suc, _+_, _≤_, _<_}
-use Rattle.fabric.specs.declared.Block.{Block}
-use Rattle.fabric.specs.Block.{port}
+use Rattle.ports.specs.declared.size.Block.{Block}
+use Rattle.ports.specs.Block.{port}
 use Rattle.fabric.specs.Span.{flip}
-use Rattle.fabric.specs.PortIndex.{sp4HL, sp4HR, sp4VT, sp4VB, sp4RVB, sp12HL, sp12HR, sp12VT, sp12VB, outPort, neighBnl, neighBot, neighBnr, neighLft, neighRgt, neighTnl, neighTop, neighTnr, glbNetwk, carryIn, coutPort, loutPort, ltin}
+use Rattle.ports.specs.PortIndex.{sp4HL, sp4HR, sp4VT, sp4VB, sp4RVB, sp12HL, sp12HR, sp12VT, sp12VB, outPort, neighBnl, neighBot, neighBnr, neighLft, neighRgt, neighTnl, neighTop, neighTnr, glbNetwk, carryIn, coutPort, loutPort, ltin}
 
 pub data Join (B : Block) : ℕ → ℕ → Type 0 where
   -- "sp4_h_r_k at (x, y) with sp4_h_l_k at (x+1, y), every k"

@@ -1,8 +1,4 @@
--- What is right of ports, joins and wires. A reader starts with Joins.
-pub mod Block  -- what joins depend on; ports counted; Sized
-pub mod PortIndex  -- sp4HL k, .., ltin: the index of each port within its tile
-pub mod Ports  -- portAt: document 01's table of ports
-pub mod PortNames  -- indexOf: the table read the other way; Within: the numbers of a name
+-- What is right of joins and wires. A reader starts with Joins.
 pub mod Span  -- flip; a wire's walk from edge to edge; the four spans
 pub mod Joins  -- Join: a constructor for each published join; Linked: a chain of them; Lowest
 pub mod SpanWire  -- rowWire, sp4Column, sp12Column, rightWire: the wires of spans, computed

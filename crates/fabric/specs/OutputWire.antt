@@ -2,9 +2,9 @@
 use Prim.Native.Nat.{ℕ, _+_, _-_, min}
 use mathlib.Core.Bool.{Bool, cond, _&&_}
 use lib.Dec.{leb}
-use Rattle.fabric.specs.declared.Block.{Block}
-use Rattle.fabric.specs.Block.{port}
-use Rattle.fabric.specs.PortIndex.{outputAt}
+use Rattle.ports.specs.declared.size.Block.{Block}
+use Rattle.ports.specs.Block.{port}
+use Rattle.ports.specs.PortIndex.{outputAt}
 
 -- whether the tile (X - 1, Y - 1) is in the block
 abbrev pub inside : Block → ℕ → ℕ → Bool

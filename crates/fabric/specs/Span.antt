@@ -4,8 +4,8 @@ use Prim.Native.Nat.{ℕ, zero, suc, _+_, _-_, _*_, _%_, _≤_}
 use mathlib.Core.Path.{_≡_}
 use mathlib.Core.Bool.{Bool, true, false}
 use lib.Dec.{ltb, leb}
-use Rattle.fabric.specs.Block.{portsPerTile}
-use Rattle.fabric.specs.PortIndex.{sp4HL, sp4HR, sp4VT, sp4VB, sp12HL, sp12HR, sp12VT, sp12VB}
+use Rattle.ports.specs.Lengths.{portsPerTile}
+use Rattle.ports.specs.PortIndex.{sp4HL, sp4HR, sp4VT, sp4VB, sp12HL, sp12HR, sp12VT, sp12VB}
 use Rattle.fabric.specs.declared.span.Span.{Span}
 use Rattle.fabric.specs.declared.span.Edge.{Edge}
 

@@ -2,11 +2,11 @@
 use Prim.Native.Nat.{ℕ, zero, suc, _+_, _-_}
 use mathlib.Core.Bool.{cond}
 use lib.Dec.{ltb, leb}
-use Rattle.fabric.specs.declared.Block.{Block}
+use Rattle.ports.specs.declared.size.Block.{Block}
 use Rattle.fabric.specs.declared.span.Edge.{Edge}
 use Rattle.fabric.specs.declared.span.Span.{Span}
-use Rattle.fabric.specs.Block.{port}
-use Rattle.fabric.specs.PortIndex.{sp4RVB}
+use Rattle.ports.specs.Block.{port}
+use Rattle.ports.specs.PortIndex.{sp4RVB}
 use Rattle.fabric.specs.Span.{flip, westward, southward, span4Column, span12Column}
 
 -- what a rule for edges says of one

@@ -3,13 +3,14 @@
 use Prim.Native.Nat.{ℕ, zero, suc, _/_, _%_}
 use mathlib.Core.List.{List}
 use Rattle.lists.specs.Tables.{tabulate}
-use Rattle.fabric.specs.declared.Block.{Block}
-use Rattle.fabric.specs.declared.ports.Port.{Port}
-use Rattle.fabric.specs.declared.ports.Port.the-variants.{Sp4HL, Sp4HR, Sp4VT, Sp4VB, Sp4RVB, Sp12HL, Sp12HR, Sp12VT, Sp12VB, Local, Glb2Local, In, Out, NeighOp, Clk, Cen, SR, GlbNetwk, CarryIn, CarryInMux, Cout, Lout, Ltin}
-use Rattle.fabric.specs.Block.{port, ports, portsPerTile}
-use Rattle.fabric.specs.PortIndex.{glbNetwk, carryIn, coutPort, loutPort, ltin}
-use Rattle.fabric.specs.Ports.{portAt}
-use Rattle.fabric.specs.PortNames.{indexOf}
+use Rattle.ports.specs.declared.size.Block.{Block}
+use Rattle.ports.specs.declared.Port.{Port}
+use Rattle.ports.specs.declared.Port.the-variants.{Sp4HL, Sp4HR, Sp4VT, Sp4VB, Sp4RVB, Sp12HL, Sp12HR, Sp12VT, Sp12VB, Local, Glb2Local, In, Out, NeighOp, Clk, Cen, SR, GlbNetwk, CarryIn, CarryInMux, Cout, Lout, Ltin}
+use Rattle.ports.specs.Block.{port}
+use Rattle.ports.specs.Lengths.{ports, portsPerTile}
+use Rattle.ports.specs.PortIndex.{glbNetwk, carryIn, coutPort, loutPort, ltin}
+use Rattle.ports.specs.Ports.{portAt}
+use Rattle.ports.specs.PortNames.{indexOf}
 use Rattle.fabric.specs.Span.{flip, span4Row, span12Row}
 use Rattle.fabric.specs.SpanWire.{rowWire, sp4Column, sp12Column, rightWire}
 use Rattle.fabric.specs.OutputWire.{outputWire}

@@ -2,22 +2,23 @@
 use Prim.Native.Nat.{ℕ}
 use mathlib.Core.Path.{_≡_}
 use lib.Dec.{ltb}
-use Rattle.refusal.specs.declared.Refusal.the-variants.{Size, OutOfRange}
+use Rattle.refusal.specs.declared.Refusal.the-variants.{WrongSize, OutOfRange}
 use Rattle.refusal.specs.Grounds.{numberOf, placeOf, unless}
-use Rattle.fabric.specs.declared.Block.{Block}
+use Rattle.ports.specs.declared.size.Block.{Block}
 use Rattle.fabric.specs.declared.WireNumber.{WireNumber}
 use Rattle.fabric.specs.declared.WireNumber.the-variants.{Wire, Refused}
-use Rattle.fabric.specs.Block.{block, tiles, sized, portsPerTile, portOf}
+use Rattle.ports.specs.Block.{tiles, sized, portOf}
+use Rattle.ports.specs.Lengths.{portsPerTile}
 use Rattle.fabric.specs.Joins.{Lowest}
 use Rattle.fabric.specs.Wire.{wireOf}
 
 -- "1: W or H not 1 to 8"; "20: a port (0 to 505 in its tile), tile [..] out of range", place "that number, a tile's first"
-unfoldable pub wireNumber : ℕ → ℕ → ℕ → ℕ → WireNumber
-wireNumber W H t q =
-    unless (sized (block W H)) (Refused Size)
-    (unless (ltb t (tiles (block W H))) (Refused (OutOfRange t))
+unfoldable pub wireNumber : Block → ℕ → ℕ → WireNumber
+wireNumber B t q =
+    unless (sized B) (Refused WrongSize)
+    (unless (ltb t (tiles B)) (Refused (OutOfRange t))
     (unless (ltb q portsPerTile) (Refused (OutOfRange q))
-    (Wire (wireOf (block W H) (portOf t q)))))
+    (Wire (wireOf B (portOf t q)))))
 
 -- the paper's number of an answer: that of the ground, and 0 for a yes, as in the last line of a report
 abbrev pub answerNumber : WireNumber → ℕ

@@ -2,11 +2,10 @@
 // the tile whose output it is stands, seen from the port's tile: 0 before it, 1 the same, 2 after it.
 ghost use mathlib.Core.Path.{_≡_};
 ghost use Prim.Native.Nat.{_-_, _<_, min};
-ghost use Rattle.fabric.specs.Block.{Sized};
-ghost use Rattle.fabric.specs.PortIndex.{outputAt};
+ghost use Rattle.ports.specs.Block.{Sized};
+ghost use Rattle.ports.specs.PortIndex.{outputAt};
 ghost use Rattle.fabric.specs.OutputWire.{inside, outputWire};
-use crate::Block;
-use crate::ports;
+use ports::size::Block;
 
 // The port of the tile (x, y) for output i of the tile (x + dx - 1, y + dy - 1).
 fn output_port(dx: u32, dy: u32, i: u32) -> u32

@@ -2,15 +2,14 @@
 // at an edge.
 ghost use mathlib.Core.Path.{_≡_};
 ghost use Prim.Native.Nat.{_≤_, _<_};
-ghost use Rattle.fabric.specs.Block.{Sized};
+ghost use Rattle.ports.specs.Block.{Sized};
 ghost use Rattle.fabric.specs.Span.{flip, names, Proper, span4Column, span12Column};
 ghost use Rattle.fabric.specs.SpanWire.{rowWire, foot, sp4Column, sp12Column, rightWire};
-use crate::Block;
-use crate::ports;
 use crate::span::Span;
 use crate::span::crossing;
 use crate::span::go_south;
 use crate::span::go_west;
+use ports::size::Block;
 
 pub const SPAN4_ROW: Span = Span {
     through: 36,

@@ -1,18 +1,18 @@
 // The wire of a port (document 01, 'Joins'): the lowest port that a chain of joins links it to.
 ghost use mathlib.Core.Path.{_≡_};
 ghost use Prim.Native.Nat.{_≤_, _<_};
-ghost use Rattle.fabric.specs.Block.{Sized, portsPerTile, ports, port};
+ghost use Rattle.ports.specs.Block.{Sized, port};
+ghost use Rattle.ports.specs.Lengths.{portsPerTile, ports};
 ghost use Rattle.fabric.specs.Wire.{below, wireOf};
-use crate::Block;
 use crate::output::output_wire;
-use crate::ports;
-use crate::ports::Port;
 use crate::span_wire::SPAN4_ROW;
 use crate::span_wire::SPAN12_ROW;
 use crate::span_wire::right_wire;
 use crate::span_wire::row_wire;
 use crate::span_wire::sp4_column;
 use crate::span_wire::sp12_column;
+use ports::Port;
+use ports::size::Block;
 
 // Port q of the tile to the south, where the block has that tile, else port own of the tile itself.
 pub fn below_wire(b: Block, x: u32, y: u32, own: u32, q: u32) -> u32
@@ -55,6 +55,11 @@ pub fn wire_of(b: Block, p: u32) -> u32
     requires { ⌜ Sized b × (p < ports b) ⌝ }
     ensures { λ r. ⌜ (r ≡ wireOf b p) × (r ≤ p) ⌝ }
 {
-    let tile = p / ports::PORTS_PER_TILE;
-    wire_at(b, tile % b.w, tile / b.w, p % ports::PORTS_PER_TILE)
+    let tile = p / ports::lengths::PORTS_PER_TILE;
+    wire_at(
+        b,
+        tile % b.w,
+        tile / b.w,
+        p % ports::lengths::PORTS_PER_TILE,
+    )
 }

@@ -9,7 +9,7 @@ use native.Mathlib.Omega.{arith}
 use borrow.Author.Tests.{le-leb, lt-leb, eq-eqb, ne-eqb}
 use lib.ListN.{length}
 use Rattle.lists.proofs.CaseLaws.{cases, lt-or-le}
-use Rattle.refusal.specs.declared.Refusal.the-variants.{Size, Length, Table, Undecodable, Contention, DisabledCarry, Loop, CellClock, NoSuchSettings, NotABit, Line, Row, OutOfRange}
+use Rattle.refusal.specs.declared.Refusal.the-variants.{WrongSize, WrongLength, Table, Undecodable, Contention, DisabledCarry, Loop, CellClock, NoSuchSettings, NotABit, Line, Row, OutOfRange}
 use Rattle.frames.specs.declared.input.Parsed.{Parsed}
 use Rattle.frames.specs.declared.input.Parsed.the-variants.{Block, Refused}
 use Rattle.frames.specs.Frames.{Frame, group, size, tile, line}
@@ -46,7 +46,7 @@ module _ (s : List ℕ) where
       parsed-behind e = rw (one, two, e)
 
       module _ (three : sizeLine s (sizeAt s) ≡ true) where
-        parsed-size : small (width s) && small (height s) ≡ false → parsed s ≡ Refused Size
+        parsed-size : small (width s) && small (height s) ≡ false → parsed s ≡ Refused WrongSize
         unfolding parsed
         parsed-size e = rw (one, two, three, e)
 
@@ -113,7 +113,7 @@ module _ (s : List ℕ) where
 
   -- ---- a size that is not small
 
-  size-only : SizeSays s → parsed s ≡ Refused Size
+  size-only : SizeSays s → parsed s ≡ Refused WrongSize
   size-only z =
       let c = begins-come (z .begins) in
       let e = size-same s (z .at) _ (z .g) c (z .w) (z .h) (z .proper) (z .stands) in
@@ -138,9 +138,9 @@ module _ (s : List ℕ) where
 
   parsed-only : (r : Parsed) → ParsedSays s r → r ≡ parsed s
   parsed-only (Block w h) z = sym (block-only w h z)
-  parsed-only (Refused Size) z = sym (size-only z)
+  parsed-only (Refused WrongSize) z = sym (size-only z)
   parsed-only (Refused (Line n)) z = sym (line-only (z .stage) (z .frames) (z .at) (z .begins) (z .stuck) ∙ ap (λ (k : ℕ). Refused (Line k)) (sym (z .place)))
-  parsed-only (Refused Length) z = absurd z
+  parsed-only (Refused WrongLength) z = absurd z
   parsed-only (Refused (Table x)) z = absurd z
   parsed-only (Refused (Undecodable x)) z = absurd z
   parsed-only (Refused (Contention x)) z = absurd z

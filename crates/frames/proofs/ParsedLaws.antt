@@ -9,7 +9,7 @@ use borrow.Author.Tests.{leb-true, le-leb, lt-leb, eq-eqb, ne-eqb}
 use lib.Dec.{leb}
 use lib.ListN.{length}
 use Rattle.lists.proofs.CaseLaws.{and-left, and-right}
-use Rattle.refusal.specs.declared.Refusal.the-variants.{Size, Line}
+use Rattle.refusal.specs.declared.Refusal.the-variants.{WrongSize, Line}
 use Rattle.frames.specs.declared.input.Parsed.the-variants.{Block, Refused}
 use Rattle.frames.specs.Lines.{fieldsLine, passiveLine, sizeLine}
 use Rattle.frames.specs.Input.{groupCount, sizeAt, width, height, small, tilesDue, tileAt, tileCount, Opened, parsed}
@@ -30,7 +30,7 @@ module _ (s : List ℕ) where
   unfolding parsed
   parsed-no-size f p e = rw (f, p, e)
 
-  pub parsed-not-small : fieldsLine s ≡ true → passiveLine s ≡ true → sizeLine s (sizeAt s) ≡ true → small (width s) && small (height s) ≡ false → parsed s ≡ Refused Size
+  pub parsed-not-small : fieldsLine s ≡ true → passiveLine s ≡ true → sizeLine s (sizeAt s) ≡ true → small (width s) && small (height s) ≡ false → parsed s ≡ Refused WrongSize
   unfolding parsed
   parsed-not-small f p z e = rw (f, p, z, e)
 

@@ -9,7 +9,7 @@ use lib.Dec.{eqb, leb}
 use lib.ListN.{length}
 use Rattle.lists.specs.Search.{first}
 use Rattle.refusal.specs.Grounds.{unless, numberOf, placeOf}
-use Rattle.refusal.specs.declared.Refusal.the-variants.{Size, Line}
+use Rattle.refusal.specs.declared.Refusal.the-variants.{WrongSize, Line}
 use Rattle.frames.specs.Hex.{pairAt}
 use Rattle.frames.specs.Lines.{fieldsLine, passiveCount, passiveLine, groupDigits, groupLine, sizeLine, tileLine}
 use Rattle.frames.specs.declared.input.Parsed.{Parsed}
@@ -61,7 +61,7 @@ parsed s =
     unless (fieldsLine s) (Refused (Line 1))
     (unless (passiveLine s) (Refused (Line 2))
     (unless (sizeLine s (sizeAt s)) (Refused (Line (3 + groupCount s)))
-    (unless (small (width s) && small (height s)) (Refused Size)
+    (unless (small (width s) && small (height s)) (Refused WrongSize)
     (unless (leb (tilesDue s) (tileCount s)) (Refused (Line (4 + groupCount s + tileCount s)))
     (unless (eqb (length s) (tileAt s (tilesDue s))) (Refused (Line (4 + groupCount s + tilesDue s)))
     (Block (width s) (height s)))))))

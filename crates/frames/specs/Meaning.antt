@@ -6,7 +6,7 @@ use mathlib.Core.Logic.{_≢_}
 use mathlib.Core.List.{List, [], _∷_, _++_}
 use lib.ListN.{length, take, drop}
 use Rattle.refusal.specs.declared.Refusal.{Refusal}
-use Rattle.refusal.specs.declared.Refusal.the-variants.{Size, Length, Table, Undecodable, Contention, DisabledCarry, Loop, CellClock, NoSuchSettings, NotABit, Line, Row, OutOfRange}
+use Rattle.refusal.specs.declared.Refusal.the-variants.{WrongSize, WrongLength, Table, Undecodable, Contention, DisabledCarry, Loop, CellClock, NoSuchSettings, NotABit, Line, Row, OutOfRange}
 use Rattle.frames.specs.Frames.{Group, Frame, fields, passives, group, size, tile, line, Proper}
 use Rattle.frames.specs.Whole.{Input, Small, Whole, Holds, flat}
 use Rattle.frames.specs.Contents.{tableOf, bitsOf}
@@ -84,8 +84,8 @@ pub record BlockSays (s : List ℕ) (w h : ℕ) : Type 0 where
 
 -- no other ground is given
 abbrev pub RefusalSays : List ℕ → Refusal → Type 0
-RefusalSays s Size = SizeSays s
-RefusalSays s Length = ⊥
+RefusalSays s WrongSize = SizeSays s
+RefusalSays s WrongLength = ⊥
 RefusalSays s (Table part) = ⊥
 RefusalSays s (Undecodable t) = ⊥
 RefusalSays s (Contention wire) = ⊥

@@ -110,10 +110,10 @@ pub fn parse(s: &[u8]) -> Parsed
     let w = pair(s, at + 2);
     let h = pair(s, at + 4);
     if !is_small(w) {
-        return Parsed::Refused(Refusal::Size);
+        return Parsed::Refused(Refusal::WrongSize);
     }
     if !is_small(h) {
-        return Parsed::Refused(Refusal::Size);
+        return Parsed::Refused(Refusal::WrongSize);
     }
     parse_tiles(s, g, at, w, h)
 }

@@ -5,7 +5,7 @@ ghost use mathlib.Core.Bool.{_&&_};
 ghost use lib.Dec.{eqb};
 ghost use lib.ListN.{length};
 ghost use Rattle.routing.specs.LogicTile.{logicTile};
-ghost use Rattle.codec.specs.Settings.{settingsLength};
+ghost use Rattle.ports.specs.Lengths.{settingsLength};
 ghost use Rattle.equations.specs.Tiles.{tableOf, flagsAt};
 ghost use Rattle.lines.specs.Lines.{placed};
 ghost use Rattle.lines.specs.Listing.{switchPart, switchLines, cellPart, cellLines};
@@ -58,7 +58,7 @@ fn is_blank(table: u16, flags: u16) -> bool
 
 // The line of cell c of a block, if it is not all zero.
 fn put_cell(st: &[u16], c: usize, out: &mut [u8], at: usize) -> usize
-    requires { ⌜ (settingsLength logicTile * (c / 8) + settingsLength logicTile ≤ length (now st)) × (c < 2 ^ 9) × (at + 13 ≤ length (now out)) ⌝ }
+    requires { ⌜ (settingsLength * (c / 8) + settingsLength ≤ length (now st)) × (c < 2 ^ 9) × (at + 13 ≤ length (now out)) ⌝ }
     ensures next { λ r. ⌜ r ≡ at + length (cellPart (now (st .entry)) c) ⌝ }
     ensures out { λ r. ⌜ now (out .exit) ≡ placed at (cellPart (now (st .entry)) c) (now (out .entry)) ⌝ }
 {
@@ -76,7 +76,7 @@ fn put_cell(st: &[u16], c: usize, out: &mut [u8], at: usize) -> usize
 
 // The lines 07 of n tiles.
 pub fn put_cells(st: &[u16], n: usize, out: &mut [u8], at: usize) -> usize
-    requires { ⌜ (n ≤ 64) × (length (now st) ≡ settingsLength logicTile * n) × (at + 13 * (8 * n) ≤ length (now out)) ⌝ }
+    requires { ⌜ (n ≤ 64) × (length (now st) ≡ settingsLength * n) × (at + 13 * (8 * n) ≤ length (now out)) ⌝ }
     ensures next { λ r. ⌜ r ≡ at + length (cellLines (now (st .entry)) n) ⌝ }
     ensures out { λ r. ⌜ now (out .exit) ≡ placed at (cellLines (now (st .entry)) n) (now (out .entry)) ⌝ }
 {

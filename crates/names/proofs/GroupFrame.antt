@@ -9,7 +9,8 @@ use Rattle.lists.specs.Tables.{tabulate, zeros}
 use Rattle.digits.specs.Digits.{digit, setDigit}
 use Rattle.routing.specs.LogicTile.{logicTile}
 use Rattle.routing.specs.Table.{positionAt, patternAt, sourceAt}
-use Rattle.codec.specs.Bits.{tileBytes, bitAt, bitIn, setBits, setBitIn}
+use Rattle.ports.specs.Lengths.{tileNumbers}
+use Rattle.codec.specs.Bits.{bitAt, bitIn, setBits, setBitIn}
 use Rattle.names.specs.NamedGroup.{HasGroup, HasPattern, patterns, sources, localG00}
 use Rattle.names.proofs.Agreeing.{agree-below}
 
@@ -36,7 +37,7 @@ frame-has-group = record {
 
 -- bits with pattern v there
 abbrev patternBits : ℕ → List ℕ
-patternBits v = setBits (zeros tileBytes) (λ k. getD (localG00 .positions) k 0) v 5
+patternBits v = setBits (zeros tileNumbers) (λ k. getD (localG00 .positions) k 0) v 5
 
 pub pattern-somewhere : HasPattern (patternBits 16) localG00 16 × HasPattern (patternBits 31) localG00 31 × HasPattern (patternBits 1) localG00 1
 unfolding tabulate bitIn setBits setBitIn setDigit

@@ -6,11 +6,11 @@ use lib.Dec.{lit<}
 use Rattle.lists.specs.Search.{first}
 use Rattle.lists.specs.Tables.{tabulate}
 use Rattle.cell.specs.NextState.{nextState, nextSync}
-use Rattle.fabric.specs.Block.{block}
-use Rattle.fabric.specs.Ports.{portAt}
+use Rattle.ports.specs.Block.{block}
+use Rattle.ports.specs.Ports.{portAt}
 use Rattle.fabric.specs.Span.{walk, flip}
 use Rattle.fabric.specs.Wire.{wireOf, wireAt}
-use Rattle.fabric.specs.declared.ports.Port.the-variants.{Sp4RVB, Sp4HR}
+use Rattle.ports.specs.declared.Port.the-variants.{Sp4RVB, Sp4HR}
 use Rattle.routing.specs.LogicTile.{cellPosition}
 use Rattle.names.specs.NamedGroup.{localG00}
 use Rattle.names.specs.Names.{Example, All, none, more, Holds, namesToTry}

@@ -7,9 +7,10 @@ use lib.Dec.{eqb, lit<}
 use borrow.Author.Tests.{eq-eqb, eqb-true}
 use Rattle.lists.specs.Search.{count}
 use Rattle.lists.specs.Tables.{tabulate}
-use Rattle.fabric.specs.declared.Block.{Block}
-use Rattle.fabric.specs.Block.{block, ports, portsPerTile}
-use Rattle.fabric.specs.Ports.{portAt}
+use Rattle.ports.specs.declared.size.Block.{Block}
+use Rattle.ports.specs.Block.{block}
+use Rattle.ports.specs.Lengths.{ports, portsPerTile}
+use Rattle.ports.specs.Ports.{portAt}
 use Rattle.fabric.specs.Span.{walk, flip}
 use Rattle.fabric.specs.Joins.{Linked}
 use Rattle.fabric.specs.Wire.{wireOf, wireAt}

@@ -7,9 +7,9 @@ ghost use Rattle.refusal.specs.Grounds.{numberOf, placeOf};
 
 pub enum Refusal {
     // W or H is not 1 to 8.
-    Size,
+    WrongSize,
     // A lent length differs from the exact one.
-    Length,
+    WrongLength,
     // The part of the routing table that breaks a rule: 0 the fields, 1 the passive list, 2 + g group g, 514 a group too many.
     Table(u32),
     // The tile that cannot be decoded.
@@ -30,6 +30,14 @@ pub enum Refusal {
     Line(u32),
     // The row of a lent list whose kind, wire, operand or unused number is not as it must be, from 0.
     Row(u32),
+    // The line of an IceStorm file that is not of the shape due, or at which something is given twice or missing, from 1.
+    AscLine(u32),
+    // Two blocks that are compared have different sizes.
+    SizesDiffer,
+    // The lent list is too short: the rows that it would need.
+    ListTooShort(u32),
+    // The line of a change to the lent values that names a wire that is not open, or one twice, from 1.
+    Change(u32),
     // A port, tile or lookup input out of range: that number.
     OutOfRange(u32),
 }
@@ -41,13 +49,13 @@ pub enum Answer {
 }
 
 // The paper's number of a ground.
-// Rules out: one number for two grounds; counting the cases instead of the paper's numbers (20 follows 12).
+// Rules out: one number for two grounds; counting the cases instead of the paper's numbers (20 follows 16).
 pub fn number(r: Refusal) -> u8
     ensures { λ n. ⌜ n ≡ numberOf r ⌝ }
 {
     match r {
-        Refusal::Size => 1,
-        Refusal::Length => 2,
+        Refusal::WrongSize => 1,
+        Refusal::WrongLength => 2,
         Refusal::Table(_) => 3,
         Refusal::Undecodable(_) => 4,
         Refusal::Contention(_) => 5,
@@ -58,6 +66,10 @@ pub fn number(r: Refusal) -> u8
         Refusal::NotABit(_) => 10,
         Refusal::Line(_) => 11,
         Refusal::Row(_) => 12,
+        Refusal::AscLine(_) => 13,
+        Refusal::SizesDiffer => 14,
+        Refusal::ListTooShort(_) => 15,
+        Refusal::Change(_) => 16,
         Refusal::OutOfRange(_) => 20,
     }
 }
@@ -67,8 +79,8 @@ pub fn place(r: Refusal) -> u32
     ensures { λ n. ⌜ n ≡ placeOf r ⌝ }
 {
     match r {
-        Refusal::Size => 0,
-        Refusal::Length => 0,
+        Refusal::WrongSize => 0,
+        Refusal::WrongLength => 0,
         Refusal::Table(p) => p,
         Refusal::Undecodable(p) => p,
         Refusal::Contention(p) => p,
@@ -79,6 +91,10 @@ pub fn place(r: Refusal) -> u32
         Refusal::NotABit(p) => p,
         Refusal::Line(p) => p,
         Refusal::Row(p) => p,
+        Refusal::AscLine(p) => p,
+        Refusal::SizesDiffer => 0,
+        Refusal::ListTooShort(p) => p,
+        Refusal::Change(p) => p,
         Refusal::OutOfRange(p) => p,
     }
 }

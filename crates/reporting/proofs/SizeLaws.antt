@@ -6,7 +6,7 @@ use native.Mathlib.Omega.{arith}
 use native.Mathlib.Nat.{mul-le-mul}
 use lib.ListN.{length, take}
 use lib.Seq.{length-take-le}
-use Rattle.fabric.specs.Block.{block, tiles}
+use Rattle.ports.specs.Block.{block, tiles}
 use Rattle.frames.specs.Whole.{Small}
 
 pub small-tiles : (w h : ℕ) → Small w h → tiles (block w h) ≤ 9

@@ -6,8 +6,8 @@ use native.Mathlib.Omega.{arith}
 use borrow.Author.Tests.{lt-ltb, le-ltb}
 use lib.ListN.{getD}
 use Rattle.lists.proofs.TableLaws.{tabulate-zero}
-use Rattle.fabric.specs.declared.Block.{Block}
-use Rattle.fabric.specs.Block.{ports}
+use Rattle.ports.specs.declared.size.Block.{Block}
+use Rattle.ports.specs.Lengths.{ports}
 use Rattle.equations.specs.Switches.{switches, origin, NoContention}
 use Rattle.equations.specs.WireRows.{driver}
 use Rattle.equations.specs.Sources.{sourceIn, sourcesOf}

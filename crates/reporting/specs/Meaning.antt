@@ -2,7 +2,7 @@
 use Prim.Native.Nat.{ℕ}
 use mathlib.Core.Path.{_≡_}
 use mathlib.Core.List.{List, []}
-use Rattle.fabric.specs.declared.Block.{Block}
+use Rattle.ports.specs.declared.size.Block.{Block}
 use Rattle.equations.specs.Switches.{Ends, NoSwitch, origin}
 use Rattle.equations.specs.Sources.{sourcesOf}
 use Rattle.lines.specs.Lines.{switchLine}

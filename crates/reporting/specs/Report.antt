@@ -2,8 +2,9 @@
 use Prim.Native.Nat.{ℕ, _*_}
 use mathlib.Core.Bool.{true}
 use mathlib.Core.List.{List, _++_}
-use Rattle.fabric.specs.declared.Block.{Block}
-use Rattle.fabric.specs.Block.{block, tiles, portsPerTile}
+use Rattle.ports.specs.declared.size.Block.{Block}
+use Rattle.ports.specs.Block.{block, tiles}
+use Rattle.ports.specs.Lengths.{portsPerTile}
 use Rattle.config.specs.Blocks.{decoded, tilesOf}
 use Rattle.equations.specs.Sources.{sourcesOf}
 use Rattle.block.specs.declared.Built.{Built}

@@ -3,22 +3,20 @@ ghost use mathlib.Core.Path.{_≡_};
 ghost use Prim.Native.Nat.{_+_, _*_, _<_, _≤_};
 ghost use lib.ListN.{length};
 ghost use Rattle.refusal.specs.Grounds.{numberOf, placeOf};
-ghost use Rattle.fabric.specs.Block.{block, tiles, ports, portsPerTile, Sized};
+ghost use Rattle.ports.specs.Block.{block, tiles, Sized};
+ghost use Rattle.ports.specs.Lengths.{ports, portsPerTile, tableLength, tileNumbers, settingsLength};
 ghost use Rattle.routing.specs.LogicTile.{logicTile};
 ghost use Rattle.routing.specs.Rules.{TableRules};
-ghost use Rattle.routing.specs.Table.{tableLength};
-ghost use Rattle.codec.specs.Bits.{tileBytes};
-ghost use Rattle.codec.specs.Settings.{settingsLength};
 ghost use Rattle.config.specs.Blocks.{undecodableTile, decoded, tilesOf};
 ghost use Rattle.lines.specs.Lines.{answerLine, placed};
 ghost use Rattle.block.specs.Lengths.{BuildLong};
 ghost use Rattle.frames.specs.Whole.{Small};
 ghost use Rattle.reporting.specs.Report.{outLength, linesOf, acceptedLines, blockLines};
 use block::Built;
-use fabric::Block;
 use lines::listing;
 use lines::text::answer_line;
 use lines::text::put;
+use ports::size::Block;
 use refusal::Refusal;
 
 // Room for the largest block of a program, 3 by 3: numbers for its ports, its rows and its settings.
@@ -59,7 +57,7 @@ pub fn put_refusal(r: Refusal, out: &mut [u8]) -> usize
 
 // The lines of an accepted block of n tiles, from its map of sources and its settings.
 fn put_lines(sources: &[u16], st: &[u16], n: usize, out: &mut [u8]) -> usize
-    requires { ⌜ (n ≤ 9) × (length (now sources) ≡ portsPerTile * n) × (length (now st) ≡ settingsLength logicTile * n) × (length (now out) ≡ outLength) ⌝ }
+    requires { ⌜ (n ≤ 9) × (length (now sources) ≡ portsPerTile * n) × (length (now st) ≡ settingsLength * n) × (length (now out) ≡ outLength) ⌝ }
     ensures next { λ r. ⌜ r ≡ 0 + length (linesOf (now (sources .entry)) (now (st .entry)) n) ⌝ }
     ensures out { λ r. ⌜ now (out .exit) ≡ placed 0 (linesOf (now (sources .entry)) (now (st .entry)) n) (now (out .entry)) ⌝ }
 {
@@ -80,7 +78,7 @@ fn put_accepted(
     out: &mut [u8],
 ) -> usize
     requires { ⌜ Sized b × (tiles b ≤ 9) × TableRules logicTile (now table) × (tiles b ≤ undecodableTile (now table) (tilesOf (now bits)) (tiles b)) ⌝ }
-    requires { ⌜ (length (now bits) ≡ tileBytes * tiles b) × (length (now settings) ≡ settingsLength logicTile * tiles b) × (length (now wires) ≡ ports b) × (length (now sources) ≡ ports b) × (length (now out) ≡ outLength) ⌝ }
+    requires { ⌜ (length (now bits) ≡ tileNumbers * tiles b) × (length (now settings) ≡ settingsLength * tiles b) × (length (now wires) ≡ ports b) × (length (now sources) ≡ ports b) × (length (now out) ≡ outLength) ⌝ }
     ensures next { λ r. ⌜ r ≡ 0 + length (acceptedLines b (now (table .entry)) (decoded (now (table .entry)) (tilesOf (now (bits .entry))) (tiles b))) ⌝ }
     ensures out { λ r. ⌜ now (out .exit) ≡ placed 0 (acceptedLines b (now (table .entry)) (decoded (now (table .entry)) (tilesOf (now (bits .entry))) (tiles b))) (now (out .entry)) ⌝ }
 {
@@ -134,7 +132,7 @@ fn put_built(
 
 // The report of a block's bits.
 pub fn put_block(w: u32, h: u32, table: &[u16], bits: &[u8], out: &mut [u8]) -> usize
-    requires { ⌜ Small w h × (length (now bits) ≡ tileBytes * tiles (block w h)) × (length (now table) ≡ tableLength logicTile) × (length (now out) ≡ outLength) ⌝ }
+    requires { ⌜ Small w h × (length (now bits) ≡ tileNumbers * tiles (block w h)) × (length (now table) ≡ tableLength) × (length (now out) ≡ outLength) ⌝ }
     ensures next { λ r. ⌜ r ≡ 0 + length (blockLines w h (now (table .entry)) (now (bits .entry))) ⌝ }
     ensures out { λ r. ⌜ now (out .exit) ≡ placed 0 (blockLines w h (now (table .entry)) (now (bits .entry))) (now (out .entry)) ⌝ }
 {

@@ -7,7 +7,8 @@ use Prim.Native.Nat.{ℕ, _+_, _*_, _/_, _%_, _<_}
 use native.Mathlib.Omega.{arith}
 use borrow.Author.Tests.{lt-ltb}
 use Rattle.routing.specs.TileKind.{TileKind, bitsPerCell}
-use Rattle.routing.specs.Table.{maxPassives, maxGroups, maxPositions, passiveCount, widthOf}
+use Rattle.ports.specs.Lengths.{maxPassives, maxGroups, maxPositions}
+use Rattle.routing.specs.Table.{passiveCount, widthOf}
 use Rattle.routing.specs.Slots.{slotAt, slotUsed, slotCount, fieldSlots, passiveSlots, groupSlot}
 use Rattle.routing.specs.Rules.{TableRules, Claimed, by-cell, by-field, by-passive, by-group}
 use Rattle.routing.proofs.SlotLaws.{slot-at-bit, slot-at-cell, slot-used-cell, slot-at-field, slot-used-field, slot-at-passive, slot-used-passive, slot-at-group, slot-used-group, slot-cases}

@@ -9,7 +9,8 @@ use native.Mathlib.Nat.{zero-add}
 use borrow.Author.Tests.{lt-ltb, le-ltb}
 use lib.ListN.{length, getD, set}
 use Rattle.routing.specs.TileKind.{TileKind, CellBitsOnce, bitsPerCell}
-use Rattle.routing.specs.Table.{maxPassives, maxGroups, maxPositions, tableLength, groupStart, passiveCount, groupCount, widthOf}
+use Rattle.ports.specs.Lengths.{maxPassives, maxGroups, maxPositions, tableLength}
+use Rattle.routing.specs.Table.{groupStart, passiveCount, groupCount, widthOf}
 use Rattle.routing.specs.Slots.{fieldSlots, passiveSlots, groupSlots, groupSlot, slotCount, slotAt, slotUsed, slotsOf}
 use Rattle.routing.specs.Claiming.{TableOwned, SlotRun}
 use Rattle.routing.proofs.OwnerLaws.{owned-claim, owned-skips}
@@ -29,7 +30,7 @@ module _ (K : TileKind) (table : List ℕ) where
 
   -- ---- the parts as runs
 
-  module _ (long : length table ≡ tableLength K) where
+  module _ (long : groupStart K maxGroups ≤ length table) where
     pub field-run : SlotRun K table 0 (K .fields) (fieldSlots K)
     field-run = record {
       in-table = omega arith;

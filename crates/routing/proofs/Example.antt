@@ -8,7 +8,7 @@ use lib.ListN.{length}
 use Rattle.lists.specs.Search.{first, all}
 use Rattle.lists.specs.Tables.{zeros}
 use Rattle.lists.proofs.TableLaws.{zeros-length}
-use Rattle.routing.specs.Table.{tableLength}
+use Rattle.ports.specs.Lengths.{tableLength}
 use Rattle.routing.specs.Slots.{slotAt, slotUsed}
 use Rattle.routing.specs.LogicTile.{cellPosition, isDestination, isSource, logicTile}
 use Rattle.routing.specs.Rules.{TableRules}
@@ -27,7 +27,7 @@ pub sample-passes : tableOk logicTile sampleTable ≡ true
 unfolding first all slotAt slotUsed cellPosition isDestination isSource positionOk entryOk groupAloneOk fieldsOk passivesOk groupOk partOk
 sample-passes = refl
 
-sample-long : length sampleTable ≡ tableLength logicTile
+sample-long : length sampleTable ≡ tableLength
 sample-long = omega (arith, zeros-length 38312)
 
 -- so it keeps every rule, and claims no position twice

@@ -12,7 +12,8 @@ use Rattle.lists.specs.Search.{all}
 use Rattle.lists.proofs.CaseLaws.{and-left, and-right}
 use Rattle.lists.proofs.SearchLaws.{first-at, all-at, all-of}
 use Rattle.routing.specs.TileKind.{TileKind}
-use Rattle.routing.specs.Table.{maxPositions, maxEntries, destinationOf, widthOf, entryCount, patternAt, hasPattern, entryOf}
+use Rattle.ports.specs.Lengths.{maxPositions, maxEntries}
+use Rattle.routing.specs.Table.{destinationOf, widthOf, entryCount, patternAt, hasPattern, entryOf}
 use Rattle.routing.specs.Slots.{groupSlot}
 use Rattle.routing.specs.Rules.{GroupRules}
 use Rattle.routing.specs.TableCheck.{positionOk, entryOk, groupAloneOk, groupOk}

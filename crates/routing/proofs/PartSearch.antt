@@ -9,7 +9,8 @@ use borrow.Author.Tests.{eqb-true, le-leb, lt-leb}
 use Rattle.lists.specs.Search.{first, all}
 use Rattle.lists.proofs.SearchLaws.{first-at, first-from, first-turn-hit, first-turn-skip, first-turn-end}
 use Rattle.routing.specs.TileKind.{TileKind}
-use Rattle.routing.specs.Table.{maxPassives, maxGroups, passiveCount, groupCount}
+use Rattle.ports.specs.Lengths.{maxPassives, maxGroups}
+use Rattle.routing.specs.Table.{passiveCount, groupCount}
 use Rattle.routing.specs.Slots.{fieldSlots, passiveSlots}
 use Rattle.routing.specs.TableCheck.{positionOk, fieldsOk, passivesOk, groupOk, breaks, partCount, faultyPart, tableOk}
 use Rattle.routing.proofs.TableCheckLaws.{part-fields, part-passives, part-group, part-over}

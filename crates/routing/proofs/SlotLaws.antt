@@ -10,7 +10,8 @@ use borrow.Author.Tests.{lt-ltb, le-ltb, ltb-true}
 use lib.Dec.{ltb}
 use Rattle.lists.proofs.CaseLaws.{cond-true, lt-or-le}
 use Rattle.routing.specs.TileKind.{TileKind, bitsPerCell}
-use Rattle.routing.specs.Table.{maxPassives, maxPositions, fieldAt, passiveCount, passiveAt, groupCount, widthOf, positionAt}
+use Rattle.ports.specs.Lengths.{maxPassives, maxPositions}
+use Rattle.routing.specs.Table.{fieldAt, passiveCount, passiveAt, groupCount, widthOf, positionAt}
 use Rattle.routing.specs.Slots.{fieldSlots, passiveSlots, groupSlots, groupSlot, slotAt, slotUsed}
 
 module _ (K : TileKind) (table : List ℕ) where

@@ -13,7 +13,8 @@ use Rattle.lists.specs.Search.{all}
 use Rattle.lists.proofs.CaseLaws.{cases, clash, and-left, and-right, and-true, lt-or-le}
 use Rattle.lists.proofs.SearchLaws.{first-le, first-at, first-none, first-true, first-before}
 use Rattle.routing.specs.TileKind.{TileKind}
-use Rattle.routing.specs.Table.{maxPassives, maxGroups, tableLength, passiveCount, groupCount}
+use Rattle.ports.specs.Lengths.{maxPassives, maxGroups, tableLength}
+use Rattle.routing.specs.Table.{passiveCount, groupCount}
 use Rattle.routing.specs.Slots.{fieldSlots, passiveSlots}
 use Rattle.routing.specs.Rules.{FieldRules, PassiveRules, PartRules, FirstBroken, TableRules}
 use Rattle.routing.specs.TableCheck.{positionOk, fieldsOk, passivesOk, groupOk, partOk, breaks, partCount, faultyPart, tableOk}
@@ -128,7 +129,7 @@ module _ (K : TileKind) (table : List ℕ) where
       let e = eqb-true (faultyPart K table) (partCount K table) h in
       part-keeps i (not-false (partOk K table i) (first-before (breaks K table) 0 (partCount K table) i (omega arith) (omega arith)))
 
-  pub table-exact : length table ≡ tableLength K → (tableOk K table ≡ true) ↔ TableRules K table
+  pub table-exact : length table ≡ tableLength → (tableOk K table ≡ true) ↔ TableRules K table
   table-exact long = (keeps, passes)
     where
       keeps : tableOk K table ≡ true → TableRules K table

@@ -4,7 +4,7 @@ use mathlib.Core.Bool.{Bool, cond, not, _&&_, _||_}
 use mathlib.Core.List.{List, [], _∷_}
 use lib.Dec.{ltb, leb}
 use lib.ListN.{getD}
-use Rattle.fabric.specs.Block.{portsPerTile}
+use Rattle.ports.specs.Lengths.{portsPerTile}
 use Rattle.routing.specs.TileKind.{TileKind}
 
 -- "A tile has 16 rows of 54 bits. Br[c] is position 54r + c."

@@ -7,7 +7,8 @@ use mathlib.Core.Bool.{true}
 use mathlib.Core.List.{List}
 use lib.ListN.{length}
 use Rattle.routing.specs.TileKind.{TileKind, bitsPerCell}
-use Rattle.routing.specs.Table.{maxPassives, maxGroups, maxPositions, maxEntries, tableLength, fieldAt, passiveCount, passiveAt, groupCount, destinationOf, widthOf, positionAt, entryCount, patternAt, sourceAt}
+use Rattle.ports.specs.Lengths.{maxPassives, maxGroups, maxPositions, maxEntries, tableLength}
+use Rattle.routing.specs.Table.{fieldAt, passiveCount, passiveAt, groupCount, destinationOf, widthOf, positionAt, entryCount, patternAt, sourceAt}
 use Rattle.routing.specs.Slots.{slotAt, slotUsed, fieldSlots, passiveSlots, groupSlot}
 
 module _ (K : TileKind) (table : List ℕ) where
@@ -49,7 +50,7 @@ module _ (K : TileKind) (table : List ℕ) where
 
   -- a table that breaks no rule; "at most 512 groups". Its length, which is ground 2's, stands with it: the rules read it within that.
   pub record TableRules : Type 0 where
-    pub long : length table ≡ tableLength K
+    pub long : length table ≡ tableLength
     pub fields : FieldRules
     pub passives : PassiveRules
     pub few-groups : groupCount K table ≤ maxGroups

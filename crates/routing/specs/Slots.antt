@@ -11,7 +11,8 @@ use lib.Dec.{eqb, ltb}
 use lib.ListN.{length, getD}
 use Rattle.lists.specs.Search.{first}
 use Rattle.routing.specs.TileKind.{TileKind, bitsPerCell}
-use Rattle.routing.specs.Table.{maxPassives, maxGroups, maxPositions, fieldAt, passiveCount, passiveAt, groupCount, widthOf, positionAt}
+use Rattle.ports.specs.Lengths.{maxPassives, maxGroups, maxPositions}
+use Rattle.routing.specs.Table.{fieldAt, passiveCount, passiveAt, groupCount, widthOf, positionAt}
 
 -- slot s, where it is used, claims the position `at s`
 pub record Slots : Type 0 where

@@ -6,20 +6,8 @@ use mathlib.Core.List.{List}
 use lib.Dec.{eqb}
 use lib.ListN.{getD}
 use Rattle.lists.specs.Search.{first}
+use Rattle.ports.specs.Lengths.{groupLength}
 use Rattle.routing.specs.TileKind.{TileKind}
-
--- "at most 64 passive positions, at most 512 groups. A group has a destination, 1 to 8 positions and 1 to 32 entries"
-abbrev pub maxPassives : ℕ
-maxPassives = 64
-
-abbrev pub maxGroups : ℕ
-maxGroups = 512
-
-abbrev pub maxPositions : ℕ
-maxPositions = 8
-
-abbrev pub maxEntries : ℕ
-maxEntries = 32
 
 abbrev pub fieldAt : List ℕ → ℕ → ℕ
 fieldAt table f = getD table f 0
@@ -36,10 +24,7 @@ module _ (K : TileKind) where
 
   -- where group g begins
   abbrev pub groupStart : ℕ → ℕ
-  groupStart g = K .fields + 66 + 75 * g
-
-  abbrev pub tableLength : ℕ
-  tableLength = groupStart maxGroups
+  groupStart g = K .fields + 66 + groupLength * g
 
   abbrev pub destinationOf : List ℕ → ℕ → ℕ
   destinationOf table g = getD table (groupStart g) 0

@@ -6,7 +6,8 @@ use mathlib.Core.List.{List}
 use lib.Dec.{eqb, ltb, leb}
 use Rattle.lists.specs.Search.{first, all}
 use Rattle.routing.specs.TileKind.{TileKind}
-use Rattle.routing.specs.Table.{maxPassives, maxGroups, maxPositions, maxEntries, passiveCount, groupCount, destinationOf, widthOf, entryCount, patternAt, sourceAt, entryOf}
+use Rattle.ports.specs.Lengths.{maxPassives, maxGroups, maxPositions, maxEntries}
+use Rattle.routing.specs.Table.{passiveCount, groupCount, destinationOf, widthOf, entryCount, patternAt, sourceAt, entryOf}
 use Rattle.routing.specs.Slots.{slotsOf, slotAt, ownerCode, fieldSlots, passiveSlots, groupSlot}
 
 module _ (K : TileKind) (table : List ℕ) where

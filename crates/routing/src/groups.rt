@@ -4,25 +4,26 @@ ghost use mathlib.Core.Bool.{true};
 ghost use Prim.Native.Nat.{_+_, _<_, _≤_};
 ghost use lib.ListN.{length};
 ghost use Rattle.routing.specs.LogicTile.{logicTile};
-ghost use Rattle.routing.specs.Table.{maxGroups, maxEntries, maxPositions, tableLength, widthOf, entryCount};
+ghost use Rattle.ports.specs.Lengths.{maxGroups, maxEntries, maxPositions, tableLength};
+ghost use Rattle.routing.specs.Table.{widthOf, entryCount};
 ghost use Rattle.routing.specs.Marks.{Marked};
 ghost use Rattle.routing.specs.TableCheck.{entryOk, groupAloneOk};
-use crate::ports::is_destination;
-use crate::ports::is_source;
-use crate::table::MAX_ENTRIES;
-use crate::table::MAX_POSITIONS;
+use crate::ends::is_destination;
+use crate::ends::is_source;
 use crate::table::destination;
 use crate::table::entry_count;
 use crate::table::pattern;
 use crate::table::source;
 use crate::table::width;
+use ports::lengths::MAX_ENTRIES;
+use ports::lengths::MAX_POSITIONS;
 
 // How many patterns eight positions have.
 const PATTERNS: usize = 256;
 
 // Entry e of group g, by itself and with the entries before it, whose patterns are those that `seen` has.
 pub fn entry_ok(table: &[u16], g: usize, e: usize, seen: &mut [bool; PATTERNS]) -> bool
-    requires { ⌜ (length (now table) ≡ tableLength logicTile) × (g < maxGroups) × (e < entryCount logicTile (now table) g) × (widthOf logicTile (now table) g ≤ maxPositions) × (entryCount logicTile (now table) g ≤ maxEntries) × Marked logicTile (now table) g e (now seen) ⌝ }
+    requires { ⌜ (length (now table) ≡ tableLength) × (g < maxGroups) × (e < entryCount logicTile (now table) g) × (widthOf logicTile (now table) g ≤ maxPositions) × (entryCount logicTile (now table) g ≤ maxEntries) × Marked logicTile (now table) g e (now seen) ⌝ }
     ensures answer { λ r. ⌜ r ≡ entryOk logicTile (now (table .entry)) g e ⌝ }
     ensures seen { λ r. ⌜ (r ≡ true → Marked logicTile (now (table .entry)) g (e + 1) (now (seen .exit))) ⌝ }
 {
@@ -44,7 +45,7 @@ pub fn entry_ok(table: &[u16], g: usize, e: usize, seen: &mut [bool; PATTERNS]) 
 
 // Group g by itself.
 pub fn group_alone_ok(table: &[u16], g: usize) -> bool
-    requires { ⌜ (length (now table) ≡ tableLength logicTile) × (g < maxGroups) ⌝ }
+    requires { ⌜ (length (now table) ≡ tableLength) × (g < maxGroups) ⌝ }
     ensures { λ r. ⌜ r ≡ groupAloneOk logicTile (now (table .entry)) g ⌝ }
 {
     if !is_destination(destination(table, g)) {

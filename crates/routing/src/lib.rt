@@ -4,7 +4,7 @@
 // A function's `requires` is the table's exact length and indices that are in range; `rules::faulty_part` asks for the length alone.
 pub mod cells;
 pub mod claims;
+pub mod ends;
 pub mod groups;
-pub mod ports;
 pub mod rules;
 pub mod table;

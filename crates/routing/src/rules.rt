@@ -5,7 +5,8 @@ ghost use Prim.Native.Nat.{_+_, _<_};
 ghost use lib.ListN.{length};
 ghost use Rattle.lists.specs.Tables.{zeros};
 ghost use Rattle.routing.specs.LogicTile.{logicTile};
-ghost use Rattle.routing.specs.Table.{maxGroups, tableLength, groupCount};
+ghost use Rattle.ports.specs.Lengths.{maxGroups, tableLength};
+ghost use Rattle.routing.specs.Table.{groupCount};
 ghost use Rattle.routing.specs.Slots.{groupSlots, groupSlot, slotCount};
 ghost use Rattle.routing.specs.Claiming.{TableOwned};
 ghost use Rattle.routing.specs.TableCheck.{fieldsOk, passivesOk, groupOk, faultyPart, tableOk};
@@ -15,20 +16,20 @@ use crate::claims::PASSIVE_SLOTS;
 use crate::claims::claim;
 use crate::claims::claim_cells;
 use crate::groups::group_alone_ok;
-use crate::table::FIELDS;
-use crate::table::MAX_GROUPS;
-use crate::table::MAX_PASSIVES;
-use crate::table::MAX_POSITIONS;
 use crate::table::PASSIVES;
 use crate::table::POSITIONS;
 use crate::table::group_count;
 use crate::table::passive_count;
 use crate::table::positions_start;
 use crate::table::width;
+use ports::lengths::FIELDS;
+use ports::lengths::MAX_GROUPS;
+use ports::lengths::MAX_PASSIVES;
+use ports::lengths::MAX_POSITIONS;
 
 // Group g by itself and with all that was claimed before it.
 fn check_group(table: &[u16], g: usize, own: &mut [u16]) -> bool
-    requires { ⌜ (length (now table) ≡ tableLength logicTile) × (g < maxGroups) × (g < groupCount logicTile (now table)) × (TableOwned logicTile (now table) (groupSlot logicTile g) (now own)) ⌝ }
+    requires { ⌜ (length (now table) ≡ tableLength) × (g < maxGroups) × (g < groupCount logicTile (now table)) × (TableOwned logicTile (now table) (groupSlot logicTile g) (now own)) ⌝ }
     ensures answer { λ r. ⌜ r ≡ groupOk logicTile (now (table .entry)) g ⌝ }
     ensures map { λ r. ⌜ (r ≡ true → TableOwned logicTile (now (table .entry)) (groupSlot logicTile (g + 1)) (now (own .exit))) ⌝ }
 {
@@ -42,7 +43,7 @@ fn check_group(table: &[u16], g: usize, own: &mut [u16]) -> bool
 
 // The groups, after fields and passive list.
 fn check_groups(table: &[u16], own: &mut [u16]) -> usize
-    requires { ⌜ (length (now table) ≡ tableLength logicTile) × (fieldsOk logicTile (now table) ≡ true) × (passivesOk logicTile (now table) ≡ true) × (TableOwned logicTile (now table) (groupSlots logicTile) (now own)) ⌝ }
+    requires { ⌜ (length (now table) ≡ tableLength) × (fieldsOk logicTile (now table) ≡ true) × (passivesOk logicTile (now table) ≡ true) × (TableOwned logicTile (now table) (groupSlots logicTile) (now own)) ⌝ }
     ensures part { λ r. ⌜ r ≡ faultyPart logicTile (now (table .entry)) ⌝ }
     ensures map { λ r. ⌜ (tableOk logicTile (now (table .entry)) ≡ true → TableOwned logicTile (now (table .entry)) (slotCount logicTile) (now (own .exit))) ⌝ }
 {
@@ -62,7 +63,7 @@ fn check_groups(table: &[u16], own: &mut [u16]) -> usize
 
 // All parts, with an empty map.
 fn check_parts(table: &[u16], own: &mut [u16]) -> usize
-    requires { ⌜ (length (now table) ≡ tableLength logicTile) × (now own ≡ zeros (logicTile .positions)) ⌝ }
+    requires { ⌜ (length (now table) ≡ tableLength) × (now own ≡ zeros (logicTile .positions)) ⌝ }
     ensures part { λ r. ⌜ r ≡ faultyPart logicTile (now (table .entry)) ⌝ }
     ensures map { λ r. ⌜ (tableOk logicTile (now (table .entry)) ≡ true → TableOwned logicTile (now (table .entry)) (slotCount logicTile) (now (own .exit))) ⌝ }
 {
@@ -84,7 +85,7 @@ fn check_parts(table: &[u16], own: &mut [u16]) -> usize
 // tile's positions to the slots that claim them, whatever `own` held.
 // Rules out: refusing every table; a position claimed twice let through; a later part named than the first.
 pub fn check_table(table: &[u16], own: &mut [u16]) -> usize
-    requires { ⌜ (length (now table) ≡ tableLength logicTile) × (length (now own) ≡ logicTile .positions) ⌝ }
+    requires { ⌜ (length (now table) ≡ tableLength) × (length (now own) ≡ logicTile .positions) ⌝ }
     ensures part { λ r. ⌜ r ≡ faultyPart logicTile (now (table .entry)) ⌝ }
     ensures map { λ r. ⌜ (tableOk logicTile (now (table .entry)) ≡ true → TableOwned logicTile (now (table .entry)) (slotCount logicTile) (now (own .exit))) ⌝ }
 {
@@ -94,7 +95,7 @@ pub fn check_table(table: &[u16], own: &mut [u16]) -> usize
 
 // Ground 3's place for callers that need no map: the first part of the table that breaks a rule, or the number of its parts.
 pub fn faulty_part(table: &[u16]) -> usize
-    requires { ⌜ length (now table) ≡ tableLength logicTile ⌝ }
+    requires { ⌜ length (now table) ≡ tableLength ⌝ }
     ensures { λ r. ⌜ r ≡ faultyPart logicTile (now (table .entry)) ⌝ }
 {
     let mut own = [0u16; POSITIONS];

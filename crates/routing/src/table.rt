@@ -3,21 +3,12 @@ ghost use mathlib.Core.Path.{_≡_};
 ghost use Prim.Native.Nat.{_+_, _<_, _≤_};
 ghost use lib.ListN.{length};
 ghost use Rattle.routing.specs.LogicTile.{logicTile};
-ghost use Rattle.routing.specs.Table.{maxPassives, maxGroups, maxPositions, maxEntries, groupStart, tableLength, fieldAt, passiveCount, passiveAt, groupCount, destinationOf, widthOf, positionAt, entryCount, patternAt, sourceAt, entryOf};
+ghost use Rattle.ports.specs.Lengths.{maxPassives, maxGroups, maxPositions, maxEntries, tableLength};
+ghost use Rattle.routing.specs.Table.{groupStart, fieldAt, passiveCount, passiveAt, groupCount, destinationOf, widthOf, positionAt, entryCount, patternAt, sourceAt, entryOf};
+use ports::lengths::FIELDS;
+use ports::lengths::GROUP_LENGTH;
 
 pub const POSITIONS: usize = 864;
-
-pub const FIELDS: usize = 3;
-
-pub const MAX_PASSIVES: usize = 64;
-
-pub const MAX_GROUPS: usize = 512;
-
-pub const MAX_POSITIONS: usize = 8;
-
-pub const MAX_ENTRIES: usize = 32;
-
-pub const TABLE_LENGTH: usize = 38469;
 
 // Where the passive list, the group count and the groups stand, and in a group its position count, positions, entry count, entries.
 pub const PASSIVES: usize = 4;
@@ -25,8 +16,6 @@ pub const PASSIVES: usize = 4;
 const GROUP_COUNT: usize = 68;
 
 const GROUPS: usize = 69;
-
-const GROUP_LENGTH: usize = 75;
 
 const WIDTH: usize = 1;
 
@@ -46,28 +35,28 @@ fn number(x: u16) -> usize
 
 // The position of field f.
 pub fn field(table: &[u16], f: usize) -> usize
-    requires { ⌜ (length (now table) ≡ tableLength logicTile) × (f < logicTile .fields) ⌝ }
+    requires { ⌜ (length (now table) ≡ tableLength) × (f < logicTile .fields) ⌝ }
     ensures { λ r. ⌜ r ≡ fieldAt (now (table .entry)) f ⌝ }
 {
     number(table[f])
 }
 
 pub fn passive_count(table: &[u16]) -> usize
-    requires { ⌜ length (now table) ≡ tableLength logicTile ⌝ }
+    requires { ⌜ length (now table) ≡ tableLength ⌝ }
     ensures { λ r. ⌜ r ≡ passiveCount logicTile (now (table .entry)) ⌝ }
 {
     number(table[FIELDS])
 }
 
 pub fn passive(table: &[u16], j: usize) -> usize
-    requires { ⌜ (length (now table) ≡ tableLength logicTile) × (j < maxPassives) ⌝ }
+    requires { ⌜ (length (now table) ≡ tableLength) × (j < maxPassives) ⌝ }
     ensures { λ r. ⌜ r ≡ passiveAt logicTile (now (table .entry)) j ⌝ }
 {
     number(table[PASSIVES + j])
 }
 
 pub fn group_count(table: &[u16]) -> usize
-    requires { ⌜ length (now table) ≡ tableLength logicTile ⌝ }
+    requires { ⌜ length (now table) ≡ tableLength ⌝ }
     ensures { λ r. ⌜ r ≡ groupCount logicTile (now (table .entry)) ⌝ }
 {
     number(table[GROUP_COUNT])
@@ -82,7 +71,7 @@ pub fn positions_start(g: usize) -> usize
 }
 
 pub fn destination(table: &[u16], g: usize) -> u16
-    requires { ⌜ (length (now table) ≡ tableLength logicTile) × (g < maxGroups) ⌝ }
+    requires { ⌜ (length (now table) ≡ tableLength) × (g < maxGroups) ⌝ }
     ensures { λ r. ⌜ r ≡ destinationOf logicTile (now (table .entry)) g ⌝ }
 {
     table[GROUPS + GROUP_LENGTH * g]
@@ -90,35 +79,35 @@ pub fn destination(table: &[u16], g: usize) -> u16
 
 // How many positions group g has.
 pub fn width(table: &[u16], g: usize) -> usize
-    requires { ⌜ (length (now table) ≡ tableLength logicTile) × (g < maxGroups) ⌝ }
+    requires { ⌜ (length (now table) ≡ tableLength) × (g < maxGroups) ⌝ }
     ensures { λ r. ⌜ r ≡ widthOf logicTile (now (table .entry)) g ⌝ }
 {
     number(table[GROUPS + GROUP_LENGTH * g + WIDTH])
 }
 
 pub fn position(table: &[u16], g: usize, k: usize) -> usize
-    requires { ⌜ (length (now table) ≡ tableLength logicTile) × (g < maxGroups) × (k < maxPositions) ⌝ }
+    requires { ⌜ (length (now table) ≡ tableLength) × (g < maxGroups) × (k < maxPositions) ⌝ }
     ensures { λ r. ⌜ r ≡ positionAt logicTile (now (table .entry)) g k ⌝ }
 {
     number(table[GROUPS + GROUP_LENGTH * g + GROUP_POSITIONS + k])
 }
 
 pub fn entry_count(table: &[u16], g: usize) -> usize
-    requires { ⌜ (length (now table) ≡ tableLength logicTile) × (g < maxGroups) ⌝ }
+    requires { ⌜ (length (now table) ≡ tableLength) × (g < maxGroups) ⌝ }
     ensures { λ r. ⌜ r ≡ entryCount logicTile (now (table .entry)) g ⌝ }
 {
     number(table[GROUPS + GROUP_LENGTH * g + ENTRY_COUNT])
 }
 
 pub fn pattern(table: &[u16], g: usize, e: usize) -> u16
-    requires { ⌜ (length (now table) ≡ tableLength logicTile) × (g < maxGroups) × (e < maxEntries) ⌝ }
+    requires { ⌜ (length (now table) ≡ tableLength) × (g < maxGroups) × (e < maxEntries) ⌝ }
     ensures { λ r. ⌜ r ≡ patternAt logicTile (now (table .entry)) g e ⌝ }
 {
     table[GROUPS + GROUP_LENGTH * g + PATTERNS + 2 * e]
 }
 
 pub fn source(table: &[u16], g: usize, e: usize) -> u16
-    requires { ⌜ (length (now table) ≡ tableLength logicTile) × (g < maxGroups) × (e < maxEntries) ⌝ }
+    requires { ⌜ (length (now table) ≡ tableLength) × (g < maxGroups) × (e < maxEntries) ⌝ }
     ensures { λ r. ⌜ r ≡ sourceAt logicTile (now (table .entry)) g e ⌝ }
 {
     table[GROUPS + GROUP_LENGTH * g + SOURCES + 2 * e]
@@ -127,7 +116,7 @@ pub fn source(table: &[u16], g: usize, e: usize) -> u16
 // The first entry of group g with this pattern, or its number of entries.
 // Rules out: the last such entry; an entry past the group's count.
 pub fn find_entry(table: &[u16], g: usize, wanted: u16) -> usize
-    requires { ⌜ (length (now table) ≡ tableLength logicTile) × (g < maxGroups) × (entryCount logicTile (now table) g ≤ maxEntries) ⌝ }
+    requires { ⌜ (length (now table) ≡ tableLength) × (g < maxGroups) × (entryCount logicTile (now table) g ≤ maxEntries) ⌝ }
     ensures { λ r. ⌜ r ≡ entryOf logicTile (now (table .entry)) g wanted ⌝ }
 {
     let n = entry_count(table, g);

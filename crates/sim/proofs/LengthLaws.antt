@@ -5,11 +5,9 @@ use mathlib.Core.Logic.{_↔_}
 use mathlib.Core.Bool.{true}
 use borrow.Author.Tests.{eqb-true, eq-eqb}
 use Rattle.lists.proofs.CaseLaws.{and-left, and-right, and-true, equal-and, and-equal}
-use Rattle.fabric.specs.Block.{portsPerTile}
+use Rattle.ports.specs.Lengths.{portsPerTile, tableLength, settingsLength}
 use Rattle.netlist.specs.Rows.{rowLength}
 use Rattle.routing.specs.LogicTile.{logicTile}
-use Rattle.routing.specs.Table.{tableLength}
-use Rattle.codec.specs.Settings.{settingsLength}
 use Rattle.sim.specs.Stepping.{inputLengths, roomLengths, stepLengths, InputsLong, RoomLong}
 
 module _ (n table settings list state before after : ℕ) where
@@ -18,8 +16,8 @@ module _ (n table settings list state before after : ℕ) where
     where
       there : inputLengths n table settings list state before after ≡ true → InputsLong n table settings list state before after
       there e =
-          let a = equal-and table (tableLength logicTile) _ e in
-          let b = equal-and settings (settingsLength logicTile * n) _ (a .1) in
+          let a = equal-and table tableLength _ e in
+          let b = equal-and settings (settingsLength * n) _ (a .1) in
           let c = equal-and list (rowLength * (portsPerTile * n)) _ (b .1) in
           let d = equal-and state (8 * n) _ (c .1) in
           let f = equal-and before (portsPerTile * n) _ (d .1) in
@@ -27,8 +25,8 @@ module _ (n table settings list state before after : ℕ) where
 
       back : InputsLong n table settings list state before after → inputLengths n table settings list state before after ≡ true
       back r =
-          and-equal table (tableLength logicTile) (r .table-long)
-          (and-equal settings (settingsLength logicTile * n) (r .settings-long)
+          and-equal table tableLength (r .table-long)
+          (and-equal settings (settingsLength * n) (r .settings-long)
           (and-equal list (rowLength * (portsPerTile * n)) (r .list-long)
           (and-equal state (8 * n) (r .state-long) (and-equal before (portsPerTile * n) (r .before-long) (eq-eqb after (portsPerTile * n) (r .after-long))))))
 

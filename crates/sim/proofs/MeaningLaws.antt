@@ -12,8 +12,9 @@ use Rattle.lists.proofs.CaseLaws.{clash}
 use Rattle.lists.proofs.SearchLaws.{first-true, first-before}
 use Rattle.refusal.specs.declared.Answer.{Answer}
 use Rattle.refusal.proofs.GroundsLaws.{unless-cases}
-use Rattle.fabric.specs.Block.{block, tiles, ports, sized}
-use Rattle.fabric.proofs.BlockLaws.{sized-true, sized-exact}
+use Rattle.ports.specs.Block.{block, tiles, sized}
+use Rattle.ports.specs.Lengths.{ports}
+use Rattle.ports.proofs.BlockLaws.{sized-true, sized-exact}
 use Rattle.netlist.specs.Checking.{FirstBad}
 use Rattle.netlist.proofs.CheckingLaws.{first-bad-exact}
 use Rattle.routing.specs.LogicTile.{logicTile}

@@ -13,11 +13,12 @@ use Rattle.refusal.specs.Grounds.{unless, answerNumber}
 use Rattle.refusal.specs.Memory.{workRoom}
 use Rattle.refusal.proofs.GroundsLaws.{unless-passed}
 use Rattle.refusal.specs.declared.Refusal.{Refusal}
-use Rattle.refusal.specs.declared.Refusal.the-variants.{Size, Length, Table, NoSuchSettings, NotABit, Row}
+use Rattle.refusal.specs.declared.Refusal.the-variants.{WrongSize, WrongLength, Table, NoSuchSettings, NotABit, Row}
 use Rattle.refusal.specs.declared.Answer.{Answer}
 use Rattle.refusal.specs.declared.Answer.the-variants.{Done, Refused}
-use Rattle.fabric.specs.declared.Block.{Block}
-use Rattle.fabric.specs.Block.{block, tiles, ports, sized}
+use Rattle.ports.specs.declared.size.Block.{Block}
+use Rattle.ports.specs.Block.{block, tiles, sized}
+use Rattle.ports.specs.Lengths.{ports}
 use Rattle.netlist.specs.Rows.{rowLength}
 use Rattle.netlist.specs.Running.{Bits}
 use Rattle.netlist.proofs.CheckingLaws.{first-bad-exact}
@@ -105,11 +106,11 @@ module _ (B : Block) (t st list state before after : List ℕ) where
 -- ---- grounds 1 and 2
 
 module _ (w h : ℕ) (t st list state before after : List ℕ) where
-  pub step-size : (lengths : Bool) → sized (block w h) ≡ false → Refused Size ≡ stepAnswer w h t st list state before after lengths
+  pub step-size : (lengths : Bool) → sized (block w h) ≡ false → Refused WrongSize ≡ stepAnswer w h t st list state before after lengths
   unfolding stepAnswer
   step-size lengths e = rw e
 
-  pub step-length : (lengths : Bool) → sized (block w h) ≡ true → lengths ≡ false → Refused Length ≡ stepAnswer w h t st list state before after lengths
+  pub step-length : (lengths : Bool) → sized (block w h) ≡ true → lengths ≡ false → Refused WrongLength ≡ stepAnswer w h t st list state before after lengths
   unfolding stepAnswer
   step-length lengths e l = rw (e, l)
 

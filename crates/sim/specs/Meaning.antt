@@ -3,10 +3,11 @@ use Prim.Native.Nat.{ℕ, _*_, _<_, _≤_}
 use mathlib.Core.List.{List, _++_}
 use lib.ListN.{length, getD}
 use Rattle.refusal.specs.declared.Refusal.{Refusal}
-use Rattle.refusal.specs.declared.Refusal.the-variants.{Size, Length, Table, Undecodable, Contention, DisabledCarry, Loop, CellClock, NoSuchSettings, NotABit, Line, Row, OutOfRange}
+use Rattle.refusal.specs.declared.Refusal.the-variants.{WrongSize, WrongLength, Table, Undecodable, Contention, DisabledCarry, Loop, CellClock, NoSuchSettings, NotABit, Line, Row, OutOfRange}
 use Rattle.refusal.specs.declared.Answer.{Answer}
 use Rattle.refusal.specs.declared.Answer.the-variants.{Done, Refused}
-use Rattle.fabric.specs.Block.{block, tiles, ports, Sized}
+use Rattle.ports.specs.Block.{block, tiles, Sized}
+use Rattle.ports.specs.Lengths.{ports}
 use Rattle.netlist.specs.Checking.{RowStands, FirstBad}
 use Rattle.netlist.specs.Running.{Bits}
 use Rattle.routing.specs.LogicTile.{logicTile}
@@ -44,8 +45,8 @@ module _ (w h : ℕ) (t st list state before after : List ℕ) (values next wire
 
   -- "a step [checks] 1, 2, 3, 9, 12, 10": what each no says; it has no other
   abbrev pub StepRefusalSays : Refusal → Type 0
-  StepRefusalSays Size = Sized (block w h) → ⊥
-  StepRefusalSays Length = Sized (block w h) × (Exact → ⊥)
+  StepRefusalSays WrongSize = Sized (block w h) → ⊥
+  StepRefusalSays WrongLength = Sized (block w h) × (Exact → ⊥)
   StepRefusalSays (Table part) = Sized (block w h) × Exact × FirstBroken logicTile t part
   StepRefusalSays (NoSuchSettings T) = Sized (block w h) × Exact × TableRules logicTile t × LowestBitless t st (tiles (block w h)) T
   StepRefusalSays (Row row) = Prepared × (row < ports (block w h)) × FirstBad list (8 * tiles (block w h)) (wireMarks (block w h)) (ports (block w h)) row

@@ -7,24 +7,23 @@ use lib.Dec.{eqb, ltb, leb}
 use lib.ListN.{length, getD}
 use Rattle.lists.specs.Search.{first}
 use Rattle.refusal.specs.Grounds.{unless}
-use Rattle.refusal.specs.declared.Refusal.the-variants.{Size, Length, Table, NoSuchSettings, Row, NotABit}
+use Rattle.refusal.specs.declared.Refusal.the-variants.{WrongSize, WrongLength, Table, NoSuchSettings, Row, NotABit}
 use Rattle.refusal.specs.declared.Answer.{Answer}
 use Rattle.refusal.specs.declared.Answer.the-variants.{Done, Refused}
-use Rattle.fabric.specs.declared.Block.{Block}
-use Rattle.fabric.specs.Block.{block, tiles, ports, sized, portsPerTile}
+use Rattle.ports.specs.declared.size.Block.{Block}
+use Rattle.ports.specs.Block.{block, tiles, sized}
+use Rattle.ports.specs.Lengths.{ports, portsPerTile, tableLength, settingsLength}
 use Rattle.netlist.specs.Rows.{rowLength}
 use Rattle.routing.specs.LogicTile.{logicTile}
-use Rattle.routing.specs.Table.{tableLength}
 use Rattle.routing.specs.TableCheck.{faultyPart, tableOk}
-use Rattle.codec.specs.Settings.{settingsLength}
 use Rattle.config.specs.Blocks.{bitlessTile}
 use Rattle.stepper.specs.Settling.{badRow}
 
 -- "2: a lent length differs from the exact one", for n tiles: what is read, then the outputs and the work room
 abbrev pub inputLengths : ℕ → (table settings list state before after : ℕ) → Bool
 inputLengths n table settings list state before after =
-    eqb table (tableLength logicTile)
-    && (eqb settings (settingsLength logicTile * n)
+    eqb table tableLength
+    && (eqb settings (settingsLength * n)
     && (eqb list (rowLength * (portsPerTile * n)) && (eqb state (8 * n) && (eqb before (portsPerTile * n) && eqb after (portsPerTile * n)))))
 
 abbrev pub roomLengths : ℕ → (values next wires own marks first second : ℕ) → Bool
@@ -40,8 +39,8 @@ stepLengths n table settings list state before after values next wires own marks
 
 -- the same as facts
 pub record InputsLong (n table settings list state before after : ℕ) : Type 0 where
-  pub table-long : table ≡ tableLength logicTile
-  pub settings-long : settings ≡ settingsLength logicTile * n
+  pub table-long : table ≡ tableLength
+  pub settings-long : settings ≡ settingsLength * n
   pub list-long : list ≡ rowLength * (portsPerTile * n)
   pub state-long : state ≡ 8 * n
   pub before-long : before ≡ portsPerTile * n
@@ -79,4 +78,4 @@ inputsAnswer B t st list state before after =
 
 unfoldable pub stepAnswer : ℕ → ℕ → List ℕ → List ℕ → List ℕ → List ℕ → List ℕ → List ℕ → Bool → Answer
 stepAnswer w h t st list state before after lengths =
-    unless (sized (block w h)) (Refused Size) (unless lengths (Refused Length) (inputsAnswer (block w h) t st list state before after))
+    unless (sized (block w h)) (Refused WrongSize) (unless lengths (Refused WrongLength) (inputsAnswer (block w h) t st list state before after))

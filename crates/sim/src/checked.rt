@@ -3,12 +3,12 @@ ghost use mathlib.Core.Path.{_≡_};
 ghost use lib.ListN.{length};
 ghost use Rattle.refusal.specs.Grounds.{answerNumber};
 ghost use Rattle.refusal.specs.Memory.{output};
-ghost use Rattle.fabric.specs.Block.{Sized, tiles};
+ghost use Rattle.ports.specs.Block.{Sized, tiles};
 ghost use Rattle.stepper.specs.Settling.{settledBy, portValues};
 ghost use Rattle.stepper.specs.Clocking.{nextStates};
 ghost use Rattle.sim.specs.Stepping.{InputsLong, RoomLong, inputsAnswer};
 use crate::checks::check_inputs;
-use fabric::Block;
+use ports::size::Block;
 use refusal::Answer;
 use stepper::write_step;
 

@@ -3,9 +3,9 @@ ghost use mathlib.Core.Path.{_≡_};
 ghost use Prim.Native.Nat.{_≤_};
 ghost use mathlib.Core.Bool.{true};
 ghost use Rattle.sim.specs.Stepping.{inputLengths, roomLengths, stepLengths, InputsLong, RoomLong};
-use codec::settings::SETTINGS_LENGTH;
-use fabric::ports::PORTS_PER_TILE;
 use netlist::row::ROW_LENGTH;
+use ports::lengths::PORTS_PER_TILE;
+use ports::lengths::SETTINGS_LENGTH;
 
 // Numbers in a table; cells in a tile.
 const TABLE_LENGTH: usize = 38469;

@@ -6,12 +6,12 @@ ghost use mathlib.Core.Path.{_≡_};
 ghost use lib.ListN.{length};
 ghost use Rattle.refusal.specs.Grounds.{answerNumber};
 ghost use Rattle.refusal.specs.Memory.{output, workRoom};
-ghost use Rattle.fabric.specs.Block.{block, tiles};
+ghost use Rattle.ports.specs.Block.{block, tiles};
 ghost use Rattle.stepper.specs.Settling.{settledBy, portValues};
 ghost use Rattle.stepper.specs.Clocking.{nextStates};
 ghost use Rattle.sim.specs.Stepping.{stepLengths, stepAnswer};
 ghost use Rattle.sim.specs.Meaning.{StepSays};
-use fabric::Block;
+use ports::size::Block;
 use refusal::Answer;
 use refusal::Refusal;
 
@@ -51,8 +51,8 @@ pub fn step(
     ensures says { λ r. ⌜ StepSays w h (now (table .entry)) (now (settings .entry)) (now (list .entry)) (now (state .entry)) (now (before .entry)) (now (after .entry)) (length (now (values .entry))) (length (now (next .entry))) (length (now (wires .entry))) (length (now (own .entry))) (length (now (marks .entry))) (length (now (first .entry))) (length (now (second .entry))) r ⌝ }
 {
     let b = Block { w, h };
-    if !fabric::is_sized(b) {
-        return Answer::Refused(Refusal::Size);
+    if !ports::size::is_sized(b) {
+        return Answer::Refused(Refusal::WrongSize);
     }
     let n = (h * w) as usize;
     if !lengths::step_lengths(
@@ -71,7 +71,7 @@ pub fn step(
         first.len(),
         second.len(),
     ) {
-        return Answer::Refused(Refusal::Length);
+        return Answer::Refused(Refusal::WrongLength);
     }
     let r = checked::step_checked(
         b,

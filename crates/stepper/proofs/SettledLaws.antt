@@ -10,8 +10,9 @@ use Rattle.lists.specs.Tables.{tabulate, zeros}
 use Rattle.lists.specs.Search.{count}
 use Rattle.lists.proofs.CountLaws.{count-ext}
 use Rattle.lists.proofs.TableLaws.{tabulate-length, tabulate-zero, tabulate-ext, zeros-length}
-use Rattle.fabric.specs.declared.Block.{Block}
-use Rattle.fabric.specs.Block.{tiles, ports}
+use Rattle.ports.specs.declared.size.Block.{Block}
+use Rattle.ports.specs.Block.{tiles}
+use Rattle.ports.specs.Lengths.{ports}
 use Rattle.fabric.specs.Wire.{wireOf, wiresOf}
 use Rattle.fabric.specs.Count.{ownWire, wires}
 use Rattle.fabric.proofs.WireLaws.{wire-within, wire-own, wires-at}

@@ -3,9 +3,9 @@ use Prim.Native.Nat.{ℕ, _*_, _/_, _%_}
 use mathlib.Core.List.{List}
 use lib.ListN.{getD}
 use Rattle.lists.specs.Tables.{tabulate}
-use Rattle.fabric.specs.declared.Block.{Block}
-use Rattle.fabric.specs.Block.{tiles, portOf}
-use Rattle.fabric.specs.PortIndex.{clk, cen, sR, inPort}
+use Rattle.ports.specs.declared.size.Block.{Block}
+use Rattle.ports.specs.Block.{tiles, portOf}
+use Rattle.ports.specs.PortIndex.{clk, cen, sR, inPort}
 use Rattle.cell.specs.declared.logic.Cell.{Cell}
 use Rattle.cell.specs.declared.flip_flop.Control.{Control}
 use Rattle.cell.specs.Settings.{cellOf}

@@ -6,8 +6,9 @@ use mathlib.Core.Bool.{cond}
 use mathlib.Core.List.{List}
 use lib.ListN.{length, getD}
 use Rattle.lists.specs.Tables.{tabulate, zeros}
-use Rattle.fabric.specs.declared.Block.{Block}
-use Rattle.fabric.specs.Block.{tiles, ports}
+use Rattle.ports.specs.declared.size.Block.{Block}
+use Rattle.ports.specs.Block.{tiles}
+use Rattle.ports.specs.Lengths.{ports}
 use Rattle.fabric.specs.Wire.{wireOf}
 use Rattle.fabric.specs.Count.{ownWire, wires}
 use Rattle.netlist.specs.Rows.{rowLength}

@@ -2,7 +2,8 @@
 ghost use mathlib.Core.Path.{_≡_};
 ghost use Prim.Native.Nat.{_*_, _<_};
 ghost use lib.ListN.{length};
-ghost use Rattle.fabric.specs.Block.{tiles, ports, portsPerTile};
+ghost use Rattle.ports.specs.Block.{tiles};
+ghost use Rattle.ports.specs.Lengths.{ports, portsPerTile};
 ghost use Rattle.equations.specs.Routed.{Mapped};
 ghost use Rattle.stepper.specs.Settling.{PortBits};
 ghost use Rattle.stepper.specs.Clocking.{valueAt, lookupAt, controlOf, nextCell, nextStates};
@@ -13,9 +14,8 @@ use cell::logic::lookup_bit;
 use equations::tiles::cell_at;
 use equations::tiles::setting_at;
 use equations::tiles::wire_at;
-use fabric::Block;
-use fabric::ports;
 use netlist::row::wide;
+use ports::size::Block;
 
 // Cells in a tile, and the field that inverts its clock.
 const CELLS: usize = 8;

@@ -3,15 +3,16 @@
 ghost use mathlib.Core.Path.{_≡_};
 ghost use Prim.Native.Nat.{_*_};
 ghost use lib.ListN.{length};
-ghost use Rattle.fabric.specs.Block.{tiles, ports};
+ghost use Rattle.ports.specs.Block.{tiles};
+ghost use Rattle.ports.specs.Lengths.{ports};
 ghost use Rattle.equations.specs.Routed.{Mapped};
 ghost use Rattle.stepper.specs.Settling.{settledBy, portValues, wireMarks, Runnable};
 ghost use Rattle.stepper.specs.Clocking.{nextStates};
 use crate::clock::clock;
 use crate::settle::settle;
 use crate::settle::write_values;
-use fabric::Block;
 use netlist::check::count_wires;
+use ports::size::Block;
 
 pub mod clock;
 pub mod settle;

@@ -1,13 +1,13 @@
 // Running a list on a state and lent values, and the value of each port. Both assume what the checks of a step have shown.
 ghost use mathlib.Core.Path.{_≡_};
 ghost use lib.ListN.{length};
-ghost use Rattle.fabric.specs.Block.{ports};
+ghost use Rattle.ports.specs.Lengths.{ports};
 ghost use Rattle.fabric.specs.Count.{wires};
 ghost use Rattle.fabric.specs.Wire.{wiresOf};
 ghost use Rattle.stepper.specs.Settling.{settledBy, portValues, Runnable};
-use fabric::Block;
 use netlist::row::wide;
 use netlist::run::run;
+use ports::size::Block;
 
 // Settles the wires' values under a state and lent values: as many rows are run as the block has wires, which is `count`.
 // Rules out: a number of rows that is made up; values of an earlier run that shine through.

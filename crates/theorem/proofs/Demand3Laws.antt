@@ -6,9 +6,9 @@ use mathlib.Core.List.{List}
 use native.Mathlib.Omega.{arith}
 use Rattle.lists.specs.Tables.{zeros}
 use Rattle.lists.proofs.TableLaws.{zeros-length}
-use Rattle.refusal.specs.declared.Refusal.the-variants.{Size, Length, Table, Undecodable, Contention, DisabledCarry, Loop, CellClock, NoSuchSettings, NotABit, Line, Row, OutOfRange}
-use Rattle.fabric.specs.declared.Block.{Block}
-use Rattle.fabric.specs.Block.{ports}
+use Rattle.refusal.specs.declared.Refusal.the-variants.{WrongSize, WrongLength, Table, Undecodable, Contention, DisabledCarry, Loop, CellClock, NoSuchSettings, NotABit, Line, Row, OutOfRange}
+use Rattle.ports.specs.declared.size.Block.{Block}
+use Rattle.ports.specs.Lengths.{ports}
 use Rattle.fabric.specs.Count.{wires}
 use Rattle.netlist.specs.Order.{AllListed}
 use Rattle.equations.specs.Equations.{Depends}
@@ -43,8 +43,8 @@ module _ (B : Block) (t st : List ℕ) (ok : Routed B t st) where
       go w d (Refused (Contention v)) s e = absurd (free v (s .here))
       go w d (Refused (DisabledCarry v)) s e = absurd (unread v (s .1 .here))
       go w d (Refused (CellClock T)) s e = absurd (s .2 w d)
-      go w d (Refused Size) s e = absurd s
-      go w d (Refused Length) s e = absurd s
+      go w d (Refused WrongSize) s e = absurd s
+      go w d (Refused WrongLength) s e = absurd s
       go w d (Refused (Table part)) s e = absurd s
       go w d (Refused (Undecodable tile)) s e = absurd s
       go w d (Refused (NoSuchSettings tile)) s e = absurd s

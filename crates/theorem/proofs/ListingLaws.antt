@@ -6,8 +6,9 @@ use mathlib.Core.List.{List}
 use native.Mathlib.Omega.{arith}
 use lib.ListN.{length, getD}
 use Rattle.lists.proofs.CaseLaws.{clash}
-use Rattle.fabric.specs.declared.Block.{Block}
-use Rattle.fabric.specs.Block.{tiles, ports}
+use Rattle.ports.specs.declared.size.Block.{Block}
+use Rattle.ports.specs.Block.{tiles}
+use Rattle.ports.specs.Lengths.{ports}
 use Rattle.fabric.specs.Wire.{wireOf}
 use Rattle.fabric.specs.Count.{wires}
 use Rattle.fabric.proofs.WireLaws.{wire-within, wire-own}

@@ -8,8 +8,9 @@ use native.Mathlib.Omega.{arith}
 use borrow.Author.Tests.{eq-eqb, eqb-false, not-true}
 use lib.ListN.{length, getD}
 use Rattle.lists.proofs.CaseLaws.{clash}
-use Rattle.fabric.specs.declared.Block.{Block}
-use Rattle.fabric.specs.Block.{tiles, ports}
+use Rattle.ports.specs.declared.size.Block.{Block}
+use Rattle.ports.specs.Block.{tiles}
+use Rattle.ports.specs.Lengths.{ports}
 use Rattle.fabric.specs.Wire.{wireOf}
 use Rattle.fabric.specs.Count.{ownWire, wires}
 use Rattle.netlist.specs.declared.row.Row.{Row}

@@ -6,14 +6,13 @@ use mathlib.Core.List.{List}
 use native.Mathlib.Omega.{arith}
 use lib.ListN.{length}
 use Rattle.refusal.specs.declared.Answer.the-variants.{Done}
-use Rattle.fabric.specs.declared.Block.{Block}
-use Rattle.fabric.specs.Block.{Sized, block, tiles}
-use Rattle.fabric.proofs.BlockLaws.{sized-true}
+use Rattle.ports.specs.declared.size.Block.{Block}
+use Rattle.ports.specs.Block.{Sized, block, tiles}
+use Rattle.ports.proofs.BlockLaws.{sized-true}
 use Rattle.routing.specs.LogicTile.{logicTile}
-use Rattle.routing.specs.Table.{tableLength}
+use Rattle.ports.specs.Lengths.{tableLength, settingsLength}
 use Rattle.routing.specs.TableCheck.{tableOk}
 use Rattle.routing.proofs.TableCheckLaws.{table-exact}
-use Rattle.codec.specs.Settings.{settingsLength}
 use Rattle.config.specs.Blocks.{bitlessTile}
 use Rattle.equations.specs.Routed.{Routed}
 use Rattle.equations.specs.Settling.{blockList, Inputs}
@@ -26,8 +25,8 @@ use Rattle.sim.proofs.StepLaws.{run-done, inputs-run, step-inputs}
 use Rattle.theorem.proofs.Demand3Laws.{own-passes}
 
 -- grounds 1, 2, 3 and 9 passed
-module _ (w h : ℕ) (t st : List ℕ) (size : Sized (block w h)) (table-long : length t ≡ tableLength logicTile)
-    (settings-long : length st ≡ settingsLength logicTile * tiles (block w h)) (kept : tableOk logicTile t ≡ true)
+module _ (w h : ℕ) (t st : List ℕ) (size : Sized (block w h)) (table-long : length t ≡ tableLength)
+    (settings-long : length st ≡ settingsLength * tiles (block w h)) (kept : tableOk logicTile t ≡ true)
     (fits : tiles (block w h) ≤ bitlessTile t st (tiles (block w h))) where
   abbrev B : Block
   B = block w h

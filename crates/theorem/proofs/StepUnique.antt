@@ -6,10 +6,11 @@ use mathlib.Core.List.{List}
 use native.Mathlib.Omega.{arith}
 use Rattle.lists.proofs.CaseLaws.{eq-or-ne}
 use Rattle.lists.proofs.TableLaws.{tabulate-ext}
-use Rattle.fabric.specs.declared.Block.{Block}
-use Rattle.fabric.specs.Block.{tiles, ports, portsPerTile, portOf}
-use Rattle.fabric.specs.PortIndex.{clk, cen, sR, inPort}
-use Rattle.fabric.proofs.BlockLaws.{port-of-lt}
+use Rattle.ports.specs.declared.size.Block.{Block}
+use Rattle.ports.specs.Block.{tiles, portOf}
+use Rattle.ports.specs.Lengths.{ports, portsPerTile}
+use Rattle.ports.specs.PortIndex.{clk, cen, sR, inPort}
+use Rattle.ports.proofs.BlockLaws.{port-of-lt}
 use Rattle.stepper.specs.Settling.{portValue, portValues}
 use Rattle.stepper.specs.Clocking.{valueAt, lookupAt, nextCell, nextStates}
 use Rattle.theorem.specs.Demand3.{OnlyChoice, StepMeans}

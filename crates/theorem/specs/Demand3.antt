@@ -4,8 +4,8 @@ use mathlib.Core.Path.{_≡_}
 use mathlib.Core.Logic.{_⊎_, _↔_, _≢_}
 use mathlib.Core.List.{List}
 use Rattle.refusal.specs.declared.Refusal.the-variants.{Loop}
-use Rattle.fabric.specs.declared.Block.{Block}
-use Rattle.fabric.specs.Block.{ports}
+use Rattle.ports.specs.declared.size.Block.{Block}
+use Rattle.ports.specs.Lengths.{ports}
 use Rattle.fabric.specs.Wire.{wireOf}
 use Rattle.fabric.specs.Count.{wires}
 use Rattle.netlist.specs.Rows.{rowAt, zeroRow}

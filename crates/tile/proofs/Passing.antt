@@ -11,7 +11,8 @@ use lib.ListN.{getD}
 use Rattle.lists.proofs.CaseLaws.{eq-or-ne}
 use Rattle.digits.specs.Digits.{digit, setDigit}
 use Rattle.digits.proofs.DigitLaws.{digit-set-same, digit-set-other}
-use Rattle.codec.specs.Bits.{unit, tileBytes, bitIn, bitAt}
+use Rattle.codec.specs.Bits.{unit, bitIn, bitAt}
+use Rattle.ports.specs.Lengths.{tileNumbers}
 use Rattle.tile.specs.Taking.{Learned, Taken}
 use Rattle.tile.proofs.TakingLaws.{taken-kept}
 
@@ -55,7 +56,7 @@ taken-turn {table} {bits} {before} {after} {i} inv L here =
     below-more (TakenByte table bits after) i (λ j l k m e. taken-kept L (inv j l k m e)) here
 
 -- all bytes, and so all positions
-pub taken-end : (table bits settings : List ℕ) (n : ℕ) → tileBytes ≤ n → ((i : ℕ) → i < n → TakenByte table bits settings i)
+pub taken-end : (table bits settings : List ℕ) (n : ℕ) → tileNumbers ≤ n → ((i : ℕ) → i < n → TakenByte table bits settings i)
     → (p : ℕ) → p < 864 → bitAt bits p ≡ 1 → Taken table settings p
 unfolding bitIn
 taken-end table bits settings n h bytes p l e =

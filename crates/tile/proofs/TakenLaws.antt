@@ -20,7 +20,8 @@ use Rattle.routing.specs.LogicTile.{logicTile, carryInSet, carryChain}
 use Rattle.routing.specs.Table.{fieldAt, passiveAt, groupCount, widthOf, positionAt}
 use Rattle.routing.specs.Rules.{TableRules}
 use Rattle.codec.specs.Bits.{bitAt, tileOf}
-use Rattle.codec.specs.Settings.{fieldSetting, groupsFrom, cellsFrom, settingsLength}
+use Rattle.codec.specs.Settings.{fieldSetting, groupsFrom, cellsFrom}
+use Rattle.ports.specs.Lengths.{settingsLength}
 use Rattle.codec.specs.Groups.{groupBit, groupPattern, settingOfPattern, readGroup}
 use Rattle.codec.specs.Decode.{settingNumber, settingAt, decode}
 use Rattle.codec.specs.Fault.{isUnlisted, tileFault}
@@ -91,7 +92,7 @@ module _ (table bits settings : List ℕ) (T : TableRules logicTile table) (K : 
       ⊎-elim (λ (e : bitAt bits p ≡ 1). absurd (not-taken (all p h e))) (λ (e : bitAt bits p ≢ 1). omega (arith, bit-lt bits p)) (eq-or-ne (bitAt bits p) 1)
 
   -- what is not known is 0
-  rest-zero : (n : ℕ) → n < settingsLength logicTile → n < cellsFrom logicTile → getD settings n 0 ≡ 0 → settingAt table (bitAt bits) n ≡ 0
+  rest-zero : (n : ℕ) → n < settingsLength → n < cellsFrom logicTile → getD settings n 0 ≡ 0 → settingAt table (bitAt bits) n ≡ 0
   rest-zero =
       setting-kinds table (λ (n : ℕ). n < cellsFrom logicTile → getD settings n 0 ≡ 0 → settingAt table (bitAt bits) n ≡ 0)
       (λ f h l z. setting-field table bits f h
@@ -129,12 +130,12 @@ module _ (table bits settings : List ℕ) (T : TableRules logicTile table) (K : 
   taken-fault single = tile-fault-exact table bits T .1 (taken-decodable single)
 
 -- a tile with no bit set
-no-carries : bothCarries (zeros (settingsLength logicTile)) ≡ false
+no-carries : bothCarries (zeros settingsLength) ≡ false
 unfolding bothCarries
 no-carries = refl
 
 pub empty-fault : (table bits : List ℕ) → TableRules logicTile table → ((p : ℕ) → bitAt bits p ≡ 0) → tileFault table (tileOf bits) ≡ 864
 empty-fault table bits T none =
-    taken-fault table bits (zeros (settingsLength logicTile)) T (known-start (zeros (settingsLength logicTile)) (settingsLength logicTile) refl refl)
+    taken-fault table bits (zeros settingsLength) T (known-start (zeros settingsLength) settingsLength refl refl)
     (λ p h e. absurd (omega (arith, none p)))
-    (ap bothCarries (sym (decode-empty table bits none (settingsLength logicTile) refl)) ∙ no-carries)
+    (ap bothCarries (sym (decode-empty table bits none settingsLength refl)) ∙ no-carries)

@@ -11,12 +11,13 @@ use Rattle.cell.specs.declared.logic.Cell.{Cell}
 use Rattle.cell.proofs.SettingsLaws.{flags-of-cell}
 use Rattle.routing.specs.TileKind.{bitsPerCell}
 use Rattle.routing.specs.LogicTile.{logicTile, cellPosition}
-use Rattle.routing.specs.Table.{maxPassives, maxGroups, maxPositions, fieldAt, passiveCount, passiveAt, groupCount, widthOf, positionAt}
+use Rattle.ports.specs.Lengths.{maxPassives, maxGroups, maxPositions, tileNumbers}
+use Rattle.routing.specs.Table.{fieldAt, passiveCount, passiveAt, groupCount, widthOf, positionAt}
 use Rattle.routing.specs.Slots.{slotsOf, fieldSlots, passiveSlots, groupSlots, groupSlot, slotCount}
 use Rattle.routing.proofs.SlotLaws.{slot-unused-passive, slot-unused-group}
 use Rattle.routing.proofs.LogicTileLaws.{logic-tile-once}
 use Rattle.routing.proofs.TableOnceLaws.{table-once}
-use Rattle.codec.specs.Bits.{tileBytes, setBit, setBits, bitAt}
+use Rattle.codec.specs.Bits.{setBit, setBits, bitAt}
 use Rattle.codec.specs.Settings.{fieldSetting, passiveSetting, groupSetting, cellTable, cellFlags}
 use Rattle.codec.specs.Groups.{groupBit, patternOf}
 use Rattle.codec.specs.Cells.{cellValue, cellNumber, cellSetting, cellSettings, emptyCell, writeCells}
@@ -111,7 +112,7 @@ module _ (table settings bits : List ℕ) (C : Writable table settings) where
       (ap (λ (v : ℕ). setBits (writeCells bits (cellSettings settings) n) (cellPosition n) v bitsPerCell) (cell-number n (omega arith))))
 
   -- all eight, as the code has them
-  pub cells-end : (n : ℕ) (cells : List Cell) (new : List ℕ) → n ≡ tileBytes → bits ≡ zeros n → cells ≡ cellSettings settings → new ≡ writeCells bits cells 8
+  pub cells-end : (n : ℕ) (cells : List Cell) (new : List ℕ) → n ≡ tileNumbers → bits ≡ zeros n → cells ≡ cellSettings settings → new ≡ writeCells bits cells 8
       → TileWritten table settings (fieldSlots logicTile) new
   cells-end n cells new l z e q =
       subst (TileWritten table settings (fieldSlots logicTile)) (sym (q ∙ ap (λ (c : List Cell). writeCells bits c 8) e))

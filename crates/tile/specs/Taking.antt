@@ -7,14 +7,14 @@ use mathlib.Core.Logic.{_≢_}
 use mathlib.Core.List.{List}
 use lib.ListN.{length, getD}
 use Rattle.routing.specs.LogicTile.{logicTile}
-use Rattle.routing.specs.Table.{maxPositions}
+use Rattle.ports.specs.Lengths.{maxPositions, settingsLength}
 use Rattle.routing.specs.Slots.{slotsOf, owner, fieldSlots, groupSlot, slotCount}
-use Rattle.codec.specs.Settings.{groupsFrom, cellsFrom, settingsLength}
+use Rattle.codec.specs.Settings.{groupsFrom, cellsFrom}
 use Rattle.codec.specs.Decode.{settingAt}
 
 -- below the cells, a setting that is not 0 is known: it is what the bits read to
 pub record Known (table bits settings : List ℕ) : Type 0 where
-  pub long : length settings ≡ settingsLength logicTile
+  pub long : length settings ≡ settingsLength
   pub right : (n : ℕ) → n < cellsFrom logicTile → getD settings n 0 ≢ 0 → getD settings n 0 ≡ settingAt table (bitAt bits) n
 
 -- settings that know all that those before knew

@@ -8,8 +8,8 @@ ghost use lib.ListN.{length};
 ghost use Rattle.routing.specs.LogicTile.{logicTile};
 ghost use Rattle.routing.specs.Rules.{TableRules};
 ghost use Rattle.routing.specs.Slots.{Owned, slotsOf, slotCount, fieldSlots, passiveSlots, groupSlots};
-ghost use Rattle.codec.specs.Bits.{tileBytes, bitAt, tileOf};
-ghost use Rattle.codec.specs.Settings.{settingsLength};
+ghost use Rattle.ports.specs.Lengths.{tileNumbers, settingsLength};
+ghost use Rattle.codec.specs.Bits.{bitAt, tileOf};
 ghost use Rattle.codec.specs.Decode.{decode};
 ghost use Rattle.codec.specs.Fault.{tileFault};
 ghost use Rattle.codec.specs.Encode.{encode};
@@ -27,10 +27,10 @@ use codec::fault::is_fault_at;
 use codec::groups::write_group;
 use codec::settings::GROUPS_FROM;
 use codec::settings::PASSIVES_FROM;
-use codec::settings::SETTINGS_LENGTH;
 use codec::settings::group_setting;
 use codec::settings::has_both_carries;
 use codec::settings::setting_at;
+use ports::lengths::SETTINGS_LENGTH;
 
 mod reading;
 
@@ -38,7 +38,7 @@ const POSITIONS: usize = 864;
 
 // The lowest position at fault; 864 where the tile can be decoded. `own` is the ownership map of the table.
 pub fn tile_fault(table: &[u16], own: &[u16], bits: &[u8]) -> usize
-    requires { ⌜ (TableRules logicTile (now table)) × (Owned 864 (slotsOf logicTile (now table)) (slotCount logicTile) (now own)) × (length (now bits) ≡ tileBytes) ⌝ }
+    requires { ⌜ (TableRules logicTile (now table)) × (Owned 864 (slotsOf logicTile (now table)) (slotCount logicTile) (now own)) × (length (now bits) ≡ tileNumbers) ⌝ }
     ensures { λ r. ⌜ r ≡ tileFault (now (table .entry)) (tileOf (now (bits .entry))) ⌝ }
 {
     let mut p = 0;
@@ -54,7 +54,7 @@ pub fn tile_fault(table: &[u16], own: &[u16], bits: &[u8]) -> usize
 // A tile's settings read from its bits; the cells go through the array by value. Many tiles of a block have no bit set, and take no time.
 // Rules out: writing nothing; leaving the numbers past the table's counts as they were.
 pub fn decode_tile(table: &[u16], bits: &[u8], settings: &mut [u16])
-    requires { ⌜ (TableRules logicTile (now table)) × (length (now bits) ≡ tileBytes) × (length (now settings) ≡ settingsLength logicTile) ⌝ }
+    requires { ⌜ (TableRules logicTile (now table)) × (length (now bits) ≡ tileNumbers) × (length (now settings) ≡ settingsLength) ⌝ }
     ensures { λ r. ⌜ now (settings .exit) ≡ decode (now (table .entry)) (bitAt (now (bits .entry))) ⌝ }
 {
     if is_empty(bits) {
@@ -84,7 +84,7 @@ pub fn decode_tile(table: &[u16], bits: &[u8], settings: &mut [u16])
 // The lowest position at fault; where there is none, 864 with the settings read. Most tiles are read in one pass (`try_decode`), and only where
 // that fails are all positions looked at.
 pub fn read_tile(table: &[u16], own: &[u16], bits: &[u8], settings: &mut [u16]) -> usize
-    requires { ⌜ (TableRules logicTile (now table)) × (Owned 864 (slotsOf logicTile (now table)) (slotCount logicTile) (now own)) × (length (now bits) ≡ tileBytes) × (length (now settings) ≡ settingsLength logicTile) ⌝ }
+    requires { ⌜ (TableRules logicTile (now table)) × (Owned 864 (slotsOf logicTile (now table)) (slotCount logicTile) (now own)) × (length (now bits) ≡ tileNumbers) × (length (now settings) ≡ settingsLength) ⌝ }
     ensures fault { λ r. ⌜ r ≡ tileFault (now (table .entry)) (tileOf (now (bits .entry))) ⌝ }
     ensures settings { λ r. ⌜ (r ≡ 864 → now (settings .exit) ≡ decode (now (table .entry)) (bitAt (now (bits .entry)))) ⌝ }
 {
@@ -141,7 +141,7 @@ fn write_groups(table: &[u16], settings: &[u16], bits: &mut [u8])
 
 // A tile's settings written to its bits; the cells go through the array by value.
 pub fn encode_tile(table: &[u16], settings: &[u16], bits: &mut [u8])
-    requires { ⌜ (TableRules logicTile (now table)) × (length (now settings) ≡ settingsLength logicTile) × (settingsFit (now table) (now settings) ≡ true) × (length (now bits) ≡ tileBytes) ⌝ }
+    requires { ⌜ (TableRules logicTile (now table)) × (length (now settings) ≡ settingsLength) × (settingsFit (now table) (now settings) ≡ true) × (length (now bits) ≡ tileNumbers) ⌝ }
     ensures { λ r. ⌜ now (bits .exit) ≡ encode (now (table .entry)) (now (settings .entry)) ⌝ }
 {
     lists::clear_bytes(bits);
@@ -155,7 +155,7 @@ pub fn encode_tile(table: &[u16], settings: &[u16], bits: &mut [u8])
 // Whether some bits have these settings (ground 9), `limits` being those of their table. All are looked at, for the machine compares many at once.
 // Rules out: an entry past a group's count; a number past the table's counts that is not 0.
 pub fn settings_fit(limits: &[u16; SETTINGS_LENGTH], settings: &[u16]) -> bool
-    requires { ⌜ length (now settings) ≡ settingsLength logicTile ⌝ }
+    requires { ⌜ length (now settings) ≡ settingsLength ⌝ }
     ensures { λ r. ⌜ ((table : List ℕ) → now (limits .entry) ≡ limitsOf table → r ≡ settingsFit table (now (settings .entry))) ⌝ }
 {
     if has_both_carries(settings) {

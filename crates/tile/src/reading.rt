@@ -8,12 +8,11 @@ ghost use Rattle.digits.specs.Digits.{digit};
 ghost use Rattle.routing.specs.LogicTile.{logicTile};
 ghost use Rattle.routing.specs.Rules.{TableRules};
 ghost use Rattle.routing.specs.Slots.{Owned, slotsOf, slotCount};
-ghost use Rattle.codec.specs.Bits.{unit, tileBytes, bitAt, tileOf};
-ghost use Rattle.codec.specs.Settings.{settingsLength};
+ghost use Rattle.codec.specs.Bits.{unit, bitAt, tileOf};
+ghost use Rattle.ports.specs.Lengths.{tileNumbers, settingsLength};
 ghost use Rattle.codec.specs.Decode.{decode};
 ghost use Rattle.codec.specs.Fault.{tileFault};
 ghost use Rattle.tile.specs.Taking.{Known, Learned, Taken};
-use codec::bits::TILE_BYTES;
 use codec::bits::UNIT;
 use codec::bits::is_empty;
 use codec::cells::decode_cells;
@@ -21,6 +20,7 @@ use codec::cells::put_cells;
 use codec::settings::GROUPS_FROM;
 use codec::settings::group_setting;
 use codec::settings::has_both_carries;
+use ports::lengths::TILE_NUMBERS;
 
 // In the ownership map, whose number is one more than the slot's: the first field, after which come the others and the passive bits, as in
 // the settings; and the first position of group 0.
@@ -32,7 +32,7 @@ const MAX_POSITIONS: usize = 8;
 
 // The set bit at p; whether it is in order. A group is read at its first set bit that is met. The cells are read as a whole, elsewhere.
 fn take_bit(table: &[u16], own: &[u16], bits: &[u8], p: usize, settings: &mut [u16]) -> bool
-    requires { ⌜ (TableRules logicTile (now table)) × (Owned 864 (slotsOf logicTile (now table)) (slotCount logicTile) (now own)) × (length (now bits) ≡ tileBytes) × (p < 864) × (bitAt (now bits) p ≡ 1) × Known (now table) (now bits) (now settings) ⌝ }
+    requires { ⌜ (TableRules logicTile (now table)) × (Owned 864 (slotsOf logicTile (now table)) (slotCount logicTile) (now own)) × (length (now bits) ≡ tileNumbers) × (p < 864) × (bitAt (now bits) p ≡ 1) × Known (now table) (now bits) (now settings) ⌝ }
     ensures { λ r. ⌜ (r ≡ true → Learned (now (table .entry)) (now (bits .entry)) (now (settings .entry)) (now (settings .exit)) × Taken (now (table .entry)) (now (settings .exit)) p) ⌝ }
 {
     let code = own[p] as usize;
@@ -57,7 +57,7 @@ fn take_bit(table: &[u16], own: &[u16], bits: &[u8], p: usize, settings: &mut [u
 
 // The set bits of byte i.
 fn take_byte(table: &[u16], own: &[u16], bits: &[u8], i: usize, settings: &mut [u16]) -> bool
-    requires { ⌜ (TableRules logicTile (now table)) × (Owned 864 (slotsOf logicTile (now table)) (slotCount logicTile) (now own)) × (length (now bits) ≡ tileBytes) × (i < tileBytes) × Known (now table) (now bits) (now settings) ⌝ }
+    requires { ⌜ (TableRules logicTile (now table)) × (Owned 864 (slotsOf logicTile (now table)) (slotCount logicTile) (now own)) × (length (now bits) ≡ tileNumbers) × (i < tileNumbers) × Known (now table) (now bits) (now settings) ⌝ }
     ensures { λ r. ⌜ (r ≡ true → Learned (now (table .entry)) (now (bits .entry)) (now (settings .entry)) (now (settings .exit)) × ((k : ℕ) → k < unit → digit (getD (now (bits .entry)) i 0) k ≡ 1 → Taken (now (table .entry)) (now (settings .exit)) (unit * i + k))) ⌝ }
 {
     let mut left = bits[i];
@@ -75,7 +75,7 @@ fn take_byte(table: &[u16], own: &[u16], bits: &[u8], i: usize, settings: &mut [
 // tile with no bit set takes no time.
 // Rules out: settings kept from another tile; a yes for a bit that nothing claims, an unlisted group or the carry pair.
 pub fn try_decode(table: &[u16], own: &[u16], bits: &[u8], settings: &mut [u16]) -> bool
-    requires { ⌜ (TableRules logicTile (now table)) × (Owned 864 (slotsOf logicTile (now table)) (slotCount logicTile) (now own)) × (length (now bits) ≡ tileBytes) × (length (now settings) ≡ settingsLength logicTile) ⌝ }
+    requires { ⌜ (TableRules logicTile (now table)) × (Owned 864 (slotsOf logicTile (now table)) (slotCount logicTile) (now own)) × (length (now bits) ≡ tileNumbers) × (length (now settings) ≡ settingsLength) ⌝ }
     ensures { λ r. ⌜ (r ≡ true → (tileFault (now (table .entry)) (tileOf (now (bits .entry))) ≡ 864) × (now (settings .exit) ≡ decode (now (table .entry)) (bitAt (now (bits .entry))))) ⌝ }
 {
     lists::clear(settings);
@@ -83,7 +83,7 @@ pub fn try_decode(table: &[u16], own: &[u16], bits: &[u8], settings: &mut [u16])
         return true;
     }
     let mut i = 0;
-    while i < TILE_BYTES {
+    while i < TILE_NUMBERS {
         if !take_byte(table, own, bits, i, settings) {
             return false;
         }

@@ -10,12 +10,13 @@ use borrow.Author.Count.{below-more}
 use lib.ListN.{length, getD, set, length-set}
 use lib.Seq.{getD-set-same, getD-set-other}
 use Rattle.lists.proofs.CaseLaws.{lt-or-le}
-use Rattle.fabric.specs.declared.Block.{Block}
-use Rattle.fabric.specs.Block.{Sized, ports, port}
+use Rattle.ports.specs.declared.size.Block.{Block}
+use Rattle.ports.specs.Block.{Sized, port}
+use Rattle.ports.specs.Lengths.{ports}
 use Rattle.fabric.specs.Span.{flip}
 use Rattle.fabric.specs.Wire.{wireOf}
 use Rattle.wiring.specs.Fill.{Wired, Range, Copies, Crosses, Numbers}
-use Rattle.fabric.proofs.BlockLaws.{ports-le}
+use Rattle.ports.proofs.BlockLaws.{ports-le}
 use Rattle.fabric.proofs.FlipLaws.{flip-lt}
 use Rattle.fabric.proofs.WireLaws.{wire-fits}
 

@@ -6,19 +6,20 @@ use mathlib.Core.Bool.{Bool, true, false, cond}
 use mathlib.Core.Logic.{⊎-elim}
 use native.Mathlib.Omega.{arith}
 use Rattle.lists.proofs.CaseLaws.{lt-or-le, eq-or-ne}
-use Rattle.fabric.specs.declared.Block.{Block}
-use Rattle.fabric.specs.declared.ports.Port.{Port}
-use Rattle.fabric.specs.declared.ports.Port.the-variants.{Sp4HL, Sp4HR, Sp4VT, Sp4VB, Sp12HL, Sp12HR, Sp12VT, Sp12VB, Local, Glb2Local, In, Out, NeighOp, Clk, Cen, SR, GlbNetwk, CarryIn, CarryInMux, Cout, Lout, Ltin}
-use Rattle.fabric.specs.Block.{port, portsPerTile}
-use Rattle.fabric.specs.PortIndex.{sp4VT, sp4VB, sp4RVB, sp12VT, sp12VB, localPort, clk, glbNetwk, carryIn, carryInMux, coutPort, loutPort, ltin, outputAt}
-use Rattle.fabric.specs.PortNames.{indexOf, Within}
+use Rattle.ports.specs.declared.size.Block.{Block}
+use Rattle.ports.specs.declared.Port.{Port}
+use Rattle.ports.specs.declared.Port.the-variants.{Sp4HL, Sp4HR, Sp4VT, Sp4VB, Sp12HL, Sp12HR, Sp12VT, Sp12VB, Local, Glb2Local, In, Out, NeighOp, Clk, Cen, SR, GlbNetwk, CarryIn, CarryInMux, Cout, Lout, Ltin}
+use Rattle.ports.specs.Block.{port}
+use Rattle.ports.specs.Lengths.{portsPerTile}
+use Rattle.ports.specs.PortIndex.{sp4VT, sp4VB, sp4RVB, sp12VT, sp12VB, localPort, clk, glbNetwk, carryIn, carryInMux, coutPort, loutPort, ltin, outputAt}
+use Rattle.ports.specs.PortNames.{indexOf, Within}
 use Rattle.fabric.specs.Span.{flip, span4Row, span12Row, span4Column, span12Column}
 use Rattle.fabric.specs.Joins.{sp4-h-side, sp4-h-in, sp4-v-side, sp4-v-in, sp4-right, sp12-h-side, sp12-h-in, sp12-v-side, sp12-v-in}
 use Rattle.fabric.specs.SpanWire.{foot, sp4Foot, sp4Column, sp12Column}
 use Rattle.fabric.specs.OutputWire.{inside, firstOutput, outputWire}
 use Rattle.fabric.specs.Wire.{wireOf, wireAt, below}
 use Rattle.wiring.specs.Fill.{Numbers, Owns, FarSide, FromSouth, RowSpan}
-use Rattle.fabric.proofs.PortLaws.{neighbour}
+use Rattle.ports.proofs.PortLaws.{neighbour}
 use Rattle.fabric.proofs.PlaceLaws.{wire-name}
 use Rattle.fabric.proofs.JoinLaws.{join-same}
 use Rattle.fabric.proofs.NeighbourLaws.{output-at-lt}

@@ -7,11 +7,12 @@ use native.Mathlib.Omega.{arith}
 use native.Mathlib.Numerals.{add-one}
 use borrow.Author.Tests.{lt-ltb, le-ltb, lt-leb, le-leb}
 use Rattle.lists.proofs.CaseLaws.{lt-or-le}
-use Rattle.fabric.specs.declared.Block.{Block}
+use Rattle.ports.specs.declared.size.Block.{Block}
 use Rattle.fabric.specs.declared.span.Span.{Span}
-use Rattle.fabric.specs.declared.ports.Port.the-variants.{Sp4RVB}
-use Rattle.fabric.specs.Block.{port, portsPerTile}
-use Rattle.fabric.specs.PortIndex.{sp4VT, sp4RVB}
+use Rattle.ports.specs.declared.Port.the-variants.{Sp4RVB}
+use Rattle.ports.specs.Block.{port}
+use Rattle.ports.specs.Lengths.{portsPerTile}
+use Rattle.ports.specs.PortIndex.{sp4VT, sp4RVB}
 use Rattle.fabric.specs.Span.{flip, walk, names, Proper}
 use Rattle.fabric.specs.Joins.{Join, sp4-right, sp4-v-side}
 use Rattle.fabric.specs.SpanWire.{ends, rowPort, rowWire, columnPort, columnWire, foot, rightWire}

@@ -4,9 +4,10 @@ use Prim.Native.Nat.{ℕ, _+_, _-_, _%_, _≤_, _<_}
 use mathlib.Core.Path.{_≡_}
 use mathlib.Core.List.{List}
 use Rattle.lists.specs.Tables.{Filled}
-use Rattle.fabric.specs.declared.Block.{Block}
+use Rattle.ports.specs.declared.size.Block.{Block}
 use Rattle.fabric.specs.declared.span.Span.{Span}
-use Rattle.fabric.specs.Block.{ports, port, portsPerTile}
+use Rattle.ports.specs.Lengths.{ports, portsPerTile}
+use Rattle.ports.specs.Block.{port}
 use Rattle.fabric.specs.Span.{flip, names}
 use Rattle.fabric.specs.Wire.{wireOf}
 

@@ -3,11 +3,12 @@
 ghost use mathlib.Core.Path.{_≡_};
 ghost use Prim.Native.Nat.{_<_};
 ghost use lib.ListN.{length};
-ghost use Rattle.fabric.specs.Block.{Sized, ports, port};
+ghost use Rattle.ports.specs.Block.{Sized, port};
+ghost use Rattle.ports.specs.Lengths.{ports};
 ghost use Rattle.fabric.specs.Wire.{wiresOf};
 ghost use Rattle.wiring.specs.Fill.{Wired};
 use crate::tile::tile;
-use fabric::Block;
+use ports::size::Block;
 
 mod ranges;
 mod spans;

@@ -1,10 +1,10 @@
 // A range of a tile's ports: ports q, q + 1, .. of the tile (x, y), `count` of them.
 ghost use Prim.Native.Nat.{_+_};
-ghost use Rattle.fabric.specs.Block.{Sized, port};
+ghost use Rattle.ports.specs.Block.{Sized, port};
 ghost use Rattle.wiring.specs.Fill.{Wired, Copies, Crosses, Numbers, Owns};
-use fabric::Block;
-use fabric::ports::port_number;
 use fabric::span::crossing;
+use ports::port_number;
+use ports::size::Block;
 
 // Ports q, q + 1, .. of the tile (x, y) have the wires of ports p, p + 1, .. of the tile (u, v).
 pub fn copy(b: Block, wires: &mut [u16], u: u32, v: u32, p: u32, x: u32, y: u32, q: u32, count: u32)

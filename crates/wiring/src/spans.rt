@@ -1,17 +1,16 @@
 // The ports of spans: in a row from the tile to the west, in a column from the tile to the south.
 ghost use Prim.Native.Nat.{_+_, _<_};
-ghost use Rattle.fabric.specs.Block.{Sized, port};
-ghost use Rattle.fabric.specs.PortIndex.{sp4VT, sp4RVB, sp12HL, sp12VT, localPort};
+ghost use Rattle.ports.specs.Block.{Sized, port};
+ghost use Rattle.ports.specs.PortIndex.{sp4VT, sp4RVB, sp12HL, sp12VT, localPort};
 ghost use Rattle.fabric.specs.Span.{names};
 ghost use Rattle.wiring.specs.Fill.{Wired, Owns, FarSide, FromSouth, RowSpan};
 use crate::ranges::copy;
 use crate::ranges::cross;
 use crate::ranges::own;
-use fabric::Block;
-use fabric::ports;
 use fabric::span::Span;
 use fabric::span_wire::SPAN4_COLUMN;
 use fabric::span_wire::SPAN12_COLUMN;
+use ports::size::Block;
 
 // The far side of a tile whose near side is filled.
 fn far_side(s: Span, b: Block, wires: &mut [u16], x: u32, y: u32)

@@ -1,8 +1,9 @@
 // All ports of a tile, in the order of their numbers.
 ghost use mathlib.Core.Path.{_≡_};
 ghost use Prim.Native.Nat.{_+_, _<_};
-ghost use Rattle.fabric.specs.Block.{Sized, portsPerTile, port};
-ghost use Rattle.fabric.specs.PortIndex.{outPort, clk, outputAt};
+ghost use Rattle.ports.specs.Block.{Sized, port};
+ghost use Rattle.ports.specs.Lengths.{portsPerTile};
+ghost use Rattle.ports.specs.PortIndex.{outPort, clk, outputAt};
 ghost use Rattle.wiring.specs.Fill.{Wired};
 use crate::ranges::number;
 use crate::ranges::own;
@@ -10,12 +11,11 @@ use crate::spans::right;
 use crate::spans::row;
 use crate::spans::sp4_column;
 use crate::spans::sp12_column;
-use fabric::Block;
 use fabric::output::output_wire;
-use fabric::ports;
 use fabric::span_wire::SPAN4_ROW;
 use fabric::span_wire::SPAN12_ROW;
 use fabric::wire::below_wire;
+use ports::size::Block;
 
 // The ports of the tile (x, y) for the outputs of the tile (x + dx - 1, y + dy - 1), which start at q.
 fn output(b: Block, wires: &mut [u16], x: u32, y: u32, dx: u32, dy: u32, q: u32)

@@ -2,8 +2,8 @@
 use Rattle.block.proofs.BuildingLaws.{build-size, build-length, build-bits, build-cleared}
 use Rattle.block.proofs.MeaningLaws.{build-says}
 use Rattle.block.proofs.LengthLaws.{build-long-exact}
-use Rattle.fabric.proofs.BlockLaws.{sized-exact, tiles-le}
-use Rattle.fabric.specs.Block.{block, tiles}
+use Rattle.ports.proofs.BlockLaws.{sized-exact, tiles-le}
+use Rattle.ports.specs.Block.{tiles}
 use borrow.Author.Tests.{not-true, not-false}
 use lib.ListN.{length}
 use native.Mathlib.Omega.{arith}
@@ -20,8 +20,7 @@ returns : tie.Need-returns
 returns c =
     let at-is-sized = c .before in
     let at-start = at-is-sized .before .before .before .before .before .before .before .before .before .before in
-    let w = at-start .args .w in
-    let h = at-start .args .h in
+    let B = at-start .args .b in
     let table = at-start .args .table .now in
     let bits = at-start .args .bits .now in
     let list = at-start .args .list .now in
@@ -31,40 +30,37 @@ returns c =
     let rows = at-start .args .rows .now in
     let marks = at-start .args .marks .now in
     let queue = at-start .args .queue .now in
-    let answer = build-size w h table bits _ (sym (at-is-sized .is-sized .ensures) ∙ not-true _ (c .if1 .taken)) in
-    (answer, (refl, (refl, (refl, (refl, (refl, (refl, (refl, build-says w h table bits (length list) (length settings) (length wires) (length sources) (length rows) (length marks) (length queue) _ answer))))))))
+    let answer = build-size B table bits _ (sym (at-is-sized .is-sized .ensures) ∙ not-true _ (c .if1 .taken)) in
+    (answer, (refl, (refl, (refl, (refl, (refl, (refl, (refl, build-says B table bits (length list) (length settings) (length wires) (length sources) (length rows) (length marks) (length queue) _ answer))))))))
 
 mul-n : tie.Need-mul-n
 mul-n c =
     let at-is-sized = c .before in
     let at-start = at-is-sized .before .before .before .before .before .before .before .before .before .before in
-    let w = at-start .args .w in
-    let h = at-start .args .h in
+    let B = at-start .args .b in
     let sized = (sym (at-is-sized .is-sized .ensures) ∙ not-false _ (c .if1 .left)) in
-    let size = sized-exact (block w h) .0 sized in
-    let few = tiles-le (block w h) size in
+    let size = sized-exact B .0 sized in
+    let few = tiles-le B size in
     omega arith
 
 cast-n : tie.Need-cast-n
 cast-n c =
     let at-is-sized = c .before in
     let at-start = at-is-sized .before .before .before .before .before .before .before .before .before .before in
-    let w = at-start .args .w in
-    let h = at-start .args .h in
+    let B = at-start .args .b in
     let sized = (sym (at-is-sized .is-sized .ensures) ∙ not-false _ (c .if1 .left)) in
-    let size = sized-exact (block w h) .0 sized in
-    let few = tiles-le (block w h) size in
+    let size = sized-exact B .0 sized in
+    let few = tiles-le B size in
     omega arith
 
 build-lengths-requires : tie.Need-build-lengths-requires
 build-lengths-requires c κs =
     let at-is-sized = c .before in
     let at-start = at-is-sized .before .before .before .before .before .before .before .before .before .before in
-    let w = at-start .args .w in
-    let h = at-start .args .h in
+    let B = at-start .args .b in
     let sized = (sym (at-is-sized .is-sized .ensures) ∙ not-false _ (c .if1 .left)) in
-    let size = sized-exact (block w h) .0 sized in
-    let few = tiles-le (block w h) size in
+    let size = sized-exact B .0 sized in
+    let few = tiles-le B size in
     few
 
 -- a length that is not the exact one
@@ -74,8 +70,7 @@ returns-2 c =
     let at-if1 = at-build-lengths .before in
     let at-is-sized = at-if1 .before in
     let at-start = at-is-sized .before .before .before .before .before .before .before .before .before .before in
-    let w = at-start .args .w in
-    let h = at-start .args .h in
+    let B = at-start .args .b in
     let table = at-start .args .table .now in
     let bits = at-start .args .bits .now in
     let list = at-start .args .list .now in
@@ -85,8 +80,8 @@ returns-2 c =
     let rows = at-start .args .rows .now in
     let marks = at-start .args .marks .now in
     let queue = at-start .args .queue .now in
-    let answer = build-length w h table bits _ (sym (at-is-sized .is-sized .ensures) ∙ not-false _ (at-if1 .if1 .left)) (sym (at-build-lengths .build-lengths .ensures) ∙ not-true _ (c .if2 .taken)) in
-    (answer, (refl, (refl, (refl, (refl, (refl, (refl, (refl, build-says w h table bits (length list) (length settings) (length wires) (length sources) (length rows) (length marks) (length queue) _ answer))))))))
+    let answer = build-length B table bits _ (sym (at-is-sized .is-sized .ensures) ∙ not-false _ (at-if1 .if1 .left)) (sym (at-build-lengths .build-lengths .ensures) ∙ not-true _ (c .if2 .taken)) in
+    (answer, (refl, (refl, (refl, (refl, (refl, (refl, (refl, build-says B table bits (length list) (length settings) (length wires) (length sources) (length rows) (length marks) (length queue) _ answer))))))))
 
 list-bits-requires : tie.Need-list-bits-requires
 list-bits-requires c κs =
@@ -95,8 +90,7 @@ list-bits-requires c κs =
     let at-if1 = at-build-lengths .before in
     let at-is-sized = at-if1 .before in
     let at-start = at-is-sized .before .before .before .before .before .before .before .before .before .before in
-    let w = at-start .args .w in
-    let h = at-start .args .h in
+    let B = at-start .args .b in
     let table = at-start .args .table .now in
     let bits = at-start .args .bits .now in
     let list = at-start .args .list .now in
@@ -107,9 +101,9 @@ list-bits-requires c κs =
     let marks = at-start .args .marks .now in
     let queue = at-start .args .queue .now in
     let sized = (sym (at-is-sized .is-sized .ensures) ∙ not-false _ (at-if1 .if1 .left)) in
-    let size = sized-exact (block w h) .0 sized in
-    let few = tiles-le (block w h) size in
-    let long = build-long-exact (tiles (block w h)) (length table) (length bits) (length list) (length settings) (length wires) (length sources) (length rows) (length marks) (length queue) .0 (sym (at-build-lengths .build-lengths .ensures) ∙ not-false _ (at-if2 .if2 .left)) in
+    let size = sized-exact B .0 sized in
+    let few = tiles-le B size in
+    let long = build-long-exact (tiles B) (length table) (length bits) (length list) (length settings) (length wires) (length sources) (length rows) (length marks) (length queue) .0 (sym (at-build-lengths .build-lengths .ensures) ∙ not-false _ (at-if2 .if2 .left)) in
     ((size, long .table-long, long .bits-long, long .settings-long), long .room-long)
 
 clear-requires : tie.Need-clear-requires
@@ -187,8 +181,7 @@ returns-3 c =
     let at-if1 = at-build-lengths .before in
     let at-is-sized = at-if1 .before in
     let at-start = at-is-sized .before .before .before .before .before .before .before .before .before .before in
-    let w = at-start .args .w in
-    let h = at-start .args .h in
+    let B = at-start .args .b in
     let table = at-start .args .table .now in
     let bits = at-start .args .bits .now in
     let settings = at-start .args .settings .now in
@@ -198,8 +191,8 @@ returns-3 c =
     let marks = at-start .args .marks .now in
     let queue = at-start .args .queue .now in
     let list = at-start .args .list .now in
-    let cleared = build-cleared (block w h) table bits _ (at-list-bits .list-bits .ensures .0) in
-    let answer = at-list-bits .list-bits .ensures .0 ∙ build-bits w h table bits _ (sym (at-is-sized .is-sized .ensures) ∙ not-false _ (at-if1 .if1 .left)) (sym (at-build-lengths .build-lengths .ensures) ∙ not-false _ (at-if2 .if2 .left)) in (
+    let cleared = build-cleared B table bits _ (at-list-bits .list-bits .ensures .0) in
+    let answer = at-list-bits .list-bits .ensures .0 ∙ build-bits B table bits _ (sym (at-is-sized .is-sized .ensures) ∙ not-false _ (at-if1 .if1 .left)) (sym (at-build-lengths .build-lengths .ensures) ∙ not-false _ (at-if2 .if2 .left)) in (
       answer,
       (
         at-list-bits .list-bits .ensures .1,
@@ -213,7 +206,7 @@ returns-3 c =
                 cleared rows (at-list-bits .list-bits .last .1 .1 .1 .1 .1 .1 .1 .0) _ (at-list-bits .list-bits .kept .1 .1 .1 .1 .1 .1 .1 .0) (at-clear4 .clear4 .ensures),
                 (
                   cleared marks (at-list-bits .list-bits .last .1 .1 .1 .1 .1 .1 .1 .1 .0) _ (at-list-bits .list-bits .kept .1 .1 .1 .1 .1 .1 .1 .1 .0) (at-clear5 .clear5 .ensures),
-                  (cleared queue (at-list-bits .list-bits .last .1 .1 .1 .1 .1 .1 .1 .1 .1 .0) _ (at-list-bits .list-bits .kept .1 .1 .1 .1 .1 .1 .1 .1 .1 .0) (at-clear6 .clear6 .ensures), build-says w h table bits (length list) (length settings) (length wires) (length sources) (length rows) (length marks) (length queue) _ answer),
+                  (cleared queue (at-list-bits .list-bits .last .1 .1 .1 .1 .1 .1 .1 .1 .1 .0) _ (at-list-bits .list-bits .kept .1 .1 .1 .1 .1 .1 .1 .1 .1 .0) (at-clear6 .clear6 .ensures), build-says B table bits (length list) (length settings) (length wires) (length sources) (length rows) (length marks) (length queue) _ answer),
                 ),
               ),
             ),

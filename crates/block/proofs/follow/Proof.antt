@@ -2,8 +2,8 @@
 use Rattle.block.proofs.DriverLaws.{follow-size, follow-length, follow-settings, follow-cleared}
 use Rattle.block.proofs.DriverMeaningLaws.{follow-says}
 use Rattle.block.proofs.LengthLaws.{follow-long-exact}
-use Rattle.fabric.proofs.BlockLaws.{sized-exact, tiles-le}
-use Rattle.fabric.specs.Block.{block, tiles}
+use Rattle.ports.proofs.BlockLaws.{sized-exact, tiles-le}
+use Rattle.ports.specs.Block.{tiles}
 use borrow.Author.Tests.{not-true, not-false}
 use lib.ListN.{length}
 use native.Mathlib.Omega.{arith}
@@ -20,8 +20,7 @@ returns : tie.Need-returns
 returns c =
     let at-is-sized = c .before in
     let at-start = at-is-sized .before .before .before .before .before .before in
-    let w = at-start .args .w in
-    let h = at-start .args .h in
+    let B = at-start .args .b in
     let table = at-start .args .table .now in
     let settings = at-start .args .settings .now in
     let tile = at-start .args .tile in
@@ -29,40 +28,37 @@ returns c =
     let wires = at-start .args .wires .now in
     let sources = at-start .args .sources .now in
     let marks = at-start .args .marks .now in
-    let answer = follow-size w h table settings tile port _ (sym (at-is-sized .is-sized .ensures) ∙ not-true _ (c .if1 .taken)) in
-    (answer, (refl, (refl, (refl, follow-says w h table settings tile port (length wires) (length sources) (length marks) _ answer))))
+    let answer = follow-size B table settings tile port _ (sym (at-is-sized .is-sized .ensures) ∙ not-true _ (c .if1 .taken)) in
+    (answer, (refl, (refl, (refl, follow-says B table settings tile port (length wires) (length sources) (length marks) _ answer))))
 
 mul-n : tie.Need-mul-n
 mul-n c =
     let at-is-sized = c .before in
     let at-start = at-is-sized .before .before .before .before .before .before in
-    let w = at-start .args .w in
-    let h = at-start .args .h in
+    let B = at-start .args .b in
     let sized = (sym (at-is-sized .is-sized .ensures) ∙ not-false _ (c .if1 .left)) in
-    let size = sized-exact (block w h) .0 sized in
-    let few = tiles-le (block w h) size in
+    let size = sized-exact B .0 sized in
+    let few = tiles-le B size in
     omega arith
 
 cast-n : tie.Need-cast-n
 cast-n c =
     let at-is-sized = c .before in
     let at-start = at-is-sized .before .before .before .before .before .before in
-    let w = at-start .args .w in
-    let h = at-start .args .h in
+    let B = at-start .args .b in
     let sized = (sym (at-is-sized .is-sized .ensures) ∙ not-false _ (c .if1 .left)) in
-    let size = sized-exact (block w h) .0 sized in
-    let few = tiles-le (block w h) size in
+    let size = sized-exact B .0 sized in
+    let few = tiles-le B size in
     omega arith
 
 follow-lengths-requires : tie.Need-follow-lengths-requires
 follow-lengths-requires c κs =
     let at-is-sized = c .before in
     let at-start = at-is-sized .before .before .before .before .before .before in
-    let w = at-start .args .w in
-    let h = at-start .args .h in
+    let B = at-start .args .b in
     let sized = (sym (at-is-sized .is-sized .ensures) ∙ not-false _ (c .if1 .left)) in
-    let size = sized-exact (block w h) .0 sized in
-    let few = tiles-le (block w h) size in
+    let size = sized-exact B .0 sized in
+    let few = tiles-le B size in
     few
 
 -- a length that is not the exact one
@@ -72,8 +68,7 @@ returns-2 c =
     let at-if1 = at-follow-lengths .before in
     let at-is-sized = at-if1 .before in
     let at-start = at-is-sized .before .before .before .before .before .before in
-    let w = at-start .args .w in
-    let h = at-start .args .h in
+    let B = at-start .args .b in
     let table = at-start .args .table .now in
     let settings = at-start .args .settings .now in
     let tile = at-start .args .tile in
@@ -81,8 +76,8 @@ returns-2 c =
     let wires = at-start .args .wires .now in
     let sources = at-start .args .sources .now in
     let marks = at-start .args .marks .now in
-    let answer = follow-length w h table settings tile port _ (sym (at-is-sized .is-sized .ensures) ∙ not-false _ (at-if1 .if1 .left)) (sym (at-follow-lengths .follow-lengths .ensures) ∙ not-true _ (c .if2 .taken)) in
-    (answer, (refl, (refl, (refl, follow-says w h table settings tile port (length wires) (length sources) (length marks) _ answer))))
+    let answer = follow-length B table settings tile port _ (sym (at-is-sized .is-sized .ensures) ∙ not-false _ (at-if1 .if1 .left)) (sym (at-follow-lengths .follow-lengths .ensures) ∙ not-true _ (c .if2 .taken)) in
+    (answer, (refl, (refl, (refl, follow-says B table settings tile port (length wires) (length sources) (length marks) _ answer))))
 
 follow-settings-requires : tie.Need-follow-settings-requires
 follow-settings-requires c κs =
@@ -91,17 +86,16 @@ follow-settings-requires c κs =
     let at-if1 = at-follow-lengths .before in
     let at-is-sized = at-if1 .before in
     let at-start = at-is-sized .before .before .before .before .before .before in
-    let w = at-start .args .w in
-    let h = at-start .args .h in
+    let B = at-start .args .b in
     let table = at-start .args .table .now in
     let settings = at-start .args .settings .now in
     let wires = at-start .args .wires .now in
     let sources = at-start .args .sources .now in
     let marks = at-start .args .marks .now in
     let sized = (sym (at-is-sized .is-sized .ensures) ∙ not-false _ (at-if1 .if1 .left)) in
-    let size = sized-exact (block w h) .0 sized in
-    let few = tiles-le (block w h) size in
-    let long = follow-long-exact (tiles (block w h)) (length table) (length settings) (length wires) (length sources) (length marks) .0 (sym (at-follow-lengths .follow-lengths .ensures) ∙ not-false _ (at-if2 .if2 .left)) in
+    let size = sized-exact B .0 sized in
+    let few = tiles-le B size in
+    let long = follow-long-exact (tiles B) (length table) (length settings) (length wires) (length sources) (length marks) .0 (sym (at-follow-lengths .follow-lengths .ensures) ∙ not-false _ (at-if2 .if2 .left)) in
     ((size, long .table-long, long .settings-long), (long .wires-long, long .sources-long, long .marks-long))
 
 clear-requires : tie.Need-clear-requires
@@ -144,8 +138,7 @@ returns-3 c =
     let at-if1 = at-follow-lengths .before in
     let at-is-sized = at-if1 .before in
     let at-start = at-is-sized .before .before .before .before .before .before in
-    let w = at-start .args .w in
-    let h = at-start .args .h in
+    let B = at-start .args .b in
     let table = at-start .args .table .now in
     let settings = at-start .args .settings .now in
     let tile = at-start .args .tile in
@@ -153,14 +146,14 @@ returns-3 c =
     let wires = at-start .args .wires .now in
     let sources = at-start .args .sources .now in
     let marks = at-start .args .marks .now in
-    let cleared = follow-cleared (block w h) table settings tile port _ (at-follow-settings .follow-settings .ensures) in
-    let answer = at-follow-settings .follow-settings .ensures ∙ follow-settings w h table settings tile port _ (sym (at-is-sized .is-sized .ensures) ∙ not-false _ (at-if1 .if1 .left)) (sym (at-follow-lengths .follow-lengths .ensures) ∙ not-false _ (at-if2 .if2 .left)) in (
+    let cleared = follow-cleared B table settings tile port _ (at-follow-settings .follow-settings .ensures) in
+    let answer = at-follow-settings .follow-settings .ensures ∙ follow-settings B table settings tile port _ (sym (at-is-sized .is-sized .ensures) ∙ not-false _ (at-if1 .if1 .left)) (sym (at-follow-lengths .follow-lengths .ensures) ∙ not-false _ (at-if2 .if2 .left)) in (
       answer,
       (
         cleared wires (at-follow-settings .follow-settings .last .1 .1 .1 .1 .1 .0) _ (at-follow-settings .follow-settings .kept .1 .1 .1 .1 .1 .0) (at-clear .clear .ensures),
         (
           cleared sources (at-follow-settings .follow-settings .last .1 .1 .1 .1 .1 .1 .0) _ (at-follow-settings .follow-settings .kept .1 .1 .1 .1 .1 .1 .0) (at-clear2 .clear2 .ensures),
-          (cleared marks (at-follow-settings .follow-settings .last .1 .1 .1 .1 .1 .1 .1 .0) _ (at-follow-settings .follow-settings .kept .1 .1 .1 .1 .1 .1 .1 .0) (at-clear3 .clear3 .ensures), follow-says w h table settings tile port (length wires) (length sources) (length marks) _ answer),
+          (cleared marks (at-follow-settings .follow-settings .last .1 .1 .1 .1 .1 .1 .1 .0) _ (at-follow-settings .follow-settings .kept .1 .1 .1 .1 .1 .1 .1 .0) (at-clear3 .clear3 .ensures), follow-says B table settings tile port (length wires) (length sources) (length marks) _ answer),
         ),
       ),
     )

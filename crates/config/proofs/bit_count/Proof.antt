@@ -6,69 +6,67 @@ use borrow.Author.Needs.{needs}
 use borrow.Author.Tests.{not-true, not-false}
 use lib.ListN.{take, drop}
 use Rattle.lists.proofs.PartLaws.{part-size}
-use Rattle.fabric.proofs.BlockLaws.{sized-exact, tiles-le}
-use Rattle.fabric.specs.Block.{block}
-use Rattle.codec.specs.Bits.{tileBytes, bitCount, bitAt}
+use Rattle.ports.proofs.BlockLaws.{allowed-exact, tile-count-le}
+use Rattle.ports.specs.Lengths.{tileNumbers}
+use Rattle.codec.specs.Bits.{bitCount, bitAt}
 use Rattle.config.specs.declared.BitCount.the-variants.{Set}
 use Rattle.config.proofs.BitCountLaws.{count-size, count-length, count-range, count-set}
 use Rattle.config.proofs.bit_count.Statement.{statement}
 use Rattle.config.proofs.bit_count.Tie as tie
 
-is-sized-requires : tie.Need-is-sized-requires
-is-sized-requires c κs = search needs
+is-allowed-requires : tie.Need-is-allowed-requires
+is-allowed-requires c κs = search needs
 
 -- W or H not 1 to 8
 returns : tie.Need-returns
 returns c =
-    let at-is-sized = c .before in
-    let at-start = at-is-sized .before .before in
+    let at-is-allowed = c .before in
+    let at-start = at-is-allowed .before .before in
     let args = at-start .args in
-    count-size (args .w) (args .h) (args .bits .now) (args .tile) (sym (at-is-sized .is-sized .ensures) ∙ not-true _ (c .if1 .taken))
+    count-size (args .s) (args .bits .now) (args .tile) (sym (at-is-allowed .is-allowed .ensures) ∙ not-true _ (c .if1 .taken))
 
 mul-n : tie.Need-mul-n
 mul-n c =
-    let at-is-sized = c .before in
-    let at-start = at-is-sized .before .before in
+    let at-is-allowed = c .before .before in
+    let at-start = at-is-allowed .before .before in
     let args = at-start .args in
-    let size = sized-exact (block (args .w) (args .h)) .0 (sym (at-is-sized .is-sized .ensures) ∙ not-false _ (c .if1 .left)) in
-    omega (arith, tiles-le (block (args .w) (args .h)) size)
+    let size = allowed-exact (args .s) .0 (sym (at-is-allowed .is-allowed .ensures) ∙ not-false _ (c .before .if1 .left)) in
+    omega (arith, tile-count-le (args .s) size)
 
 cast-n : tie.Need-cast-n
 cast-n c =
-    let at-is-sized = c .before in
-    let at-start = at-is-sized .before .before in
+    let at-is-allowed = c .before .before in
+    let at-start = at-is-allowed .before .before in
     let args = at-start .args in
-    let size = sized-exact (block (args .w) (args .h)) .0 (sym (at-is-sized .is-sized .ensures) ∙ not-false _ (c .if1 .left)) in
-    omega (arith, tiles-le (block (args .w) (args .h)) size)
+    let size = allowed-exact (args .s) .0 (sym (at-is-allowed .is-allowed .ensures) ∙ not-false _ (c .before .if1 .left)) in
+    omega (arith, tile-count-le (args .s) size)
 
-mul-if2 : tie.Need-mul-if2
-mul-if2 c =
-    let at-is-sized = c .before in
-    let at-start = at-is-sized .before .before in
-    let args = at-start .args in
-    let size = sized-exact (block (args .w) (args .h)) .0 (sym (at-is-sized .is-sized .ensures) ∙ not-false _ (c .if1 .left)) in
-    omega (arith, tiles-le (block (args .w) (args .h)) size)
+bits-length-requires : tie.Need-bits-length-requires
+bits-length-requires c κs =
+    let at-if1 = c .before in
+    let at-is-allowed = at-if1 .before in
+    allowed-exact (at-is-allowed .before .before .args .s) .0 (sym (at-is-allowed .is-allowed .ensures) ∙ not-false _ (at-if1 .if1 .left))
 
 -- a length that is not exact
 returns-2 : tie.Need-returns-2
 returns-2 c =
-    let at-if1 = c .before in
-    let at-is-sized = at-if1 .before in
-    let at-start = at-is-sized .before .before in
+    let at-if1 = c .before .before .before in
+    let at-is-allowed = at-if1 .before in
+    let at-start = at-is-allowed .before .before in
     let args = at-start .args in
-    let size = sized-exact (block (args .w) (args .h)) .0 (sym (at-is-sized .is-sized .ensures) ∙ not-false _ (at-if1 .if1 .left)) in
-    count-length (args .w) (args .h) (args .bits .now) (args .tile) size (c .if2 .taken)
+    let size = allowed-exact (args .s) .0 (sym (at-is-allowed .is-allowed .ensures) ∙ not-false _ (at-if1 .if1 .left)) in
+    count-length (args .s) (args .bits .now) (args .tile) size (λ e. c .if2 .taken (e ∙ sym (c .before .bits-length .ensures)))
 
 -- no such tile
 returns-3 : tie.Need-returns-3
 returns-3 c =
     let at-if2 = c .before in
-    let at-if1 = at-if2 .before in
-    let at-is-sized = at-if1 .before in
-    let at-start = at-is-sized .before .before in
+    let at-if1 = at-if2 .before .before .before in
+    let at-is-allowed = at-if1 .before in
+    let at-start = at-is-allowed .before .before in
     let args = at-start .args in
-    let size = sized-exact (block (args .w) (args .h)) .0 (sym (at-is-sized .is-sized .ensures) ∙ not-false _ (at-if1 .if1 .left)) in
-    count-range (args .w) (args .h) (args .bits .now) (args .tile) size (at-if2 .if2 .left) (c .if3 .taken)
+    let size = allowed-exact (args .s) .0 (sym (at-is-allowed .is-allowed .ensures) ∙ not-false _ (at-if1 .if1 .left)) in
+    count-range (args .s) (args .bits .now) (args .tile) size (at-if2 .if2 .left ∙ at-if2 .before .bits-length .ensures) (c .if3 .taken)
 
 mul-from : tie.Need-mul-from
 mul-from c = search needs
@@ -93,31 +91,15 @@ returns-4 : tie.Need-returns-4
 returns-4 c =
     let at-if3 = c .before .before in
     let at-if2 = at-if3 .before in
-    let at-if1 = at-if2 .before in
-    let at-is-sized = at-if1 .before in
-    let at-start = at-is-sized .before .before in
+    let at-if1 = at-if2 .before .before .before in
+    let at-is-allowed = at-if1 .before in
+    let at-start = at-is-allowed .before .before in
     let args = at-start .args in
-    let size = sized-exact (block (args .w) (args .h)) .0 (sym (at-is-sized .is-sized .ensures) ∙ not-false _ (at-if1 .if1 .left)) in
+    let size = allowed-exact (args .s) .0 (sym (at-is-allowed .is-allowed .ensures) ∙ not-false _ (at-if1 .if1 .left)) in
     let bits = args .bits .now in
     let tile = args .tile in
-    let counted = c .count-bits .ensures ∙ ap (λ (x : ℕ). bitCount (bitAt (take x (drop (tileBytes * tile) bits)))) (part-size tileBytes tile) in
-    ap Set counted ∙ count-set (args .w) (args .h) (args .bits .now) (args .tile) size (at-if2 .if2 .left) (at-if3 .if3 .left)
+    let counted = c .count-bits .ensures ∙ ap (λ (x : ℕ). bitCount (bitAt (take x (drop (tileNumbers * tile) bits)))) (part-size tileNumbers tile) in
+    ap Set counted ∙ count-set (args .s) (args .bits .now) (args .tile) size (at-if2 .if2 .left ∙ at-if2 .before .bits-length .ensures) (at-if3 .if3 .left)
 
 pub bit-count-spec : {M : Type 1} → statement M
-bit-count-spec =
-    tie.close
-    (tie.spec
-    is-sized-requires
-    returns
-    mul-n
-    cast-n
-    mul-if2
-    returns-2
-    returns-3
-    mul-from
-    add-to
-    sub-count-bits
-    part-count-bits-start
-    part-count-bits-end
-    count-bits-requires
-    returns-4)
+bit-count-spec = tie.close (tie.spec is-allowed-requires returns mul-n cast-n bits-length-requires returns-2 returns-3 mul-from add-to sub-count-bits part-count-bits-start part-count-bits-end count-bits-requires returns-4)

@@ -4,8 +4,8 @@ use mathlib.Core.Path.{sym, _∙_}
 use native.Mathlib.Omega.{arith}
 use borrow.Author.Needs.{needs}
 use lib.ListN.{length}
-use Rattle.fabric.proofs.BlockLaws.{tiles-le}
-use Rattle.fabric.specs.Block.{block, tiles}
+use Rattle.ports.proofs.BlockLaws.{tile-count-le}
+use Rattle.ports.specs.Block.{tileCount}
 use Rattle.config.specs.Blocks.{encoded}
 use Rattle.config.proofs.MeaningLaws.{write-says}
 use Rattle.refusal.proofs.MemoryLaws.{output-kept}
@@ -29,41 +29,41 @@ returns c =
     let at-start = at-write-checks .before .before .before .before in
     let args = at-start .args in
     let answer = at-write-checks .write-checks .ensures in
-    let written = output-kept (args .bits .now) (encoded (args .table .now) (args .settings .now) (tiles (block (args .w) (args .h)))) _ _ (c .enum-told2 .given .1) in
-    (answer, (written, write-says (args .w) (args .h) (args .table .now) (args .settings .now) (args .bits .now) _ _ answer written))
+    let written = output-kept (args .bits .now) (encoded (args .table .now) (args .settings .now) (tileCount (args .s))) _ _ (c .enum-told2 .given .1) in
+    (answer, (written, write-says (args .s) (args .table .now) (args .settings .now) (args .bits .now) _ _ answer written))
 
 mul-encode-block : tie.Need-mul-encode-block
 mul-encode-block c =
-    let at-enum-told = c .before in
+    let at-enum-told = c .before .before in
     let at-write-checks = at-enum-told .before .before in
     let at-start = at-write-checks .before .before .before .before in
     let args = at-start .args in
     let done = sym (at-write-checks .write-checks .ensures) ∙ at-enum-told .enum-told .given .1 in
-    let passed = write-passed (args .w) (args .h) (args .table .now) (args .settings .now) (length (args .bits .now)) done in
-    let few = tiles-le (block (args .w) (args .h)) (passed .size) in
+    let passed = write-passed (args .s) (args .table .now) (args .settings .now) (length (args .bits .now)) done in
+    let few = tile-count-le (args .s) (passed .size) in
     omega arith
 
 cast-encode-block : tie.Need-cast-encode-block
 cast-encode-block c =
-    let at-enum-told = c .before in
+    let at-enum-told = c .before .before in
     let at-write-checks = at-enum-told .before .before in
     let at-start = at-write-checks .before .before .before .before in
     let args = at-start .args in
     let done = sym (at-write-checks .write-checks .ensures) ∙ at-enum-told .enum-told .given .1 in
-    let passed = write-passed (args .w) (args .h) (args .table .now) (args .settings .now) (length (args .bits .now)) done in
-    let few = tiles-le (block (args .w) (args .h)) (passed .size) in
+    let passed = write-passed (args .s) (args .table .now) (args .settings .now) (length (args .bits .now)) done in
+    let few = tile-count-le (args .s) (passed .size) in
     omega arith
 
 encode-block-requires : tie.Need-encode-block-requires
 encode-block-requires c κs =
-    let at-enum-told = c .before in
+    let at-enum-told = c .before .before in
     let at-write-checks = at-enum-told .before .before in
     let at-start = at-write-checks .before .before .before .before in
     let args = at-start .args in
     let done = sym (at-write-checks .write-checks .ensures) ∙ at-enum-told .enum-told .given .1 in
-    let passed = write-passed (args .w) (args .h) (args .table .now) (args .settings .now) (length (args .bits .now)) done in
-    let few = tiles-le (block (args .w) (args .h)) (passed .size) in
-    (few, passed .rules, passed .lengths .settings-long, passed .lengths .bits-long, write-fit (args .w) (args .h) (args .table .now) (args .settings .now) (length (args .bits .now)) done)
+    let passed = write-passed (args .s) (args .table .now) (args .settings .now) (length (args .bits .now)) done in
+    let few = tile-count-le (args .s) (passed .size) in
+    (few, passed .rules, passed .lengths .settings-long, passed .lengths .bits-long, write-fit (args .s) (args .table .now) (args .settings .now) (length (args .bits .now)) done)
 
 same-length : tie.Need-same-length
 same-length c = search needs
@@ -72,24 +72,13 @@ same-length c = search needs
 returns-2 : tie.Need-returns-2
 returns-2 c =
     let at-encode-block = c .before .before in
-    let at-enum-told = at-encode-block .before .before in
+    let at-enum-told = at-encode-block .before .before .before in
     let at-write-checks = at-enum-told .before .before in
     let at-start = at-write-checks .before .before .before .before in
     let args = at-start .args in
     let answer = sym (at-enum-told .enum-told .given .1) ∙ at-write-checks .write-checks .ensures in
     let written = at-encode-block .encode-block .ensures in
-    (answer, (written, write-says (args .w) (args .h) (args .table .now) (args .settings .now) (args .bits .now) _ _ answer written))
+    (answer, (written, write-says (args .s) (args .table .now) (args .settings .now) (args .bits .now) _ _ answer written))
 
 pub write-spec : {M : Type 1} → statement M
-write-spec =
-    tie.close
-    (tie.spec
-    write-checks-requires
-    enum-told
-    enum-told-2
-    returns
-    mul-encode-block
-    cast-encode-block
-    encode-block-requires
-    same-length
-    returns-2)
+write-spec = tie.close (tie.spec write-checks-requires enum-told enum-told-2 returns mul-encode-block cast-encode-block encode-block-requires same-length returns-2)

@@ -8,8 +8,8 @@ use native.Mathlib.Omega.{arith}
 use Rattle.lists.specs.Tables.{zeros}
 use Rattle.refusal.specs.Grounds.{answerNumber}
 use Rattle.refusal.specs.Memory.{workRoom}
-use Rattle.fabric.proofs.BlockLaws.{sized-exact, tiles-le}
-use Rattle.fabric.specs.Block.{block, sized}
+use Rattle.ports.proofs.BlockLaws.{sized-exact, tiles-le}
+use Rattle.ports.specs.Block.{block, sized}
 use Rattle.sim.proofs.StepLaws.{step-size, step-length, step-inputs, room-cleared}
 use Rattle.sim.proofs.MeaningLaws.{step-says}
 use borrow.Author.Tests.{not-true, not-false}

@@ -4,7 +4,7 @@ use mathlib.Core.List.{List}
 use mathlib.Core.Path.{sym, _∙_, ap, ap₂, subst}
 use native.Mathlib.Omega.{arith}
 use lib.ListN.{length}
-use Rattle.fabric.proofs.BlockLaws.{ports-le}
+use Rattle.ports.proofs.BlockLaws.{ports-le}
 use Rattle.netlist.specs.Checking.{wireCount}
 use Rattle.stepper.proofs.SettledLaws.{marks-length, marks-count, settled-bits}
 use Rattle.stepper.specs.Clocking.{nextStates}

@@ -9,7 +9,8 @@ use lib.ListN.{set}
 use Rattle.lists.proofs.TableLaws.{Filled, filled-start, filled-step}
 use Rattle.routing.specs.Table.{groupCount}
 use Rattle.routing.specs.LogicTile.{logicTile}
-use Rattle.codec.specs.Settings.{settingsLength, groupsFrom, cellsFrom}
+use Rattle.ports.specs.Lengths.{settingsLength}
+use Rattle.codec.specs.Settings.{groupsFrom, cellsFrom}
 use Rattle.codec.specs.Decode.{settingAt}
 use Rattle.codec.proofs.BitLaws.{empty-clear}
 use Rattle.codec.proofs.DecodeLaws.{decode-filled, decode-empty}
@@ -18,19 +19,19 @@ use Rattle.tile.proofs.decode_tile.Statement.{statement}
 use Rattle.tile.proofs.decode_tile.Tie as tie
 
 abbrev Inv-loop : tie.InvT-loop
-Inv-loop table bits settings₀ n₀ settings n = (n ≤ groupsFrom logicTile) × Filled (settingAt table (bitAt bits)) 0 (settingsLength logicTile) n settings
+Inv-loop table bits settings₀ n₀ settings n = (n ≤ groupsFrom logicTile) × Filled (settingAt table (bitAt bits)) 0 settingsLength n settings
 
 abbrev μ-loop : tie.MeasureT-loop
 μ-loop table bits settings₀ n₀ settings n = groupsFrom logicTile - n
 
 abbrev Inv-loop2 : tie.InvT-loop2
-Inv-loop2 table bits settings₀ n count g₀ settings g = (g ≤ count) × Filled (settingAt table (bitAt bits)) 0 (settingsLength logicTile) (groupsFrom logicTile + g) settings
+Inv-loop2 table bits settings₀ n count g₀ settings g = (g ≤ count) × Filled (settingAt table (bitAt bits)) 0 settingsLength (groupsFrom logicTile + g) settings
 
 abbrev μ-loop2 : tie.MeasureT-loop2
 μ-loop2 table bits settings₀ n count g₀ settings g = count - g
 
 abbrev Inv-loop3 : tie.InvT-loop3
-Inv-loop3 table bits settings₀ n count g rest₀ settings rest = (groupsFrom logicTile + count ≤ rest) × Filled (settingAt table (bitAt bits)) 0 (settingsLength logicTile) rest settings
+Inv-loop3 table bits settings₀ n count g rest₀ settings rest = (groupsFrom logicTile + count ≤ rest) × Filled (settingAt table (bitAt bits)) 0 settingsLength rest settings
 
 abbrev μ-loop3 : tie.MeasureT-loop3
 μ-loop3 table bits settings₀ n count g rest₀ settings rest = cellsFrom logicTile - rest
@@ -60,7 +61,7 @@ loop-holds : tie.Need-loop-holds Inv-loop μ-loop Inv-loop2 μ-loop2 Inv-loop3 �
 loop-holds c =
     let at-start = c .before .before .before .before .before in (
       omega arith,
-      filled-start (settingAt (at-start .args .table .now) (bitAt (at-start .args .bits .now))) 0 (settingsLength logicTile)
+      filled-start (settingAt (at-start .args .table .now) (bitAt (at-start .args .bits .now))) 0 settingsLength
           (at-start .args .settings .now) (at-start .pre .2),
     )
 
@@ -88,7 +89,7 @@ loop-again c =
     let at-start = c .before .before .before .before .before .before .before .before in
     let at-loop = c .before .before in (
       omega arith,
-      filled-step (settingAt (at-start .args .table .now) (bitAt (at-start .args .bits .now))) 0 (settingsLength logicTile) (at-loop .loop .settings)
+      filled-step (settingAt (at-start .args .table .now) (bitAt (at-start .args .bits .now))) 0 settingsLength (at-loop .loop .settings)
           (at-loop .loop .n) _ (at-loop .loop .inv .1) (omega arith) (c .setting-at .ensures),
     )
 
@@ -103,7 +104,7 @@ loop2-holds c =
     let at-start = c .before .before .before .before .before .before .before .before in
     let at-loop = c .before .before in (
       omega arith,
-      subst (λ (x : ℕ). Filled (settingAt (at-start .args .table .now) (bitAt (at-start .args .bits .now))) 0 (settingsLength logicTile) x
+      subst (λ (x : ℕ). Filled (settingAt (at-start .args .table .now) (bitAt (at-start .args .bits .now))) 0 settingsLength x
           (at-loop .loop .settings)) (let q : at-loop .loop .n ≡ groupsFrom logicTile + 0 = omega arith in q) (at-loop .loop .inv .1),
     )
 
@@ -151,10 +152,10 @@ loop2-again c =
     let at-group-count = c .before .before .before in
     let at-loop2 = c .before .before in (
       omega arith,
-      subst (λ (x : ℕ). Filled (settingAt (at-start .args .table .now) (bitAt (at-start .args .bits .now))) 0 (settingsLength logicTile) x
+      subst (λ (x : ℕ). Filled (settingAt (at-start .args .table .now) (bitAt (at-start .args .bits .now))) 0 settingsLength x
           (set (at-loop2 .loop2 .settings) (groupsFrom logicTile + at-loop2 .loop2 .g) (c .group-setting .result)))
           (let q : groupsFrom logicTile + at-loop2 .loop2 .g + 1 ≡ groupsFrom logicTile + (at-loop2 .loop2 .g + 1) = omega arith in q)
-          (filled-step (settingAt (at-start .args .table .now) (bitAt (at-start .args .bits .now))) 0 (settingsLength logicTile) (at-loop2 .loop2 .settings)
+          (filled-step (settingAt (at-start .args .table .now) (bitAt (at-start .args .bits .now))) 0 settingsLength (at-loop2 .loop2 .settings)
           (groupsFrom logicTile + at-loop2 .loop2 .g) _ (at-loop2 .loop2 .inv .1)
           (omega (arith, at-group-count .group-count .ensures, at-start .pre .0 .few-groups))
           (c .group-setting .ensures ∙ sym (setting-of-group (at-start .args .table .now) (at-start .args .bits .now) (at-loop2 .loop2 .g)
@@ -174,7 +175,7 @@ loop3-holds c =
     let at-group-count = c .before .before in
     let at-loop2 = c .before in (
       omega arith,
-      subst (λ (x : ℕ). Filled (settingAt (at-start .args .table .now) (bitAt (at-start .args .bits .now))) 0 (settingsLength logicTile) x
+      subst (λ (x : ℕ). Filled (settingAt (at-start .args .table .now) (bitAt (at-start .args .bits .now))) 0 settingsLength x
           (at-loop2 .loop2 .settings)) (let q : groupsFrom logicTile + at-loop2 .loop2 .g ≡ groupsFrom logicTile + at-group-count .group-count .result = omega
           arith in q) (at-loop2 .loop2 .inv .1),
     )
@@ -200,7 +201,7 @@ loop3-again c =
     let at-group-count = c .before .before .before .before in
     let at-loop3 = c .before in (
       omega arith,
-      filled-step (settingAt (at-start .args .table .now) (bitAt (at-start .args .bits .now))) 0 (settingsLength logicTile)
+      filled-step (settingAt (at-start .args .table .now) (bitAt (at-start .args .bits .now))) 0 settingsLength
           (at-loop3 .loop3 .settings) (at-loop3 .loop3 .rest) 0 (at-loop3 .loop3 .inv .1) (omega arith)
           (sym (setting-group-rest (at-start .args .table .now) (at-start .args .bits .now) (at-loop3 .loop3 .rest) (omega arith) (omega arith)
           (omega (arith, at-group-count .group-count .ensures)))),

@@ -10,16 +10,16 @@ use Rattle.lists.specs.Search.{all}
 use Rattle.lists.proofs.SomeLaws.{all-more-pass, all-more-fail}
 use Rattle.routing.specs.LogicTile.{logicTile}
 use Rattle.codec.specs.Limits.{withinAt}
-use Rattle.codec.specs.Settings.{settingsLength}
+use Rattle.ports.specs.Lengths.{settingsLength}
 use Rattle.codec.proofs.LimitLaws.{fit-carry-pair, fit-within}
 use Rattle.tile.proofs.settings_fit.Statement.{statement}
 use Rattle.tile.proofs.settings_fit.Tie as tie
 
 abbrev Inv-loop : tie.InvT-loop
-Inv-loop limits settings fit₀ n₀ fit n = (n ≤ settingsLength logicTile) × (fit ≡ all (withinAt limits settings) 0 n)
+Inv-loop limits settings fit₀ n₀ fit n = (n ≤ settingsLength) × (fit ≡ all (withinAt limits settings) 0 n)
 
 abbrev μ-loop : tie.MeasureT-loop
-μ-loop limits settings fit₀ n₀ fit n = settingsLength logicTile - n
+μ-loop limits settings fit₀ n₀ fit n = settingsLength - n
 
 has-both-carries-requires : tie.Need-has-both-carries-requires Inv-loop μ-loop
 has-both-carries-requires c κs = search needs
@@ -68,7 +68,7 @@ returns-2 c =
     let at-if1 = c .before .before in
     let at-loop = c .before in
     λ table e. at-loop .loop .inv .1 ∙ ap (all (withinAt (at-start .args .limits .now) (at-start .args .settings .now)) 0)
-    (let q : at-loop .loop .n ≡ settingsLength logicTile = omega arith in q) ∙ fit-within table (at-start .args .settings .now)
+    (let q : at-loop .loop .n ≡ settingsLength = omega arith in q) ∙ fit-within table (at-start .args .settings .now)
     (at-start .args .limits .now) e (sym (at-has-both-carries .has-both-carries .ensures) ∙ at-if1 .if1 .left)
 
 pub settings-fit-spec : {M : Type 1} → statement M

@@ -1,7 +1,7 @@
 -- `fill_wires` meets its contract. Invariant: the rows to the south are filled. Measure: the rows left. Assumes nothing.
 use Rattle.wiring.proofs.FillLaws.{wired-at, rows-next, rows-all}
 use Rattle.wiring.specs.Fill.{Wired}
-use Rattle.fabric.specs.Block.{port}
+use Rattle.ports.specs.Block.{port}
 use Rattle.fabric.specs.Wire.{wiresOf}
 use Rattle.lists.proofs.TableLaws.{filled-start, filled-end}
 use native.Mathlib.Omega.{arith}

@@ -1,7 +1,7 @@
 -- `tiles` meets its contract. Invariant: the tiles to the west are filled. Measure: the tiles left. Assumes nothing.
 use Rattle.wiring.proofs.FillLaws.{wired-at}
 use Rattle.wiring.specs.Fill.{Wired}
-use Rattle.fabric.specs.Block.{port}
+use Rattle.ports.specs.Block.{port}
 use native.Mathlib.Omega.{arith}
 use mathlib.Core.Path.{sym, _∙_}
 use Prim.Native.Nat.{_-_, _≤_}

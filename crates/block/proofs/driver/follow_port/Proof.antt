@@ -5,8 +5,9 @@ use Rattle.drivers.proofs.LeadLaws.{sources-bounded}
 use Rattle.drivers.specs.Following.{Bounded, driverOf}
 use Rattle.equations.specs.Sources.{contendedWire, sourcesOf}
 use Rattle.fabric.proofs.WireLaws.{wire-within, wires-at}
-use Rattle.fabric.proofs.BlockLaws.{tiles-le, port-of-lt}
-use Rattle.fabric.specs.Block.{tiles, ports, portsPerTile, portOf}
+use Rattle.ports.proofs.BlockLaws.{tiles-le, port-of-lt}
+use Rattle.ports.specs.Block.{tiles, portOf}
+use Rattle.ports.specs.Lengths.{ports, portsPerTile}
 use lib.ListN.{getD}
 use native.Mathlib.Omega.{arith}
 use mathlib.Core.List.{List}

@@ -4,7 +4,7 @@ use Rattle.block.proofs.RoutedLaws.{routed-of-fit}
 use Rattle.routing.proofs.TableCheckLaws.{table-exact}
 use Rattle.routing.specs.TableCheck.{breaks, faultyPart, partCount}
 use Rattle.routing.specs.LogicTile.{logicTile}
-use Rattle.fabric.proofs.BlockLaws.{tiles-le}
+use Rattle.ports.proofs.BlockLaws.{tiles-le}
 use Rattle.lists.proofs.SearchLaws.{first-le}
 use borrow.Author.Tests.{eq-eqb}
 use native.Mathlib.Omega.{arith}

@@ -6,8 +6,8 @@ use Rattle.drivers.proofs.LeadLaws.{sources-bounded}
 use Rattle.drivers.specs.Clocks.{clockedTile}
 use Rattle.drivers.specs.Following.{Bounded}
 use Rattle.equations.specs.Routed.{Mapped}
-use Rattle.fabric.proofs.BlockLaws.{tiles-le}
-use Rattle.fabric.specs.Block.{ports}
+use Rattle.ports.proofs.BlockLaws.{tiles-le}
+use Rattle.ports.specs.Lengths.{ports}
 use lib.ListN.{length}
 use native.Mathlib.Omega.{arith}
 use mathlib.Core.Path.{_≡_, refl, sym, ap, _∙_, subst}

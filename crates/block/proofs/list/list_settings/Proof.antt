@@ -1,6 +1,6 @@
 -- `list::list_settings` meets its contract: contention is the lowest, and the maps written are the block's. Assumes nothing.
 use Rattle.block.proofs.BuildingLaws.{list-contended}
-use Rattle.fabric.proofs.BlockLaws.{tiles-le}
+use Rattle.ports.proofs.BlockLaws.{tiles-le}
 use native.Mathlib.Omega.{arith}
 use mathlib.Core.Path.{refl, _∙_}
 use borrow.Author.Needs.{needs}

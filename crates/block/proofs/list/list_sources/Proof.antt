@@ -1,7 +1,7 @@
 -- `list::list_sources` meets its contract: the rows written are the block's, and a disabled carry that is read is the lowest. Assumes nothing.
 use Rattle.block.proofs.ScheduleLaws.{rows-written}
 use Rattle.block.proofs.BuildingLaws.{list-carry}
-use Rattle.fabric.proofs.BlockLaws.{tiles-le}
+use Rattle.ports.proofs.BlockLaws.{tiles-le}
 use native.Mathlib.Omega.{arith}
 use mathlib.Core.Path.{refl}
 use borrow.Author.Needs.{needs}

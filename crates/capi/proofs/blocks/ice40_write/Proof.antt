@@ -1,7 +1,7 @@
 -- `ice40_write` meets its contract: the answer of `write`, packed, and its bits. Assumes nothing.
 use Rattle.capi.specs.Packed.{packed}
 use Rattle.config.specs.Blocks.{encoded}
-use Rattle.fabric.specs.Block.{block, tiles}
+use Rattle.ports.specs.Block.{block, tiles}
 use Rattle.refusal.specs.Memory.{output}
 use Rattle.refusal.specs.Grounds.{answerNumber, answerValue}
 use Rattle.refusal.specs.declared.Answer.{Answer}

@@ -2,7 +2,7 @@
 use Rattle.capi.specs.Packed.{packedAnswer}
 use Rattle.stepper.specs.Clocking.{nextStates}
 use Rattle.stepper.specs.Settling.{settledBy, portValues}
-use Rattle.fabric.specs.Block.{block}
+use Rattle.ports.specs.Block.{block}
 use Rattle.refusal.specs.Memory.{output, workRoom}
 use Prim.Native.Nat.{ℕ}
 use mathlib.Core.Path.{sym, ap, _∙_}

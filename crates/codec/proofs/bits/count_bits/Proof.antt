@@ -5,16 +5,17 @@ use native.Mathlib.Omega.{arith}
 use borrow.Author.Needs.{needs}
 use lib.Count.{ones-le}
 use Rattle.lists.specs.Search.{count}
-use Rattle.codec.specs.Bits.{unit, isSetAt, tileBytes, bitAt}
+use Rattle.codec.specs.Bits.{unit, isSetAt, bitAt}
+use Rattle.ports.specs.Lengths.{tileNumbers}
 use Rattle.codec.proofs.BitLaws.{bit-count-step}
 use Rattle.codec.proofs.bits.count_bits.Statement.{statement}
 use Rattle.codec.proofs.bits.count_bits.Tie as tie
 
 abbrev Inv-loop : tie.InvT-loop
-Inv-loop bits n₀ i₀ n i = (i ≤ tileBytes) × (n ≡ count (isSetAt (bitAt bits)) (unit * i)) × (n ≤ unit * i)
+Inv-loop bits n₀ i₀ n i = (i ≤ tileNumbers) × (n ≡ count (isSetAt (bitAt bits)) (unit * i)) × (n ≤ unit * i)
 
 abbrev μ-loop : tie.MeasureT-loop
-μ-loop bits n₀ i₀ n i = tileBytes - i
+μ-loop bits n₀ i₀ n i = tileNumbers - i
 
 loop-holds : tie.Need-loop-holds Inv-loop μ-loop
 unfolding count

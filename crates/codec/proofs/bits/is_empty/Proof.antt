@@ -6,15 +6,16 @@ use borrow.Author.Tests.{eq-eqb, ne-eqb}
 use borrow.Author.Needs.{needs}
 use Rattle.lists.specs.Search.{all}
 use Rattle.lists.proofs.SearchLaws.{all-turn-hit, all-turn-skip, all-turn-end}
-use Rattle.codec.specs.Bits.{tileBytes, isZeroAt}
+use Rattle.ports.specs.Lengths.{tileNumbers}
+use Rattle.codec.specs.Bits.{isZeroAt}
 use Rattle.codec.proofs.bits.is_empty.Statement.{statement}
 use Rattle.codec.proofs.bits.is_empty.Tie as tie
 
 abbrev Inv-loop : tie.InvT-loop
-Inv-loop bits i₀ i = (i ≤ tileBytes) × (all (isZeroAt bits) i (tileBytes - i) ≡ all (isZeroAt bits) 0 tileBytes)
+Inv-loop bits i₀ i = (i ≤ tileNumbers) × (all (isZeroAt bits) i (tileNumbers - i) ≡ all (isZeroAt bits) 0 tileNumbers)
 
 abbrev μ-loop : tie.MeasureT-loop
-μ-loop bits i₀ i = tileBytes - i
+μ-loop bits i₀ i = tileNumbers - i
 
 loop-holds : tie.Need-loop-holds Inv-loop μ-loop
 loop-holds c = (omega arith, refl)

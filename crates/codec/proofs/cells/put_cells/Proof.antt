@@ -6,13 +6,13 @@ use borrow.Author.Needs.{needs}
 use lib.ListN.{length, length-set}
 use Rattle.routing.specs.LogicTile.{logicTile}
 use Rattle.codec.specs.Cells.{putCells}
-use Rattle.codec.specs.Settings.{settingsLength}
+use Rattle.ports.specs.Lengths.{settingsLength}
 use Rattle.codec.proofs.CellLaws.{put-cells-turn}
 use Rattle.codec.proofs.cells.put_cells.Statement.{statement}
 use Rattle.codec.proofs.cells.put_cells.Tie as tie
 
 abbrev Inv-loop : tie.InvT-loop
-Inv-loop settings₀ cells i₀ settings i = (length cells ≡ 8) × (length settings ≡ settingsLength logicTile) × (i ≤ 8) × (settings ≡ putCells settings₀ cells i)
+Inv-loop settings₀ cells i₀ settings i = (length cells ≡ 8) × (length settings ≡ settingsLength) × (i ≤ 8) × (settings ≡ putCells settings₀ cells i)
 
 abbrev μ-loop : tie.MeasureT-loop
 μ-loop settings₀ cells i₀ settings i = 8 - i

@@ -6,20 +6,20 @@ use borrow.Author.Needs.{needs}
 use lib.ListN.{length}
 use Rattle.lists.proofs.TableLaws.{zeros-length}
 use Rattle.codec.specs.Cells.{writeCells}
-use Rattle.codec.specs.Bits.{tileBytes}
+use Rattle.ports.specs.Lengths.{tileNumbers}
 use Rattle.codec.proofs.CellLaws.{write-cells-turn, write-cells-clear}
 use Rattle.codec.proofs.cells.write_cells.Statement.{statement}
 use Rattle.codec.proofs.cells.write_cells.Tie as tie
 
 abbrev Inv-loop : tie.InvT-loop
-Inv-loop bits₀ cells i₀ bits i = (length cells ≡ 8) × (length bits ≡ tileBytes) × (i ≤ 8) × (bits ≡ writeCells bits₀ cells i)
+Inv-loop bits₀ cells i₀ bits i = (length cells ≡ 8) × (length bits ≡ tileNumbers) × (i ≤ 8) × (bits ≡ writeCells bits₀ cells i)
 
 abbrev μ-loop : tie.MeasureT-loop
 μ-loop bits₀ cells i₀ bits i = 8 - i
 
 loop-holds : tie.Need-loop-holds Inv-loop μ-loop
 unfolding writeCells
-loop-holds c = (search needs, ap length (c .before .pre) ∙ zeros-length tileBytes, search needs, search needs)
+loop-holds c = (search needs, ap length (c .before .pre) ∙ zeros-length tileNumbers, search needs, search needs)
 
 mul-c : tie.Need-mul-c Inv-loop μ-loop
 mul-c c = search needs
@@ -73,7 +73,7 @@ loop-again c =
     )
 
 same-length : tie.Need-same-length Inv-loop μ-loop
-same-length c = let at-start = c .before .before .before in c .before .loop .inv .1 ∙ sym (ap length (at-start .pre) ∙ zeros-length tileBytes)
+same-length c = let at-start = c .before .before .before in c .before .loop .inv .1 ∙ sym (ap length (at-start .pre) ∙ zeros-length tileNumbers)
 
 returns : tie.Need-returns Inv-loop μ-loop
 returns c =

@@ -8,14 +8,15 @@ use Rattle.digits.proofs.MaskLaws.{and-one}
 use Rattle.routing.specs.TileKind.{bitsPerCell}
 use Rattle.routing.specs.LogicTile.{cellPosition}
 use Rattle.routing.proofs.LogicTileLaws.{cell-position-lt, cell-position-once}
-use Rattle.codec.specs.Bits.{tileBytes, setBits}
+use Rattle.ports.specs.Lengths.{tileNumbers}
+use Rattle.codec.specs.Bits.{setBits}
 use Rattle.codec.proofs.BitLaws.{position-within}
 use Rattle.codec.proofs.SetBitsLaws.{set-bits-next, set-bits-turn, set-bits-clear}
 use Rattle.codec.proofs.cells.write_value.Statement.{statement}
 use Rattle.codec.proofs.cells.write_value.Tie as tie
 
 abbrev Inv-loop : tie.InvT-loop
-Inv-loop bits₀ i value j₀ bits j = (j ≤ bitsPerCell) × (length bits ≡ tileBytes) × (bits ≡ setBits bits₀ (cellPosition i) value j)
+Inv-loop bits₀ i value j₀ bits j = (j ≤ bitsPerCell) × (length bits ≡ tileNumbers) × (bits ≡ setBits bits₀ (cellPosition i) value j)
 
 abbrev μ-loop : tie.MeasureT-loop
 μ-loop bits₀ i value j₀ bits j = bitsPerCell - j

@@ -7,7 +7,8 @@ use lib.ListN.{length}
 use Rattle.digits.proofs.MaskLaws.{and-one}
 use Rattle.routing.specs.Table.{widthOf, positionAt}
 use Rattle.routing.specs.LogicTile.{logicTile}
-use Rattle.codec.specs.Bits.{tileBytes, setBits}
+use Rattle.ports.specs.Lengths.{tileNumbers}
+use Rattle.codec.specs.Bits.{setBits}
 use Rattle.codec.proofs.TileRunLaws.{group-position-lt}
 use Rattle.codec.proofs.SetBitsLaws.{set-bits-next, set-bits-turn}
 use Rattle.codec.proofs.FaultyLaws.{group-position-once}
@@ -16,7 +17,7 @@ use Rattle.codec.proofs.groups.write_pattern.Statement.{statement}
 use Rattle.codec.proofs.groups.write_pattern.Tie as tie
 
 abbrev Inv-loop : tie.InvT-loop
-Inv-loop table g bits₀ pattern n k₀ bits k = (k ≤ n) × (length bits ≡ tileBytes) × (bits ≡ setBits bits₀ (positionAt logicTile table g) pattern k)
+Inv-loop table g bits₀ pattern n k₀ bits k = (k ≤ n) × (length bits ≡ tileNumbers) × (bits ≡ setBits bits₀ (positionAt logicTile table g) pattern k)
 
 abbrev μ-loop : tie.MeasureT-loop
 μ-loop table g bits₀ pattern n k₀ bits k = n - k

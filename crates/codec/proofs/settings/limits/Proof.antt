@@ -5,21 +5,21 @@ use native.Mathlib.Omega.{arith}
 use borrow.Author.Needs.{needs}
 use Rattle.lists.proofs.TableLaws.{Filled, filled-start, filled-step, filled-end}
 use Rattle.routing.specs.LogicTile.{logicTile}
-use Rattle.codec.specs.Settings.{settingsLength}
+use Rattle.ports.specs.Lengths.{settingsLength}
 use Rattle.codec.specs.Limits.{limitAt}
 use Rattle.codec.proofs.settings.limits.Statement.{statement}
 use Rattle.codec.proofs.settings.limits.Tie as tie
 
 abbrev Inv-loop : tie.InvT-loop
-Inv-loop table limits₀ n₀ limits n = Filled (limitAt table) 0 (settingsLength logicTile) n limits
+Inv-loop table limits₀ n₀ limits n = Filled (limitAt table) 0 settingsLength n limits
 
 abbrev μ-loop : tie.MeasureT-loop
-μ-loop table limits₀ n₀ limits n = settingsLength logicTile - n
+μ-loop table limits₀ n₀ limits n = settingsLength - n
 
 loop-holds : tie.Need-loop-holds Inv-loop μ-loop
 loop-holds c =
     let at-start = c .before in
-    filled-start (limitAt (at-start .args .table .now)) 0 (settingsLength logicTile) _ refl
+    filled-start (limitAt (at-start .args .table .now)) 0 settingsLength _ refl
 
 limit-at-requires : tie.Need-limit-at-requires Inv-loop μ-loop
 limit-at-requires c κs = search needs
@@ -40,14 +40,14 @@ loop-again : tie.Need-loop-again Inv-loop μ-loop
 loop-again c =
     let at-start = c .before .before .before .before in
     let at-loop = c .before .before in
-    filled-step (limitAt (at-start .args .table .now)) 0 (settingsLength logicTile) (at-loop .loop .limits) (at-loop .loop .n) _ (at-loop .loop .inv)
+    filled-step (limitAt (at-start .args .table .now)) 0 settingsLength (at-loop .loop .limits) (at-loop .loop .n) _ (at-loop .loop .inv)
     (omega arith) (c .limit-at .ensures)
 
 returns : tie.Need-returns Inv-loop μ-loop
 returns c =
     let at-start = c .before .before .before in
     let at-loop = c .before in
-    filled-end (limitAt (at-start .args .table .now)) 0 (settingsLength logicTile) (at-loop .loop .limits) (at-loop .loop .n) (at-loop .loop .inv)
+    filled-end (limitAt (at-start .args .table .now)) 0 settingsLength (at-loop .loop .limits) (at-loop .loop .n) (at-loop .loop .inv)
     (omega arith)
 
 pub limits-spec : {M : Type 1} → statement M

@@ -11,7 +11,7 @@ use Rattle.lists.specs.Search.{first}
 use Rattle.lists.proofs.SearchLaws.{first-turn-hit, first-turn-skip, first-turn-end}
 use Rattle.lists.proofs.PartLaws.{part-size, part-code-length}
 use Rattle.routing.specs.LogicTile.{logicTile}
-use Rattle.codec.specs.Settings.{settingsLength}
+use Rattle.ports.specs.Lengths.{settingsLength}
 use Rattle.codec.specs.Limits.{settingsFit}
 use Rattle.config.specs.Blocks.{bitlessAt}
 use Rattle.config.proofs.blocks.bitless_tile.Statement.{statement}
@@ -51,7 +51,7 @@ settings-fit-requires : tie.Need-settings-fit-requires Inv-loop μ-loop
 settings-fit-requires c κs =
     let at-start = c .before .before .before .before .before .before .before in
     let at-loop = c .before .before .before in
-    part-code-length (settingsLength logicTile) (at-loop .loop .t) (at-start .args .n) (at-start .args .settings .now) (at-start .pre .2) (omega arith)
+    part-code-length settingsLength (at-loop .loop .t) (at-start .args .n) (at-start .args .settings .now) (at-start .pre .2) (omega arith)
 
 -- tile t is the lowest
 returns : tie.Need-returns Inv-loop μ-loop
@@ -62,8 +62,8 @@ returns c =
     let at-loop = c .before .before .before .before .before in
     let at-settings-fit = c .before in
     let fit = ap not (at-settings-fit .settings-fit .ensures (at-start .args .table .now) (at-limits .limits .ensures) ∙ ap
-    (λ (x : ℕ). settingsFit (at-start .args .table .now) (take x (drop (settingsLength logicTile * at-loop .loop .t) (at-start .args .settings .now))))
-    (part-size (settingsLength logicTile) (at-loop .loop .t))) in
+    (λ (x : ℕ). settingsFit (at-start .args .table .now) (take x (drop (settingsLength * at-loop .loop .t) (at-start .args .settings .now))))
+    (part-size settingsLength (at-loop .loop .t))) in
     first-turn-hit _ _ _ _ (at-loop .loop .inv .1) (omega arith) (sym fit ∙ c .if1 .taken)
 
 add-t : tie.Need-add-t Inv-loop μ-loop
@@ -80,8 +80,8 @@ loop-again c =
     let at-loop = c .before .before .before .before .before in
     let at-settings-fit = c .before in
     let fit = ap not (at-settings-fit .settings-fit .ensures (at-start .args .table .now) (at-limits .limits .ensures) ∙ ap
-    (λ (x : ℕ). settingsFit (at-start .args .table .now) (take x (drop (settingsLength logicTile * at-loop .loop .t) (at-start .args .settings .now))))
-    (part-size (settingsLength logicTile) (at-loop .loop .t))) in
+    (λ (x : ℕ). settingsFit (at-start .args .table .now) (take x (drop (settingsLength * at-loop .loop .t) (at-start .args .settings .now))))
+    (part-size settingsLength (at-loop .loop .t))) in
     (omega arith, first-turn-skip _ _ _ _ (at-loop .loop .inv .1) (omega arith) (sym fit ∙ c .if1 .left))
 
 -- there is none

@@ -8,15 +8,15 @@ use lib.ListN.{length, take, drop}
 use Rattle.lists.proofs.PartLaws.{part-size, part-code-length, put-length, joined-step, joined-end}
 use Rattle.lists.specs.Parts.{joined}
 use Rattle.routing.specs.LogicTile.{logicTile}
-use Rattle.codec.specs.Bits.{tileBytes, bitAt}
+use Rattle.ports.specs.Lengths.{tileNumbers, settingsLength}
+use Rattle.codec.specs.Bits.{bitAt}
 use Rattle.codec.specs.Decode.{decode}
-use Rattle.codec.specs.Settings.{settingsLength}
 use Rattle.config.specs.Blocks.{decodedAt, tilesOf}
 use Rattle.config.proofs.blocks.decode_block.Statement.{statement}
 use Rattle.config.proofs.blocks.decode_block.Tie as tie
 
 abbrev Inv-loop : tie.InvT-loop
-Inv-loop table bits settings₀ n t₀ settings t = (t ≤ n) × (length settings ≡ settingsLength logicTile * n) × (take (settingsLength logicTile * t) settings ≡ joined (decodedAt table (tilesOf bits)) t)
+Inv-loop table bits settings₀ n t₀ settings t = (t ≤ n) × (length settings ≡ settingsLength * n) × (take (settingsLength * t) settings ≡ joined (decodedAt table (tilesOf bits)) t)
 
 abbrev μ-loop : tie.MeasureT-loop
 μ-loop table bits settings₀ n t₀ settings t = n - t
@@ -67,7 +67,7 @@ decode-tile-requires c κs =
     let table = args .table .now in
     let bits = args .bits .now in
     let settings = at-loop .loop .settings in
-    (at-start .pre .1, part-code-length tileBytes t (args .n) bits (at-start .pre .2) (omega arith), part-code-length (settingsLength logicTile) t (args .n) settings (at-loop .loop .inv .1) (omega arith))
+    (at-start .pre .1, part-code-length tileNumbers t (args .n) bits (at-start .pre .2) (omega arith), part-code-length settingsLength t (args .n) settings (at-loop .loop .inv .1) (omega arith))
 
 add-t : tie.Need-add-t Inv-loop μ-loop
 add-t c = search needs
@@ -87,9 +87,9 @@ loop-again c =
     let bits = args .bits .now in
     let settings = at-loop .loop .settings in
     let part = at-decode-tile .decode-tile .last .1 .1 .0 in
-    let long = at-decode-tile .decode-tile .kept .1 .1 .0 ∙ part-code-length (settingsLength logicTile) t (args .n) settings (at-loop .loop .inv .1) (omega arith) in
-    let same = at-decode-tile .decode-tile .ensures ∙ ap (λ x. decode table (bitAt (take x (drop (tileBytes * t) bits)))) (part-size tileBytes t) in
-    (omega arith, put-length (settingsLength logicTile) t settings part (omega arith) long ∙ at-loop .loop .inv .1, joined-step (settingsLength logicTile) (decodedAt table (tilesOf bits)) t settings part (omega arith) long (at-loop .loop .inv .2) same (settingsLength logicTile * (t + 1)) (omega arith))
+    let long = at-decode-tile .decode-tile .kept .1 .1 .0 ∙ part-code-length settingsLength t (args .n) settings (at-loop .loop .inv .1) (omega arith) in
+    let same = at-decode-tile .decode-tile .ensures ∙ ap (λ x. decode table (bitAt (take x (drop (tileNumbers * t) bits)))) (part-size tileNumbers t) in
+    (omega arith, put-length settingsLength t settings part (omega arith) long ∙ at-loop .loop .inv .1, joined-step settingsLength (decodedAt table (tilesOf bits)) t settings part (omega arith) long (at-loop .loop .inv .2) same (settingsLength * (t + 1)) (omega arith))
 
 same-length : tie.Need-same-length Inv-loop μ-loop
 same-length c =
@@ -106,7 +106,7 @@ returns c =
     let table = args .table .now in
     let bits = args .bits .now in
     let settings = at-loop .loop .settings in
-    joined-end (decodedAt table (tilesOf bits)) t _ (settingsLength logicTile * t) settings (at-loop .loop .inv .2) (omega arith) (omega arith)
+    joined-end (decodedAt table (tilesOf bits)) t _ (settingsLength * t) settings (at-loop .loop .inv .2) (omega arith) (omega arith)
 
 pub decode-block-spec : {M : Type 1} → statement M
 decode-block-spec =

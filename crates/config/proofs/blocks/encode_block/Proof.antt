@@ -8,15 +8,14 @@ use lib.ListN.{length, take, drop}
 use Rattle.lists.proofs.PartLaws.{part-size, part-code-length, put-length, joined-step, joined-end}
 use Rattle.lists.specs.Parts.{joined}
 use Rattle.routing.specs.LogicTile.{logicTile}
-use Rattle.codec.specs.Bits.{tileBytes}
+use Rattle.ports.specs.Lengths.{tileNumbers, settingsLength}
 use Rattle.codec.specs.Encode.{encode}
-use Rattle.codec.specs.Settings.{settingsLength}
 use Rattle.config.specs.Blocks.{encodedAt}
 use Rattle.config.proofs.blocks.encode_block.Statement.{statement}
 use Rattle.config.proofs.blocks.encode_block.Tie as tie
 
 abbrev Inv-loop : tie.InvT-loop
-Inv-loop table settings bits₀ n t₀ bits t = (t ≤ n) × (length bits ≡ tileBytes * n) × (take (tileBytes * t) bits ≡ joined (encodedAt table settings) t)
+Inv-loop table settings bits₀ n t₀ bits t = (t ≤ n) × (length bits ≡ tileNumbers * n) × (take (tileNumbers * t) bits ≡ joined (encodedAt table settings) t)
 
 abbrev μ-loop : tie.MeasureT-loop
 μ-loop table settings bits₀ n t₀ bits t = n - t
@@ -67,7 +66,7 @@ encode-tile-requires c κs =
     let table = args .table .now in
     let settings = args .settings .now in
     let bits = at-loop .loop .bits in
-    (at-start .pre .1, part-code-length (settingsLength logicTile) t (args .n) settings (at-start .pre .2) (omega arith), rw (part-size (settingsLength logicTile) t) (at-start .pre .4 t (omega arith)), part-code-length tileBytes t (args .n) bits (at-loop .loop .inv .1) (omega arith))
+    (at-start .pre .1, part-code-length settingsLength t (args .n) settings (at-start .pre .2) (omega arith), rw (part-size settingsLength t) (at-start .pre .4 t (omega arith)), part-code-length tileNumbers t (args .n) bits (at-loop .loop .inv .1) (omega arith))
 
 add-t : tie.Need-add-t Inv-loop μ-loop
 add-t c = search needs
@@ -87,9 +86,9 @@ loop-again c =
     let settings = args .settings .now in
     let bits = at-loop .loop .bits in
     let part = at-encode-tile .encode-tile .last .1 .1 .0 in
-    let long = at-encode-tile .encode-tile .kept .1 .1 .0 ∙ part-code-length tileBytes t (args .n) bits (at-loop .loop .inv .1) (omega arith) in
-    let same = at-encode-tile .encode-tile .ensures ∙ ap (λ x. encode table (take x (drop (settingsLength logicTile * t) settings))) (part-size (settingsLength logicTile) t) in
-    (omega arith, put-length tileBytes t bits part (omega arith) long ∙ at-loop .loop .inv .1, joined-step tileBytes (encodedAt table settings) t bits part (omega arith) long (at-loop .loop .inv .2) same (tileBytes * (t + 1)) (omega arith))
+    let long = at-encode-tile .encode-tile .kept .1 .1 .0 ∙ part-code-length tileNumbers t (args .n) bits (at-loop .loop .inv .1) (omega arith) in
+    let same = at-encode-tile .encode-tile .ensures ∙ ap (λ x. encode table (take x (drop (settingsLength * t) settings))) (part-size settingsLength t) in
+    (omega arith, put-length tileNumbers t bits part (omega arith) long ∙ at-loop .loop .inv .1, joined-step tileNumbers (encodedAt table settings) t bits part (omega arith) long (at-loop .loop .inv .2) same (tileNumbers * (t + 1)) (omega arith))
 
 same-length : tie.Need-same-length Inv-loop μ-loop
 same-length c =
@@ -106,7 +105,7 @@ returns c =
     let table = args .table .now in
     let settings = args .settings .now in
     let bits = at-loop .loop .bits in
-    joined-end (encodedAt table settings) t _ (tileBytes * t) bits (at-loop .loop .inv .2) (omega arith) (omega arith)
+    joined-end (encodedAt table settings) t _ (tileNumbers * t) bits (at-loop .loop .inv .2) (omega arith) (omega arith)
 
 pub encode-block-spec : {M : Type 1} → statement M
 encode-block-spec =

@@ -12,17 +12,17 @@ use Rattle.lists.proofs.SearchLaws.{first-le, first-turn-hit, first-turn-skip, 
 use Rattle.lists.specs.Parts.{joined}
 use Rattle.lists.specs.Search.{first}
 use Rattle.routing.specs.LogicTile.{logicTile}
-use Rattle.codec.specs.Bits.{tileBytes, bitAt, tileOf}
+use Rattle.ports.specs.Lengths.{tileNumbers, settingsLength}
+use Rattle.codec.specs.Bits.{bitAt, tileOf}
 use Rattle.codec.specs.Decode.{decode}
 use Rattle.codec.specs.Fault.{faultAt, tileFault}
-use Rattle.codec.specs.Settings.{settingsLength}
 use Rattle.config.specs.Blocks.{undecodableAt, decodedAt, tilesOf}
 use Rattle.config.proofs.blocks.read_block.Statement.{statement}
 use Rattle.config.proofs.blocks.read_block.Tie as tie
 
 abbrev Inv-loop : tie.InvT-loop
 Inv-loop table own bits settings₀ n t₀ settings t =
-    (t ≤ n) × (first (undecodableAt table (tilesOf bits)) t (n - t) ≡ first (undecodableAt table (tilesOf bits)) 0 n) × (length settings ≡ settingsLength logicTile * n) × (take (settingsLength logicTile * t) settings ≡ joined (decodedAt table (tilesOf bits)) t)
+    (t ≤ n) × (first (undecodableAt table (tilesOf bits)) t (n - t) ≡ first (undecodableAt table (tilesOf bits)) 0 n) × (length settings ≡ settingsLength * n) × (take (settingsLength * t) settings ≡ joined (decodedAt table (tilesOf bits)) t)
 
 abbrev μ-loop : tie.MeasureT-loop
 μ-loop table own bits settings₀ n t₀ settings t = n - t
@@ -72,7 +72,7 @@ read-tile-requires c κs =
     let at-start = at-loop .before .before .before .before .before in
     let args = at-start .args in
     let t = at-loop .loop .t in
-    (at-start .pre .1, at-start .pre .2, part-code-length tileBytes t (args .n) (args .bits .now) (at-start .pre .3) (omega arith), part-code-length (settingsLength logicTile) t (args .n) (at-loop .loop .settings) (at-loop .loop .inv .2) (omega arith))
+    (at-start .pre .1, at-start .pre .2, part-code-length tileNumbers t (args .n) (args .bits .now) (at-start .pre .3) (omega arith), part-code-length settingsLength t (args .n) (at-loop .loop .settings) (at-loop .loop .inv .2) (omega arith))
 
 same-length : tie.Need-same-length Inv-loop μ-loop
 same-length c =
@@ -82,8 +82,8 @@ same-length c =
     let args = at-start .args in
     let t = at-loop .loop .t in
     let settings = at-loop .loop .settings in
-    let long = at-read-tile .read-tile .kept .1 .1 .1 .0 ∙ part-code-length (settingsLength logicTile) t (args .n) settings (at-loop .loop .inv .2) (omega arith) in
-    put-length (settingsLength logicTile) t settings (at-read-tile .read-tile .last .1 .1 .1 .0) (omega arith) long ∙ at-loop .loop .inv .2 ∙ sym (at-start .pre .4)
+    let long = at-read-tile .read-tile .kept .1 .1 .1 .0 ∙ part-code-length settingsLength t (args .n) settings (at-loop .loop .inv .2) (omega arith) in
+    put-length settingsLength t settings (at-read-tile .read-tile .last .1 .1 .1 .0) (omega arith) long ∙ at-loop .loop .inv .2 ∙ sym (at-start .pre .4)
 
 -- tile t is the lowest
 returns : tie.Need-returns Inv-loop μ-loop
@@ -94,7 +94,7 @@ returns c =
     let at-start = at-loop .before .before .before .before .before in
     let args = at-start .args in
     let t = at-loop .loop .t in
-    let fault = at-read-tile .read-tile .ensures .0 ∙ ap (λ (x : ℕ). tileFault (args .table .now) (tileOf (take x (drop (tileBytes * t) (args .bits .now))))) (part-size tileBytes t) in
+    let fault = at-read-tile .read-tile .ensures .0 ∙ ap (λ (x : ℕ). tileFault (args .table .now) (tileOf (take x (drop (tileNumbers * t) (args .bits .now))))) (part-size tileNumbers t) in
     (first-turn-hit _ _ _ _ (at-loop .loop .inv .1) (omega arith) (lt-ltb _ (logicTile .positions) (rw fault at (c .if1 .taken))), λ e. absurd (omega arith))
 
 add-t : tie.Need-add-t Inv-loop μ-loop
@@ -115,11 +115,11 @@ loop-again c =
     let bits = args .bits .now in
     let settings = at-loop .loop .settings in
     let part = at-read-tile .read-tile .last .1 .1 .1 .0 in
-    let long = at-read-tile .read-tile .kept .1 .1 .1 .0 ∙ part-code-length (settingsLength logicTile) t (args .n) settings (at-loop .loop .inv .2) (omega arith) in
-    let fault = at-read-tile .read-tile .ensures .0 ∙ ap (λ (x : ℕ). tileFault table (tileOf (take x (drop (tileBytes * t) bits)))) (part-size tileBytes t) in
+    let long = at-read-tile .read-tile .kept .1 .1 .1 .0 ∙ part-code-length settingsLength t (args .n) settings (at-loop .loop .inv .2) (omega arith) in
+    let fault = at-read-tile .read-tile .ensures .0 ∙ ap (λ (x : ℕ). tileFault table (tileOf (take x (drop (tileNumbers * t) bits)))) (part-size tileNumbers t) in
     let none = rw fault at (c .if1 .left) in
-    let read = at-read-tile .read-tile .ensures .1 (omega (arith, fault, first-le (faultAt table (tileOf (take tileBytes (drop (tileBytes * t) bits)))) 0 864)) ∙ ap (λ (x : ℕ). decode table (bitAt (take x (drop (tileBytes * t) bits)))) (part-size tileBytes t) in
-    (omega arith, first-turn-skip _ _ _ _ (at-loop .loop .inv .1) (omega arith) (le-ltb _ (logicTile .positions) none), put-length (settingsLength logicTile) t settings part (omega arith) long ∙ at-loop .loop .inv .2, joined-step (settingsLength logicTile) (decodedAt table (tilesOf bits)) t settings part (omega arith) long (at-loop .loop .inv .3) read (settingsLength logicTile * (t + 1)) (omega arith))
+    let read = at-read-tile .read-tile .ensures .1 (omega (arith, fault, first-le (faultAt table (tileOf (take tileNumbers (drop (tileNumbers * t) bits)))) 0 864)) ∙ ap (λ (x : ℕ). decode table (bitAt (take x (drop (tileNumbers * t) bits)))) (part-size tileNumbers t) in
+    (omega arith, first-turn-skip _ _ _ _ (at-loop .loop .inv .1) (omega arith) (le-ltb _ (logicTile .positions) none), put-length settingsLength t settings part (omega arith) long ∙ at-loop .loop .inv .2, joined-step settingsLength (decodedAt table (tilesOf bits)) t settings part (omega arith) long (at-loop .loop .inv .3) read (settingsLength * (t + 1)) (omega arith))
 
 same-length-2 : tie.Need-same-length-2 Inv-loop μ-loop
 same-length-2 c =
@@ -134,7 +134,7 @@ returns-2 c =
     let at-start = at-loop .before .before .before .before .before in
     let args = at-start .args in
     let t = at-loop .loop .t in
-    (first-turn-end _ _ _ _ (at-loop .loop .inv .1) (omega arith), λ e. joined-end (decodedAt (args .table .now) (tilesOf (args .bits .now))) t _ (settingsLength logicTile * t) (at-loop .loop .settings) (at-loop .loop .inv .3) e (omega arith))
+    (first-turn-end _ _ _ _ (at-loop .loop .inv .1) (omega arith), λ e. joined-end (decodedAt (args .table .now) (tilesOf (args .bits .now))) t _ (settingsLength * t) (at-loop .loop .settings) (at-loop .loop .inv .3) e (omega arith))
 
 pub read-block-spec : {M : Type 1} → statement M
 read-block-spec =

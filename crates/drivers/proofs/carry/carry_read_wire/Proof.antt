@@ -6,8 +6,8 @@ use Rattle.equations.proofs.WireRowLaws.{wire-rows-length, row-is}
 use Rattle.equations.specs.WireRows.{rowOf}
 use Rattle.netlist.specs.Rows.{rowAt, arityOf}
 use Rattle.netlist.specs.declared.row.Row.{Row}
-use Rattle.fabric.proofs.BlockLaws.{tiles-le}
-use Rattle.fabric.specs.Block.{ports}
+use Rattle.ports.proofs.BlockLaws.{tiles-le}
+use Rattle.ports.specs.Lengths.{ports}
 use Rattle.lists.specs.Search.{first}
 use lib.ListN.{length}
 use native.Mathlib.Omega.{arith}

@@ -4,7 +4,7 @@ use Rattle.netlist.proofs.ValueLaws.{arity-le}
 use Rattle.drivers.proofs.CarryPass.{lower-carries-step}
 use Rattle.drivers.specs.CarryReads.{lowerCarry, lowerCarries}
 use Rattle.netlist.specs.Rows.{arityOf}
-use Rattle.fabric.specs.Block.{ports}
+use Rattle.ports.specs.Lengths.{ports}
 use borrow.Author.Needs.{needs}
 use native.Mathlib.Omega.{arith}
 use mathlib.Core.Path.{_≡_, refl, sym, ap, ap₂, subst, _∙_}

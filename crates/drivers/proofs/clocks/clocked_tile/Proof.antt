@@ -1,8 +1,8 @@
 -- `clocks::clocked_tile` meets its contract. Invariant: the search from `tile` on is the whole search. Measure: the tiles that are left.
 -- Assumes nothing.
 use Rattle.drivers.specs.Clocks.{clockedAt, clockedTile}
-use Rattle.fabric.proofs.BlockLaws.{tiles-le}
-use Rattle.fabric.specs.Block.{ports}
+use Rattle.ports.proofs.BlockLaws.{tiles-le}
+use Rattle.ports.specs.Lengths.{ports}
 use Rattle.lists.proofs.SearchLaws.{first-turn-hit, first-turn-skip, first-turn-end}
 use Rattle.lists.specs.Search.{first}
 use lib.ListN.{length}

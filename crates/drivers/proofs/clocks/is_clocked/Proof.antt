@@ -1,7 +1,7 @@
 -- `clocks::is_clocked` meets its contract: first the clock, then the reset. Assumes nothing.
 use Rattle.drivers.proofs.ClockTurns.{clocked-clock, clocked-reset}
 use Rattle.drivers.specs.Clocks.{drivenOutside}
-use Rattle.fabric.specs.PortIndex.{clk, sR}
+use Rattle.ports.specs.PortIndex.{clk, sR}
 use native.Mathlib.Omega.{arith}
 use mathlib.Core.Bool.{Bool, not, _&&_}
 use mathlib.Core.Path.{sym, ap, _∙_}

@@ -3,9 +3,10 @@ use Rattle.lists.proofs.CaseLaws.{and-false-left}
 use Rattle.drivers.specs.Clocks.{isOutside, drivenOutside}
 use Rattle.drivers.specs.Following.{driverOf}
 use Rattle.fabric.proofs.WireLaws.{wire-within}
-use Rattle.fabric.proofs.BlockLaws.{port-of-lt}
+use Rattle.ports.proofs.BlockLaws.{port-of-lt}
 use Rattle.fabric.specs.Wire.{wireOf}
-use Rattle.fabric.specs.Block.{ports, portOf}
+use Rattle.ports.specs.Lengths.{ports}
+use Rattle.ports.specs.Block.{portOf}
 use borrow.Author.Tests.{not-true, not-false}
 use mathlib.Core.Bool.{Bool, not, _&&_}
 use mathlib.Core.Path.{_≡_, sym, ap, subst, _∙_}

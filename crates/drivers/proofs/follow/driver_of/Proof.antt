@@ -2,7 +2,7 @@
 use Rattle.drivers.proofs.Tracing.{driver-trace}
 use Rattle.drivers.specs.Following.{endDriver}
 use Rattle.drivers.specs.declared.follow.Trace.the-variants.{End}
-use Rattle.fabric.proofs.BlockLaws.{ports-le}
+use Rattle.ports.proofs.BlockLaws.{ports-le}
 use native.Mathlib.Omega.{arith}
 use mathlib.Core.Path.{sym, ap, _∙_}
 use borrow.Author.Needs.{needs}

@@ -2,7 +2,7 @@
 use Rattle.drivers.proofs.Tracing.{trace-lt, driver-trace, ring-lowest-le}
 use Rattle.drivers.specs.Following.{endDriver, ringLowest, traceDriver}
 use Rattle.drivers.specs.declared.follow.Driver.the-variants.{Ring}
-use Rattle.fabric.proofs.BlockLaws.{ports-le}
+use Rattle.ports.proofs.BlockLaws.{ports-le}
 use native.Mathlib.Omega.{arith}
 use mathlib.Core.Logic.{inl, inr}
 use mathlib.Core.Path.{sym, ap, _∙_}

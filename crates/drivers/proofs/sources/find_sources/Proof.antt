@@ -1,12 +1,11 @@
 -- `sources::find_sources` meets its contract. Invariant: the pass has taken the switches of the tiles before `tile` (`Sourced`). Measure: the tiles
 -- that are left. Assumes nothing.
 use borrow.Author.Needs.{needs}
-use Rattle.fabric.specs.Block.{ports}
+use Rattle.ports.specs.Lengths.{ports, maxGroups}
 use lib.ListN.{length}
 use Rattle.equations.proofs.Sourcing.{sourced-start, sourced-end}
 use Rattle.equations.specs.Sources.{Sourced}
-use Rattle.routing.specs.Table.{maxGroups}
-use Rattle.fabric.proofs.BlockLaws.{tiles-le}
+use Rattle.ports.proofs.BlockLaws.{tiles-le}
 use Rattle.lists.specs.Tables.{zeros}
 use native.Mathlib.Omega.{arith}
 use mathlib.Core.List.{List}

@@ -1,14 +1,15 @@
 -- `sources::take_switch` meets its contract: a group that is off is skipped; a switch that is the first on its wire goes into the map; a second
 -- one counts for the answer, whatever it comes from. Assumes nothing.
 use Rattle.drivers.proofs.SwitchTurns.{switch-off, switch-on, switch-target, switch-origin, switch-target-port, switch-origin-port, switch-entry-lt, switch-target-lt, switch-origin-lt, sourced-next}
-use Rattle.fabric.proofs.BlockLaws.{ports-le}
+use Rattle.ports.proofs.BlockLaws.{ports-le}
 use Rattle.equations.proofs.Sourcing.{sourced-skip, sourced-new, sourced-lower, sourced-higher}
 use Rattle.equations.specs.Switches.{enabled, target, origin}
 use Rattle.equations.specs.Tiles.{groupOf}
-use Rattle.routing.specs.Table.{maxGroups, sourceAt}
+use Rattle.ports.specs.Lengths.{maxGroups, ports}
+use Rattle.routing.specs.Table.{sourceAt}
 use Rattle.routing.specs.LogicTile.{logicTile}
 use Rattle.fabric.specs.Wire.{wireOf}
-use Rattle.fabric.specs.Block.{ports, portOf}
+use Rattle.ports.specs.Block.{portOf}
 use native.Mathlib.Omega.{arith}
 use Prim.Native.Nat.{ℕ, _+_, _-_, _*_, _<_}
 use mathlib.Core.Bool.{true}

@@ -2,7 +2,7 @@
 -- Assumes nothing.
 use Rattle.drivers.proofs.SwitchTurns.{sourced-tile}
 use Rattle.equations.specs.Sources.{Sourced}
-use Rattle.routing.specs.Table.{maxGroups}
+use Rattle.ports.specs.Lengths.{maxGroups}
 use native.Mathlib.Omega.{arith}
 use mathlib.Core.Path.{_≡_, sym, subst, _∙_}
 use Prim.Native.Nat.{ℕ, _+_, _-_, _*_, _≤_}

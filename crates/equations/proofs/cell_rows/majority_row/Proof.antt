@@ -1,6 +1,6 @@
 -- `cell_rows::majority_row` meets its contract: the operands are the wires of in_1, in_2 and the carry-in. Assumes nothing.
 use Rattle.fabric.specs.Wire.{wireOf}
-use Rattle.fabric.specs.Block.{portOf}
+use Rattle.ports.specs.Block.{portOf}
 use mathlib.Core.Path.{_∙_, ap}
 use Prim.Native.Nat.{ℕ}
 use borrow.Author.Needs.{needs}

@@ -1,6 +1,6 @@
 -- `cell_rows::out_row` meets its contract, with the flip-flop and without. Assumes nothing.
 use Rattle.equations.proofs.WireRowLaws.{flop-row, out-row}
-use Rattle.fabric.proofs.BlockLaws.{tiles-le}
+use Rattle.ports.proofs.BlockLaws.{tiles-le}
 use Rattle.cell.specs.declared.logic.Cell.{Cell}
 use mathlib.Core.Path.{sym, _∙_, ap}
 use native.Mathlib.Omega.{arith}

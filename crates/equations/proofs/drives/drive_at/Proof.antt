@@ -1,7 +1,7 @@
 -- `drives::drive_at` meets its contract: each arm is a clause of `driveAt`, and the last arm is all that is open. Assumes nothing.
 use Rattle.equations.proofs.DriveAtLaws.{rows-few, open-names}
 use Rattle.equations.specs.Drives.{driveAt}
-use Rattle.fabric.specs.PortNames.{Within}
+use Rattle.ports.specs.PortNames.{Within}
 use mathlib.Core.Path.{sym, _∙_, ap, subst}
 use Prim.Native.Nat.{_≤_}
 use native.Mathlib.Omega.{arith}

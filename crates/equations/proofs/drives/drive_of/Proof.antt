@@ -2,8 +2,8 @@
 use Rattle.equations.specs.Drives.{driveAt, driveOf}
 use Rattle.equations.proofs.RoleLaws.{span-drive, input-drive}
 use Rattle.fabric.proofs.WireAtLaws.{name-within}
-use Rattle.fabric.proofs.PlaceLaws.{tile-column-lt, tile-row-lt}
-use Rattle.fabric.specs.Block.{portsPerTile}
+use Rattle.ports.proofs.PlaceLaws.{tile-column-lt, tile-row-lt}
+use Rattle.ports.specs.Lengths.{portsPerTile}
 use mathlib.Core.Path.{_∙_, ap}
 use Prim.Native.Nat.{_/_, _%_}
 use native.Mathlib.Omega.{arith}

@@ -3,7 +3,7 @@ use Rattle.fabric.proofs.WireLaws.{wires-length, wires-at}
 use Rattle.equations.proofs.RowFromLaws.{drive-driven, row-from-none, row-from-switch, row-from-drive}
 use Rattle.equations.specs.WireRows.{driveRow}
 use Rattle.equations.specs.Routed.{Driven}
-use Rattle.fabric.proofs.BlockLaws.{ports-le}
+use Rattle.ports.proofs.BlockLaws.{ports-le}
 use mathlib.Core.Path.{sym, _∙_, ap, subst}
 use native.Mathlib.Omega.{arith}
 use borrow.Author.Needs.{needs}

@@ -1,7 +1,7 @@
 -- `rows::write_rows` meets its contract. Invariant: the first p rows are written (`Written`). Measure: the rows that are left. Assumes nothing.
 use Rattle.fabric.proofs.WireLaws.{wires-length}
 use Rattle.equations.specs.Sources.{rowFrom}
-use Rattle.fabric.specs.Block.{ports}
+use Rattle.ports.specs.Lengths.{ports}
 use Rattle.netlist.proofs.RowLaws.{Written, written-start, written-step, written-end}
 use mathlib.Core.List.{List}
 use mathlib.Core.Path.{_≡_, sym, _∙_, subst}

@@ -1,6 +1,6 @@
 -- `tiles::wire_at` meets its contract: the list has the wire of each port. Assumes nothing.
 use Rattle.fabric.proofs.WireLaws.{wires-length, wires-at}
-use Rattle.fabric.specs.Block.{portOf}
+use Rattle.ports.specs.Block.{portOf}
 use native.Mathlib.Omega.{arith}
 use Rattle.equations.proofs.tiles.wire_at.Statement.{statement}
 use Rattle.equations.proofs.tiles.wire_at.Tie as tie

@@ -4,7 +4,7 @@ use mathlib.Core.Path.{_∙_, ap}
 use borrow.Author.Needs.{needs}
 use borrow.Author.Tests.{le-leb, lt-leb}
 use native.Mathlib.Omega.{arith}
-use Rattle.fabric.specs.Block.{port}
+use Rattle.ports.specs.Block.{port}
 use Rattle.fabric.proofs.FlipLaws.{flip-le}
 use Rattle.fabric.proofs.span_wire.foot_port.Statement.{statement}
 use Rattle.fabric.proofs.span_wire.foot_port.Tie as tie

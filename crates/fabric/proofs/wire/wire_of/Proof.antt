@@ -3,7 +3,7 @@ use mathlib.Core.Path.{_≡_, _∙_, ap}
 use borrow.Author.Needs.{needs}
 use native.Mathlib.Omega.{arith}
 use Rattle.fabric.specs.Wire.{wireOf}
-use Rattle.fabric.proofs.PlaceLaws.{tile-column-lt, tile-row-lt, port-place}
+use Rattle.ports.proofs.PlaceLaws.{tile-column-lt, tile-row-lt, port-place}
 use Rattle.fabric.proofs.WireLaws.{wire-low}
 use Rattle.fabric.proofs.wire.wire_of.Statement.{statement}
 use Rattle.fabric.proofs.wire.wire_of.Tie as tie

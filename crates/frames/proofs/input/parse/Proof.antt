@@ -7,7 +7,7 @@ use Rattle.frames.specs.Input.{sizeAt, width, height, small, Opened, par
 use Rattle.frames.specs.Lines.{fieldsLine, passiveLine, sizeLine}
 use Rattle.frames.specs.Hex.{pairAt}
 use Rattle.frames.specs.declared.input.Parsed.the-variants.{Refused}
-use Rattle.refusal.specs.declared.Refusal.the-variants.{Size, Line}
+use Rattle.refusal.specs.declared.Refusal.the-variants.{WrongSize, Line}
 use Rattle.lists.proofs.CaseLaws.{and-true, and-false-left, and-false-right}
 use borrow.Author.Tests.{not-true, not-false}
 use native.Mathlib.Omega.{arith}
@@ -39,7 +39,7 @@ w-is c = c .pair .ensures ∙ ap (λ a. pairAt (text (c .before)) (a + 2)) (c .b
 h-is : (c : tie.After-pair2) → c .pair2 .result ≡ height (text (c .before .before))
 h-is c = c .pair2 .ensures ∙ ap (λ a. pairAt (text (c .before .before)) (a + 4)) (c .before .before .before .before .count-groups .ensures .1)
 
-not-small : (c : tie.Else3) → small (width (text c)) && small (height (text c)) ≡ false → parsed (text c) ≡ Refused Size
+not-small : (c : tie.Else3) → small (width (text c)) && small (height (text c)) ≡ false → parsed (text c) ≡ Refused WrongSize
 not-small c e =
     let at-if2 = c .before .before .before in
     let at-if1 = at-if2 .before .before in

@@ -4,7 +4,7 @@ use Rattle.reporting.specs.Report.{linesOf, acceptedLines}
 use Rattle.block.proofs.RoutedLaws.{routed-of-read}
 use Rattle.equations.specs.Sources.{sourcesOf}
 use Rattle.equations.specs.Routed.{Routed}
-use Rattle.fabric.specs.Block.{tiles}
+use Rattle.ports.specs.Block.{tiles}
 use mathlib.Core.Path.{sym, subst}
 use borrow.Author.Needs.{needs}
 use Rattle.reporting.proofs.blocks.put_accepted.Statement.{statement}

@@ -4,7 +4,7 @@ use Rattle.lines.proofs.TextLaws.{puts-line}
 use Rattle.reporting.proofs.BlockLaws.{refused-lines, listed-lines, listed-decodable}
 use Rattle.block.specs.Meaning.{BuildSays}
 use Rattle.block.proofs.LengthLaws.{build-long-exact}
-use Rattle.fabric.specs.Block.{block, tiles}
+use Rattle.ports.specs.Block.{block, tiles}
 use lib.ListN.{length}
 use mathlib.Core.Path.{_∙_, subst}
 use borrow.Author.Needs.{needs}

@@ -43,7 +43,7 @@ claim-requires c κs =
     let g = at-start .args .g in
     let alone = sym (at-group-alone-ok .group-alone-ok .ensures) ∙ not-false _ (at-if1 .if1 .left) in
     let narrow = alone-width logicTile table g alone _ (at-width .width .ensures) in (
-      group-run logicTile table (at-start .pre .0) g _ _ (at-start .pre .2) (at-start .pre .1) (at-width .width .ensures) narrow (c .before .positions-start .ensures),
+      group-run logicTile table (omega (arith, at-start .pre .0)) g _ _ (at-start .pre .2) (at-start .pre .1) (at-width .width .ensures) narrow (c .before .positions-start .ensures),
       at-start .pre .3,
     )
 

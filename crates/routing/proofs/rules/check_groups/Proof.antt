@@ -4,7 +4,7 @@ use Rattle.routing.proofs.PartSearch.{faulty-not-ok, Seen, seen-start, 
 use Rattle.routing.proofs.ClaimingLaws.{owned-all}
 use Rattle.routing.specs.Claiming.{TableOwned}
 use Rattle.routing.specs.Slots.{groupSlot}
-use Rattle.routing.specs.Table.{maxGroups}
+use Rattle.ports.specs.Lengths.{maxGroups}
 use Rattle.routing.specs.LogicTile.{logicTile}
 use borrow.Author.Tests.{not-true, not-false}
 use borrow.Author.Needs.{needs}

@@ -17,7 +17,7 @@ claim-requires c κs =
     let at-claim-cells = c .before .before .before in
     let at-start = at-claim-cells .before .before .before .before in
     let table = at-start .args .table .now in
-    (field-run logicTile table (at-start .pre .0), at-claim-cells .claim-cells .ensures table)
+    (field-run logicTile table (omega (arith, at-start .pre .0)), at-claim-cells .claim-cells .ensures table)
 
 same-length : tie.Need-same-length
 same-length c = search needs
@@ -55,7 +55,7 @@ claim-requires-2 c κs =
     let at-claim = at-if1 .before .before .before in
     let at-start = at-claim .before .before .before .before .before .before .before .before in
     let table = at-start .args .table .now in (
-      passive-run logicTile table (at-start .pre .0) _ (at-passive-count .passive-count .ensures) (omega arith),
+      passive-run logicTile table (omega (arith, at-start .pre .0)) _ (at-passive-count .passive-count .ensures) (omega arith),
       at-claim .claim .ensures .1 (not-false _ (at-if1 .if1 .left)),
     )
 

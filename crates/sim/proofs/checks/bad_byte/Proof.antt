@@ -3,7 +3,7 @@ use lib.ListN.{length}
 use Prim.Native.Nat.{ℕ, _+_}
 use mathlib.Core.Path.{sym, _∙_, ap}
 use native.Mathlib.Omega.{arith}
-use Rattle.fabric.proofs.BlockLaws.{tiles-le}
+use Rattle.ports.proofs.BlockLaws.{tiles-le}
 use Rattle.sim.proofs.ByteLaws.{bad-byte-le, joined-first, joined-second, joined-third}
 use borrow.Author.Needs.{needs}
 use Rattle.sim.proofs.checks.bad_byte.Statement.{statement}

@@ -9,7 +9,7 @@ use Rattle.routing.proofs.TableCheckLaws.{table-exact}
 use Rattle.routing.specs.TableCheck.{tableOk, breaks, partCount}
 use Rattle.routing.specs.LogicTile.{logicTile}
 use Rattle.lists.proofs.SearchLaws.{first-le}
-use Rattle.fabric.proofs.BlockLaws.{tiles-le}
+use Rattle.ports.proofs.BlockLaws.{tiles-le}
 use Rattle.sim.proofs.StepLaws.{never-done, inputs-table, inputs-settings, inputs-run}
 use borrow.Author.Tests.{eq-eqb, ne-eqb}
 use borrow.Author.Needs.{needs}

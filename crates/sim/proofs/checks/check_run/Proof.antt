@@ -7,7 +7,7 @@ use Rattle.netlist.specs.Checking.{firstBadRow}
 use Rattle.refusal.specs.declared.Answer.the-variants.{Refused}
 use Rattle.refusal.specs.declared.Refusal.the-variants.{Row, NotABit}
 use lib.ListN.{length}
-use Rattle.fabric.proofs.BlockLaws.{tiles-le, ports-le}
+use Rattle.ports.proofs.BlockLaws.{tiles-le, ports-le}
 use Rattle.stepper.proofs.SettledLaws.{marks-length}
 use Rattle.sim.proofs.StepLaws.{run-row, run-byte, run-done}
 use Rattle.sim.proofs.ByteLaws.{joined-length}

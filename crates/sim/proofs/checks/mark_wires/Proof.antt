@@ -3,7 +3,7 @@ use native.Mathlib.Omega.{arith}
 use lib.ListN.{length, getD}
 use lib.Dec.{eqb}
 use Prim.Native.Nat.{ℕ, _-_}
-use Rattle.fabric.proofs.BlockLaws.{ports-le}
+use Rattle.ports.proofs.BlockLaws.{ports-le}
 use mathlib.Core.Bool.{cond}
 use mathlib.Core.Path.{_≡_, refl, _∙_, ap}
 use Rattle.lists.proofs.TableLaws.{Filled, filled-start, filled-step, filled-end}

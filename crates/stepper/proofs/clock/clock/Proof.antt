@@ -3,7 +3,7 @@ use native.Mathlib.Omega.{arith}
 use Prim.Native.Nat.{_-_, _*_}
 use mathlib.Core.Path.{_≡_, _∙_, sym}
 use Rattle.lists.proofs.TableLaws.{Filled, filled-start, filled-step, filled-end}
-use Rattle.fabric.specs.Block.{tiles}
+use Rattle.ports.specs.Block.{tiles}
 use Rattle.stepper.specs.Clocking.{nextCell, nextStates}
 use borrow.Author.Needs.{needs}
 use Rattle.stepper.proofs.clock.clock.Statement.{statement}

@@ -4,9 +4,9 @@ use mathlib.Core.Path.{_≡_, _∙_, ap}
 use native.Mathlib.Omega.{arith}
 use Rattle.stepper.specs.Clocking.{valueAt}
 use Rattle.cell.specs.declared.logic.Cell.{Cell}
-use Rattle.fabric.specs.PortIndex.{inPort}
-use Rattle.fabric.specs.Block.{portOf}
-use Rattle.fabric.proofs.BlockLaws.{port-of-lt}
+use Rattle.ports.specs.PortIndex.{inPort}
+use Rattle.ports.specs.Block.{portOf}
+use Rattle.ports.proofs.BlockLaws.{port-of-lt}
 use borrow.Author.Needs.{needs}
 use Rattle.stepper.proofs.clock.lookup_at.Statement.{statement}
 use Rattle.stepper.proofs.clock.lookup_at.Tie as tie

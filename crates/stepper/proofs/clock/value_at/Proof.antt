@@ -3,8 +3,8 @@ use lib.ListN.{getD}
 use Prim.Native.Nat.{ℕ}
 use mathlib.Core.Path.{_∙_, ap}
 use native.Mathlib.Omega.{arith}
-use Rattle.fabric.specs.Block.{portOf}
-use Rattle.fabric.proofs.BlockLaws.{port-of-lt}
+use Rattle.ports.specs.Block.{portOf}
+use Rattle.ports.proofs.BlockLaws.{port-of-lt}
 use Rattle.fabric.proofs.WireLaws.{wire-within}
 use borrow.Author.Needs.{needs}
 use Rattle.stepper.proofs.clock.value_at.Statement.{statement}

@@ -6,7 +6,7 @@ use native.Mathlib.Omega.{arith}
 use borrow.Author.Tests.{not-true, not-false}
 use borrow.Author.Needs.{needs}
 use Rattle.lists.proofs.CaseLaws.{clash}
-use Rattle.codec.specs.Bits.{tileBytes}
+use Rattle.ports.specs.Lengths.{tileNumbers}
 use Rattle.codec.specs.Limits.{bothCarries}
 use Rattle.tile.specs.Taking.{Known}
 use Rattle.codec.proofs.BitLaws.{empty-clear}
@@ -19,10 +19,10 @@ use Rattle.tile.proofs.reading.try_decode.Tie as tie
 
 abbrev Inv-loop : tie.InvT-loop
 Inv-loop table own bits settings₀ i₀ settings i =
-    (i ≤ tileBytes) × Known table bits settings × ((j : ℕ) → j < i → TakenByte table bits settings j)
+    (i ≤ tileNumbers) × Known table bits settings × ((j : ℕ) → j < i → TakenByte table bits settings j)
 
 abbrev μ-loop : tie.MeasureT-loop
-μ-loop table own bits settings₀ i₀ settings i = tileBytes - i
+μ-loop table own bits settings₀ i₀ settings i = tileNumbers - i
 
 clear-requires : tie.Need-clear-requires Inv-loop μ-loop
 clear-requires c κs = search needs

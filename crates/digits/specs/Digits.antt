@@ -1,5 +1,6 @@
 -- Binary digits of a number, the first with weight 1: read, written, and a number made of them.
-use Prim.Native.Nat.{ℕ, zero, suc, _+_, _*_, _/_, _%_, _^_}
+use Prim.Native.Nat.{ℕ, zero, suc, _+_, _*_, _/_, _%_, _^_, _<_}
+use mathlib.Core.Path.{_≡_}
 use mathlib.Core.Bool.{Bool}
 use lib.Dec.{eqb}
 
@@ -10,6 +11,12 @@ digit n k = n / 2 ^ k % 2
 -- digit k of n is set
 abbrev pub isSet : ℕ → ℕ → Bool
 isSet n k = eqb (digit n k) 1
+
+-- digit k is the lowest set digit of n, a number of w digits
+pub record LowestDigit (w n k : ℕ) : Type 0 where
+  pub within : k < w
+  pub one : digit n k ≡ 1
+  pub below : (j : ℕ) → j < k → digit n j ≡ 0
 
 -- n with v, which is 0 or 1, for its digit k
 unfoldable pub setDigit : ℕ → ℕ → ℕ → ℕ

@@ -1,2 +1,2 @@
 -- Binary digits of numbers.
-pub mod Digits  -- digit, setDigit, fromDigits
+pub mod Digits  -- digit, setDigit, fromDigits; LowestDigit

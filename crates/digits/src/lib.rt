@@ -2,7 +2,7 @@
 // proofs/. Nothing here knows of tiles.
 ghost use mathlib.Core.Path.{_≡_};
 ghost use Prim.Native.Nat.{_<_};
-ghost use Rattle.digits.specs.Digits.{digit, setDigit};
+ghost use Rattle.digits.specs.Digits.{digit, setDigit, LowestDigit};
 
 // Digit k of a byte.
 pub fn digit_of(byte: u8, k: u32) -> u8
@@ -22,9 +22,10 @@ pub fn with_digit(byte: u8, k: u32, value: u8) -> u8
 }
 
 // The lowest digit that is set, in a byte that has one.
+// Rules out: another set digit, as the highest.
 pub fn lowest_digit(byte: u8) -> u32
     requires { ⌜ 0 < byte ⌝ }
-    ensures { λ r. ⌜ (r < 8) × (digit byte r ≡ 1) ⌝ }
+    ensures { λ r. ⌜ LowestDigit 8 byte r ⌝ }
 {
     u8::trailing_zeros(byte)
 }

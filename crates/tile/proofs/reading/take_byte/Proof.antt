@@ -37,13 +37,13 @@ lowest-digit-requires : tie.Need-lowest-digit-requires Inv-loop μ-loop
 lowest-digit-requires c κs = c .loop-test .taken
 
 mul-take-bit : tie.Need-mul-take-bit Inv-loop μ-loop
-mul-take-bit c = omega (arith, c .lowest-digit .ensures .0)
+mul-take-bit c = omega (arith, c .lowest-digit .ensures .within)
 
 cast-take-bit : tie.Need-cast-take-bit Inv-loop μ-loop
-cast-take-bit c = omega (arith, c .lowest-digit .ensures .0)
+cast-take-bit c = omega (arith, c .lowest-digit .ensures .within)
 
 add-take-bit : tie.Need-add-take-bit Inv-loop μ-loop
-add-take-bit c = omega (arith, c .lowest-digit .ensures .0)
+add-take-bit c = omega (arith, c .lowest-digit .ensures .within)
 
 take-bit-requires : tie.Need-take-bit-requires Inv-loop μ-loop
 take-bit-requires c κs =
@@ -54,8 +54,8 @@ take-bit-requires c κs =
       at-start .pre .0,
       at-start .pre .1,
       at-start .pre .2,
-      omega (arith, k .0),
-      bit-of-byte (at-start .args .bits .now) (at-start .args .i) _ (k .0) ∙ at-loop .loop .inv .2 .set _ (k .1),
+      omega (arith, k .within),
+      bit-of-byte (at-start .args .bits .now) (at-start .args .i) _ (k .within) ∙ at-loop .loop .inv .2 .set _ (k .one),
       at-loop .loop .inv .1 .known,
     )
 
@@ -68,7 +68,8 @@ returns c = λ z. clash z refl
 without-digit-requires : tie.Need-without-digit-requires Inv-loop μ-loop
 without-digit-requires c κs =
     let at-lowest-digit = c .before .before .before .before .before in
-    at-lowest-digit .lowest-digit .ensures
+    let k = at-lowest-digit .lowest-digit .ensures in
+    (k .within, k .one)
 
 loop-less : tie.Need-loop-less Inv-loop μ-loop
 loop-less c = c .without-digit .ensures .1

@@ -4,7 +4,7 @@ use mathlib.Core.Path.{_≡_, sym, ap, _∙_}
 use mathlib.Core.Bool.{false}
 use mathlib.Core.List.{List}
 use mathlib.Core.Logic.{⊎-elim, _≢_}
-use Prim.Native.Nat.{ℕ, _+_, _*_, _/_, _%_, _^_, _<_}
+use Prim.Native.Nat.{ℕ, _+_, _/_, _%_, _^_, _<_}
 use native.Mathlib.Omega.{arith}
 use native.Mathlib.Nat.{mod-eq-of-lt}
 use lib.Dec.{eqb}
@@ -16,7 +16,7 @@ use Rattle.lists.proofs.CaseLaws.{eq-or-ne}
 use Rattle.lists.proofs.TableLaws.{zeros-length, zeros-at}
 use Rattle.digits.specs.Digits.{digit, setDigit}
 use Rattle.digits.proofs.DigitLaws.{digit-set-same, digit-set-other, digit-past}
-use Rattle.bitset.specs.Bitset.{Bitset, Written, has, word, wordCount, leaves}
+use Rattle.bitset.specs.Bitset.{Bitset, Written, has, word, wordBelow, wordCount, wordDigits, leaves}
 
 -- the digits of 0
 pub digit-zero : {n : ℕ} (k : ℕ) → n ≡ 0 → digit n k ≡ 0
@@ -56,13 +56,13 @@ module _ {words after : List ℕ} {i k v : ℕ} (e : Written words after i k v) 
       (λ q. ap (λ (x : ℕ). digit x m) (word-written-other e j q)) (eq-or-ne j i)
 
   -- the number that the digit stands for, in a leaf, and the others
-  pub has-written-same : (n : ℕ) → leaves + n / 32 ≡ i → n % 32 ≡ k → has after n ≡ eqb v 1
+  pub has-written-same : (n : ℕ) → leaves + n / wordDigits ≡ i → n % wordDigits ≡ k → has after n ≡ eqb v 1
   unfolding has
   has-written-same n a b = rw (a, b) (ap (λ (x : ℕ). eqb x 1) digit-written-same)
 
-  pub has-written-other : (m : ℕ) → (leaves + m / 32 ≡ i → m % 32 ≢ k) → has after m ≡ has words m
+  pub has-written-other : (m : ℕ) → (leaves + m / wordDigits ≡ i → m % wordDigits ≢ k) → has after m ≡ has words m
   unfolding has
-  has-written-other m ne = ap (λ (x : ℕ). eqb x 1) (digit-written-other (leaves + m / 32) (m % 32) ne)
+  has-written-other m ne = ap (λ (x : ℕ). eqb x 1) (digit-written-other (leaves + m / wordDigits) (m % wordDigits) ne)
 
 -- a word that is not 0 after a digit was written 0 was not 0 before
 pub ne-zero-before : {words after : List ℕ} {i k : ℕ} → Written words after i k 0 → i < length words → word after i ≢ 0 → word words i ≢ 0
@@ -73,12 +73,13 @@ ne-zero-before {words} {after} {i} {k} e l ne z = ne (word-written-same e l ∙ 
 pub zeros-bitset : Bitset (zeros wordCount)
 zeros-bitset = record {
   long = zeros-length wordCount;
+  spare = λ i a b. zeros-at wordCount i;
   tells = λ i k li lk. (
     λ d. absurd (ne-zero-of-digit k d (zeros-at wordCount i)),
-    λ ne. absurd (ne (zeros-at wordCount (1 + (32 * i + k)))),
+    λ ne. absurd (ne (zeros-at wordCount (wordBelow i k))),
   );
 }
 
 pub zeros-none : (m : ℕ) → has (zeros wordCount) m ≡ false
 unfolding has
-zeros-none m = ap (λ (x : ℕ). eqb x 1) (digit-zero (m % 32) (zeros-at wordCount (leaves + m / 32)))
+zeros-none m = ap (λ (x : ℕ). eqb x 1) (digit-zero (m % wordDigits) (zeros-at wordCount (leaves + m / wordDigits)))

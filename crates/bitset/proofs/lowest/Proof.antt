@@ -1,6 +1,6 @@
 -- `bitset::lowest` meets its contract: the lowest set digit of each level. Assumes nothing.
 use native.Mathlib.Omega.{arith}
-use Rattle.bitset.proofs.LowestLaws.{lowest-none, lowest-is, full-of-set}
+use Rattle.bitset.proofs.LowestLaws.{lowest-none, lowest-is, full-of-set, top-lt}
 use borrow.Author.Needs.{needs}
 use Rattle.bitset.proofs.lowest.Statement.{statement}
 use Rattle.bitset.proofs.lowest.Tie as tie
@@ -45,13 +45,16 @@ mul-lowest-digit-2 : tie.Need-mul-lowest-digit-2
 mul-lowest-digit-2 c = search needs
 
 element-copy-out-lowest-digit-2 : tie.Need-element-copy-out-lowest-digit-2
-element-copy-out-lowest-digit-2 c = search needs
+element-copy-out-lowest-digit-2 c =
+    let at-top = c .before .before in
+    omega (arith, top-lt (at-top .before .before .before .pre) (at-top .lowest-digit .ensures))
 
 lowest-digit-requires-3 : tie.Need-lowest-digit-requires-3
 lowest-digit-requires-3 c κs =
     let at-middle = c .before in
     let at-top = at-middle .before .before in
-    full-of-set (at-top .before .before .before .pre) (at-middle .lowest-digit2 .ensures) (omega arith) (omega arith)
+    let s = at-top .before .before .before .pre in
+    full-of-set s (at-middle .lowest-digit2 .ensures) (top-lt s (at-top .lowest-digit .ensures)) (omega arith)
 
 add-result : tie.Need-add-result
 add-result c = search needs

@@ -4,6 +4,7 @@ use native.Mathlib.Omega.{arith}
 use lib.ListN.{getD, set}
 use Rattle.digits.proofs.WriteLaws.{raise-is}
 use borrow.Author.Needs.{needs}
+use Rattle.bitset.specs.Bitset.{wordDigits}
 use Rattle.bitset.proofs.raise.Statement.{statement}
 use Rattle.bitset.proofs.raise.Tie as tie
 
@@ -12,9 +13,6 @@ mul-words c = search needs
 
 element-copy-out-words : tie.Need-element-copy-out-words
 element-copy-out-words c = search needs
-
-cast-words : tie.Need-cast-words
-cast-words c = search needs
 
 shl-words : tie.Need-shl-words
 shl-words c = search needs
@@ -31,7 +29,7 @@ returns c =
     let words = at-start .args .words .now in
     let i = at-start .args .i in record {
       bit = omega arith;
-      made = ap (set words i) (raise-is 32 (getD words i 0) (at-start .args .k) (at-start .pre .1));
+      made = ap (set words i) (raise-is wordDigits (getD words i 0) (at-start .args .k) (at-start .pre .1));
     }
 
 pub raise-spec : {M : Type 1} → statement M
@@ -40,7 +38,6 @@ raise-spec =
     (tie.spec
     mul-words
     element-copy-out-words
-    cast-words
     shl-words
     mul-words-2
     element-write-words

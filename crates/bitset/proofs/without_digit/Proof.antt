@@ -2,17 +2,15 @@
 use native.Mathlib.Omega.{arith}
 use Rattle.digits.proofs.WriteLaws.{lower-is}
 use borrow.Author.Needs.{needs}
+use Rattle.bitset.specs.Bitset.{wordDigits}
 use Rattle.bitset.proofs.without_digit.Statement.{statement}
 use Rattle.bitset.proofs.without_digit.Tie as tie
-
-cast-result : tie.Need-cast-result
-cast-result c = search needs
 
 shl-result : tie.Need-shl-result
 shl-result c = search needs
 
 returns : tie.Need-returns
-returns c = lower-is 32 (c .args .word) (c .args .k) (c .pre) (omega arith)
+returns c = lower-is wordDigits (c .args .word) (c .args .k) (c .pre) (omega arith)
 
 pub without-digit-spec : {M : Type 1} → statement M
-without-digit-spec = tie.close (tie.spec cast-result shl-result returns)
+without-digit-spec = tie.close (tie.spec shl-result returns)

@@ -1,11 +1,11 @@
 // Combinational loops (the papers' loop): which wire depends on itself. Only wires that were not listed are looked at: a listed one reads only
 // listed ones and is on no loop (`Settled`).
 ghost use mathlib.Core.Path.{_≡_};
-ghost use Prim.Native.Nat.{_+_, _*_, _^_, _<_, _≤_};
+ghost use Prim.Native.Nat.{_+_, _*_, _<_, _≤_};
 ghost use mathlib.Core.Bool.{true, false};
 ghost use lib.ListN.{length};
 ghost use Rattle.netlist.specs.Graph.{Closed, DependsOn, LowestLoop};
-ghost use Rattle.netlist.specs.Marks.{Unlisted, onlyListed};
+ghost use Rattle.netlist.specs.Marks.{Unlisted, onlyListed, maxWires};
 ghost use Rattle.netlist.specs.Order.{Settled};
 ghost use Rattle.netlist.specs.Rows.{rowLength, graphOf};
 use crate::marks::write_listed;
@@ -23,7 +23,7 @@ mod ranks;
 
 // Whether a wire that is not listed depends on itself: follows the readings from it on, each wire once and no listed one, until it is met
 // again.
-pub fn depends_on_itself(
+fn depends_on_itself(
     rows: &[u16],
     start: usize,
     marks: &mut [u16],
@@ -32,7 +32,7 @@ pub fn depends_on_itself(
 ) -> bool
     requires { ⌜ length (now rows) ≡ rowLength * length (now marks) ⌝ }
     requires { ⌜ Closed (graphOf (now rows)) (length (now marks)) ⌝ }
-    requires { ⌜ (length (now marks) ≤ length (now queue)) × (length (now marks) ≤ 2 ^ 16) ⌝ }
+    requires { ⌜ (length (now marks) ≤ length (now queue)) × (length (now marks) ≤ maxWires) ⌝ }
     requires { ⌜ (length (now listed) ≡ length (now marks)) × Settled (graphOf (now rows)) (now listed) ⌝ }
     requires { ⌜ (start < length (now marks)) × Unlisted (now listed) start ⌝ }
     ensures yes { λ r. ⌜ (r ≡ true → DependsOn (graphOf (now (rows .entry))) start start) ⌝ }
@@ -71,7 +71,7 @@ pub fn depends_on_itself(
 fn search_loop(rows: &[u16], marks: &mut [u16], queue: &mut [u16], listed: &[u16]) -> usize
     requires { ⌜ length (now rows) ≡ rowLength * length (now marks) ⌝ }
     requires { ⌜ Closed (graphOf (now rows)) (length (now marks)) ⌝ }
-    requires { ⌜ (length (now marks) ≤ length (now queue)) × (length (now marks) ≤ 2 ^ 16) ⌝ }
+    requires { ⌜ (length (now marks) ≤ length (now queue)) × (length (now marks) ≤ maxWires) ⌝ }
     requires { ⌜ (length (now listed) ≡ length (now marks)) × Settled (graphOf (now rows)) (now listed) ⌝ }
     ensures { λ r. ⌜ LowestLoop (graphOf (now (rows .entry))) (length (now (marks .entry))) r ⌝ }
 {
@@ -93,7 +93,7 @@ fn search_loop(rows: &[u16], marks: &mut [u16], queue: &mut [u16], listed: &[u16
 fn find_loop(rows: &[u16], marks: &mut [u16], queue: &mut [u16], listed: &[u16]) -> usize
     requires { ⌜ length (now rows) ≡ rowLength * length (now marks) ⌝ }
     requires { ⌜ Closed (graphOf (now rows)) (length (now marks)) ⌝ }
-    requires { ⌜ (length (now marks) ≤ length (now queue)) × (length (now marks) ≤ 2 ^ 15) ⌝ }
+    requires { ⌜ (length (now marks) ≤ length (now queue)) × (length (now marks) ≤ maxWires) ⌝ }
     requires { ⌜ (length (now listed) ≡ length (now marks)) × Settled (graphOf (now rows)) (now listed) ⌝ }
     ensures { λ r. ⌜ LowestLoop (graphOf (now (rows .entry))) (length (now (marks .entry))) r ⌝ }
 {
@@ -117,7 +117,7 @@ fn find_loop(rows: &[u16], marks: &mut [u16], queue: &mut [u16], listed: &[u16])
 pub fn lowest_loop(rows: &[u16], marks: &mut [u16], queue: &mut [u16], listed: &mut [u16]) -> usize
     requires { ⌜ length (now rows) ≡ rowLength * length (now marks) ⌝ }
     requires { ⌜ Closed (graphOf (now rows)) (length (now marks)) ⌝ }
-    requires { ⌜ (length (now listed) ≡ length (now marks)) × (length (now marks) ≤ length (now queue)) × (length (now marks) ≤ 2 ^ 15) ⌝ }
+    requires { ⌜ (length (now listed) ≡ length (now marks)) × (length (now marks) ≤ length (now queue)) × (length (now marks) ≤ maxWires) ⌝ }
     requires { ⌜ Settled (graphOf (now rows)) (onlyListed (now marks)) ⌝ }
     ensures { λ r. ⌜ LowestLoop (graphOf (now (rows .entry))) (length (now (marks .entry))) r ⌝ }
 {

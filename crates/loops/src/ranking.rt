@@ -1,10 +1,10 @@
 // A guess at ranks by which the wires of a loop have one: the strong components of what is read, found depth first (after Pearce) in the
 // lent room. Listed wires are left out. Only what bounds that room is proved of it, and `is_ranked` checks what it gives.
 ghost use mathlib.Core.Path.{_≡_};
-ghost use Prim.Native.Nat.{ℕ, _+_, _*_, _^_, _<_, _≤_};
+ghost use Prim.Native.Nat.{ℕ, _+_, _*_, _<_, _≤_};
 ghost use lib.ListN.{length, getD};
 ghost use Rattle.netlist.specs.Graph.{Closed};
-ghost use Rattle.netlist.specs.Marks.{unmarked};
+ghost use Rattle.netlist.specs.Marks.{unmarked, maxWires};
 ghost use Rattle.netlist.specs.Rows.{rowLength, graphOf};
 ghost use Rattle.loops.specs.Ranks.{Descending, stepsLeft};
 ghost use Rattle.loops.specs.declared.ranking.Descent.{Descent};
@@ -43,7 +43,7 @@ fn first_unmarked(rows: &[u16], marks: &[u16], v: usize) -> usize
 
 // Goes on to a wire without a mark: it is on the path.
 fn enter(marks: &mut [u16], queue: &mut [u16], at: Descent, d: usize) -> Descent
-    requires { ⌜ Descending (now marks) (now queue) at × (length (now marks) ≤ 2 ^ 15) ⌝ }
+    requires { ⌜ Descending (now marks) (now queue) at × (length (now marks) ≤ maxWires) ⌝ }
     requires { ⌜ (d < length (now marks)) × (getD (now marks) d 0 ≡ 0) ⌝ }
     ensures kept { λ r. ⌜ Descending (now (marks .exit)) (now (queue .exit)) r ⌝ }
     ensures less { λ r. ⌜ stepsLeft (now (marks .exit)) r < stepsLeft (now (marks .entry)) at ⌝ }
@@ -81,7 +81,7 @@ fn rank_held(marks: &mut [u16], queue: &[u16], held: usize, own: u16, rank: u16)
 // held since it was entered.
 fn leave(rows: &[u16], marks: &mut [u16], queue: &mut [u16], at: Descent) -> Descent
     requires { ⌜ length (now rows) ≡ rowLength * length (now marks) ⌝ }
-    requires { ⌜ Closed (graphOf (now rows)) (length (now marks)) × (length (now marks) ≤ 2 ^ 15) ⌝ }
+    requires { ⌜ Closed (graphOf (now rows)) (length (now marks)) × (length (now marks) ≤ maxWires) ⌝ }
     requires { ⌜ Descending (now marks) (now queue) at × (0 < at .depth) ⌝ }
     ensures kept { λ r. ⌜ Descending (now (marks .exit)) (now (queue .exit)) r ⌝ }
     ensures less { λ r. ⌜ stepsLeft (now (marks .exit)) r < stepsLeft (now (marks .entry)) at ⌝ }
@@ -114,7 +114,7 @@ fn leave(rows: &[u16], marks: &mut [u16], queue: &mut [u16], at: Descent) -> Des
 // Follows readings from the wire on the path until it is left.
 fn rank_path(rows: &[u16], marks: &mut [u16], queue: &mut [u16], from: Descent) -> Descent
     requires { ⌜ length (now rows) ≡ rowLength * length (now marks) ⌝ }
-    requires { ⌜ Closed (graphOf (now rows)) (length (now marks)) × (length (now marks) ≤ 2 ^ 15) ⌝ }
+    requires { ⌜ Closed (graphOf (now rows)) (length (now marks)) × (length (now marks) ≤ maxWires) ⌝ }
     requires { ⌜ Descending (now marks) (now queue) from ⌝ }
     ensures { λ r. ⌜ Descending (now (marks .exit)) (now (queue .exit)) r ⌝ }
 {
@@ -137,7 +137,7 @@ fn rank_path(rows: &[u16], marks: &mut [u16], queue: &mut [u16], from: Descent) 
 pub fn rank_wires(rows: &[u16], marks: &mut [u16], queue: &mut [u16], listed: &[u16])
     requires { ⌜ length (now rows) ≡ rowLength * length (now marks) ⌝ }
     requires { ⌜ Closed (graphOf (now rows)) (length (now marks)) ⌝ }
-    requires { ⌜ (length (now marks) ≤ length (now queue)) × (length (now marks) ≤ 2 ^ 15) ⌝ }
+    requires { ⌜ (length (now marks) ≤ length (now queue)) × (length (now marks) ≤ maxWires) ⌝ }
     requires { ⌜ length (now listed) ≡ length (now marks) ⌝ }
 {
     let n = marks.len();

@@ -6,6 +6,10 @@ use Prim.Native.Nat.{ℕ, zero, suc}
 use lib.Dec.{eqb}
 use lib.ListN.{getD, set}
 
+-- so many wires at most: a mark may hold a wire's number and 2, in 16 bits
+abbrev pub maxWires : ℕ
+maxWires = 65534
+
 abbrev pub listed : List ℕ → ℕ → Bool
 listed marks w = not (eqb (getD marks w 0) 0)
 

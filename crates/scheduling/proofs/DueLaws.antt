@@ -3,7 +3,7 @@ use mathlib.Core.Path.{_≡_, refl, sym, ap, _∙_}
 use mathlib.Core.Bool.{Bool, true, false, not, _||_}
 use mathlib.Core.Logic.{_⊎_, inl, inr, ⊎-elim, _≢_}
 use mathlib.Core.List.{List}
-use Prim.Native.Nat.{ℕ, _+_, _^_, _<_, _≤_}
+use Prim.Native.Nat.{ℕ, _+_, _<_, _≤_}
 use native.Mathlib.Omega.{arith}
 use borrow.Author.Tests.{eq-eqb, ne-eqb, lt-ltb, le-ltb}
 use lib.Dec.{eqb, ltb}
@@ -12,6 +12,7 @@ use Rattle.lists.proofs.CaseLaws.{cases, clash, eq-or-ne, lt-or-le, or-left, or
 use Rattle.lists.proofs.CountLaws.{count-lt}
 use Rattle.lists.proofs.SearchLaws.{first-true, first-before}
 use Rattle.bitset.specs.Bitset.{Bitset, has, numbers}
+use Rattle.netlist.specs.Marks.{maxWires}
 use Rattle.scheduling.specs.Due.{dueFrom, dueWith, Early, Taken}
 use Rattle.scheduling.specs.declared.order.Look.{Look}
 
@@ -37,7 +38,7 @@ module _ (woken : List ℕ) (look : Look) (k : ℕ) where
 
 -- ---- Taken
 
-module _ (n : ℕ) (woken₀ : List ℕ) (from : ℕ) (few : n ≤ 2 ^ 15) (h : Early n woken₀ from) (w : ℕ) (low : w ≡ first (has woken₀) 0 numbers) where
+module _ (n : ℕ) (woken₀ : List ℕ) (from : ℕ) (few : n ≤ maxWires) (h : Early n woken₀ from) (w : ℕ) (low : w ≡ first (has woken₀) 0 numbers) where
   -- w was woken
   module _ (woken : List ℕ) (l : w < numbers) (bits : Bitset woken) (gone : has woken w ≡ false) (others : (k : ℕ) → k ≢ w → has woken k ≡ has woken₀ k) where
     look : Look

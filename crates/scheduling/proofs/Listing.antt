@@ -3,7 +3,7 @@ use mathlib.Core.Path.{_≡_, refl, sym, ap, subst, _∙_}
 use mathlib.Core.Bool.{true, false}
 use mathlib.Core.Logic.{_⊎_, inl, inr, ⊎-elim, _≢_}
 use mathlib.Core.List.{List, [], _∷_, _++_, append-assoc, append-nil}
-use Prim.Native.Nat.{ℕ, _+_, _^_, _<_, _≤_}
+use Prim.Native.Nat.{ℕ, _+_, _<_, _≤_}
 use native.Mathlib.Numerals.{add-one}
 use native.Mathlib.Omega.{arith}
 use borrow.Author.Tests.{le-ltb}
@@ -14,7 +14,7 @@ use Rattle.lists.specs.Tables.{zeros}
 use Rattle.lists.proofs.CaseLaws.{clash, or-is, or-left, or-right}
 use Rattle.lists.proofs.TableLaws.{zeros-length}
 use Rattle.netlist.specs.Graph.{Graph}
-use Rattle.netlist.specs.Marks.{marksAfter, unmarked, onlyListed}
+use Rattle.netlist.specs.Marks.{marksAfter, unmarked, onlyListed, maxWires}
 use Rattle.netlist.specs.Order.{next, orderFrom, order, orderMarks}
 use Rattle.bitset.specs.Bitset.{Bitset, has}
 use Rattle.scheduling.specs.Waiting.{Among, Chain}
@@ -125,7 +125,7 @@ module _ (g : Graph) (n : ℕ) where
     waiting k f = sym (due-other woken look k (λ q. clash (due-here woken look k q) f)) ∙ f
 
     -- those that wait for w are asleep
-    pub going-asleep : w ≢ n → n ≤ 2 ^ 15 → Asleep links (getD m w 0) woken
+    pub going-asleep : w ≢ n → n ≤ maxWires → Asleep links (getD m w 0) woken
     going-asleep ne few =
         let own = found .watched .chains w (going-lt ne) (going-new ne) in
         let e = found .watched .linked in

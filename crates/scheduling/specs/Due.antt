@@ -4,13 +4,13 @@ use mathlib.Core.Path.{_≡_}
 use mathlib.Core.Bool.{Bool, true, false, not, _||_}
 use mathlib.Core.Logic.{_⊎_}
 use mathlib.Core.List.{List}
-use Prim.Native.Nat.{ℕ, _^_, _<_, _≤_}
+use Prim.Native.Nat.{ℕ, _<_, _≤_}
 use lib.Dec.{eqb, ltb}
 use lib.ListN.{length}
 use Rattle.bitset.specs.Bitset.{Bitset, has}
 use Rattle.netlist.specs.Graph.{Graph}
 use Rattle.netlist.specs.Order.{next}
-use Rattle.netlist.specs.Marks.{onlyListed}
+use Rattle.netlist.specs.Marks.{onlyListed, maxWires}
 use Rattle.scheduling.specs.Waiting.{Among, Chain, Watched}
 use Rattle.scheduling.specs.declared.order.Look.{Look}
 
@@ -50,7 +50,7 @@ pub record Found (g : Graph) (n : ℕ) (marks₀ marks links woken : List ℕ) (
 -- a chain whose wires are not woken
 pub record Asleep (links : List ℕ) (mark : ℕ) (woken : List ℕ) : Type 0 where
   pub bits : Bitset woken
-  pub few : length links ≤ 2 ^ 15
+  pub few : length links ≤ maxWires
   pub members : List ℕ
   pub chain : Chain links mark members
   pub asleep : (k : ℕ) → Among k members → (k < length links) × (has woken k ≡ false)

@@ -1,13 +1,13 @@
 // The order of the rows: always the lowest wire that is not listed and waits for none. A wire that is not ready waits for one that it reads,
 // and is looked at again only when that one is listed.
 ghost use mathlib.Core.Path.{_≡_};
-ghost use Prim.Native.Nat.{_*_, _^_, _≤_};
+ghost use Prim.Native.Nat.{_*_, _≤_};
 ghost use mathlib.Core.List.{_++_};
 ghost use lib.ListN.{length, drop};
 ghost use Rattle.netlist.specs.Graph.{Closed};
 ghost use Rattle.netlist.specs.Order.{order, orderMarks};
 ghost use Rattle.netlist.specs.Rows.{rowLength, graphOf};
-ghost use Rattle.netlist.specs.Marks.{onlyListed};
+ghost use Rattle.netlist.specs.Marks.{onlyListed, maxWires};
 ghost use Rattle.scheduling.specs.Due.{Early, Taken, Resting, Found, Asleep, Woken};
 use bitset::NUMBERS;
 use bitset::WORDS;
@@ -24,8 +24,8 @@ pub struct Look {
 
 // Takes the lowest wire that is due to be looked at, or n where none is.
 // Rules out: going on from `from` while a wire below it is due.
-fn take(woken: &mut [u32; WORDS], from: usize, n: usize) -> Look
-    requires { ⌜ Early n (now woken) from × (n ≤ 2 ^ 15) ⌝ }
+fn take(woken: &mut [u64; WORDS], from: usize, n: usize) -> Look
+    requires { ⌜ Early n (now woken) from × (n ≤ maxWires) ⌝ }
     ensures { λ r. ⌜ Taken n (now (woken .entry)) from (now (woken .exit)) r ⌝ }
 {
     let w = bitset::lowest(woken);
@@ -48,15 +48,15 @@ fn take(woken: &mut [u32; WORDS], from: usize, n: usize) -> Look
 // The lowest wire that is not listed and reads only wires that are, or the number of indices. The search goes through the wires that are due
 // and is left from its inner loop at the first whose operands are all listed; any other waits for its first operand that is not.
 // Rules out: a wire that reads one not listed; a later one where a lower is ready.
-pub fn next_ready(
+fn next_ready(
     rows: &[u16],
     marks: &mut [u16],
     links: &mut [u16],
-    woken: &mut [u32; WORDS],
+    woken: &mut [u64; WORDS],
     from: usize,
 ) -> Look
     requires { ⌜ length (now rows) ≡ rowLength * length (now marks) ⌝ }
-    requires { ⌜ Closed (graphOf (now rows)) (length (now marks)) × (length (now marks) ≤ 2 ^ 15) ⌝ }
+    requires { ⌜ Closed (graphOf (now rows)) (length (now marks)) × (length (now marks) ≤ maxWires) ⌝ }
     requires { ⌜ Resting (graphOf (now rows)) (length (now marks)) (now marks) (now links) (now woken) from ⌝ }
     ensures { λ r. ⌜ Found (graphOf (now (rows .entry))) (length (now (marks .entry))) (now (marks .entry)) (now (marks .exit)) (now (links .exit)) (now (woken .exit)) r ⌝ }
 {
@@ -90,7 +90,7 @@ pub fn next_ready(
 
 // The wires of a chain are due again.
 // Rules out: leaving the last one asleep.
-fn wake(links: &[u16], woken: &mut [u32; WORDS], mark: u16)
+fn wake(links: &[u16], woken: &mut [u64; WORDS], mark: u16)
     requires { ⌜ Asleep (now links) mark (now woken) ⌝ }
     ensures { λ r. ⌜ Woken (now (links .entry)) mark (now (woken .entry)) (now (woken .exit)) ⌝ }
 {
@@ -107,7 +107,7 @@ fn wake(links: &[u16], woken: &mut [u32; WORDS], mark: u16)
 pub fn list_wires(rows: &[u16], marks: &mut [u16], links: &mut [u16], out: &mut [u16]) -> usize
     requires { ⌜ length (now rows) ≡ rowLength * length (now marks) ⌝ }
     requires { ⌜ Closed (graphOf (now rows)) (length (now marks)) ⌝ }
-    requires { ⌜ (length (now links) ≡ length (now marks)) × (length (now marks) ≤ length (now out)) × (length (now marks) ≤ 2 ^ 15) ⌝ }
+    requires { ⌜ (length (now links) ≡ length (now marks)) × (length (now marks) ≤ length (now out)) × (length (now marks) ≤ maxWires) ⌝ }
     ensures count { λ r. ⌜ r ≡ length (order (graphOf (now (rows .entry))) (length (now (marks .entry)))) ⌝ }
     ensures out { λ r. ⌜ now (out .exit) ≡ order (graphOf (now (rows .entry))) (length (now (marks .entry))) ++ drop r (now (out .entry)) ⌝ }
     ensures marks { λ r. ⌜ onlyListed (now (marks .exit)) ≡ orderMarks (graphOf (now (rows .entry))) (length (now (marks .entry))) ⌝ }

@@ -1,11 +1,11 @@
 // Rows by wire into the list of rows in order, or the finding that there is a loop.
 ghost use mathlib.Core.Path.{_≡_};
-ghost use Prim.Native.Nat.{ℕ, _+_, _*_, _^_, _<_, _≤_};
+ghost use Prim.Native.Nat.{ℕ, _+_, _*_, _<_, _≤_};
 ghost use mathlib.Core.Bool.{not, _&&_};
 ghost use lib.ListN.{length, getD};
 ghost use Rattle.lists.specs.Search.{first};
 ghost use Rattle.netlist.specs.Graph.{Closed};
-ghost use Rattle.netlist.specs.Marks.{listed, onlyListed};
+ghost use Rattle.netlist.specs.Marks.{listed, onlyListed, maxWires};
 ghost use Rattle.netlist.specs.Rows.{rowLength, rowsOf, Inside, graphOf};
 ghost use Rattle.netlist.specs.OrderedRows.{rowInOrder};
 ghost use Rattle.scheduling.specs.Scheduling.{Answers, Queued};
@@ -64,7 +64,7 @@ pub fn write_list(rows: &[u16], wires: &[u16], count: usize, n: usize, list: &mu
 pub fn schedule(rows: &[u16], marks: &mut [u16], queue: &mut [u16], links: &mut [u16]) -> Scheduled
     requires { ⌜ length (now rows) ≡ rowLength * length (now marks) ⌝ }
     requires { ⌜ Closed (graphOf (now rows)) (length (now marks)) ⌝ }
-    requires { ⌜ (length (now links) ≡ length (now marks)) × (length (now marks) ≤ length (now queue)) × (length (now marks) ≤ 2 ^ 15) ⌝ }
+    requires { ⌜ (length (now links) ≡ length (now marks)) × (length (now marks) ≤ length (now queue)) × (length (now marks) ≤ maxWires) ⌝ }
     ensures answer { λ r. ⌜ Answers (graphOf (now (rows .entry))) (length (now (marks .entry))) r ⌝ }
     ensures queue { λ r. ⌜ Queued (graphOf (now (rows .entry))) (length (now (marks .entry))) (now (queue .exit)) r ⌝ }
 {

@@ -2,6 +2,7 @@
 -- loop: the operands below j are listed. Measures: the wires that are due, and the operands that are left. Assumes nothing.
 use borrow.Author.Needs.{needs}
 use Rattle.scheduling.specs.Due.{dueWith, Taken}
+use Rattle.netlist.specs.Marks.{maxWires}
 use Rattle.netlist.specs.Rows.{graphOf, operandOf}
 use Rattle.scheduling.specs.Waiting.{no-wire, done}
 use Rattle.scheduling.specs.declared.order.Look.{Look}
@@ -37,7 +38,7 @@ abbrev μ-search : tie.MeasureT-search
 -- the wire that is looked at is one of the block
 wire-lt : (c : tie.Then1 Inv-loop μ-loop Inv-search μ-search)
     → (c .before .before .search .look .wire < length (c .before .before .search .marks))
-    × ((c .before .before .search .look .wire < length (c .before .before .search .links)) × (c .before .before .search .look .wire < 32768))
+    × ((c .before .before .search .look .wire < length (c .before .before .search .links)) × (c .before .before .search .look .wire < maxWires))
 wire-lt c =
     let at-search = c .before .before in
     let at-start = at-search .before .before .before .before .before .before in

@@ -4,7 +4,7 @@ use Prim.Native.Nat.{ℕ, _*_, _<_, _≤_}
 use mathlib.Core.Path.{_≡_, sym, ap, _∙_, subst}
 use mathlib.Core.Logic.{⊎-elim}
 use mathlib.Core.List.{List, _++_}
-use lib.ListN.{length, getD}
+use lib.ListN.{length, getD, drop}
 use Rattle.lists.proofs.CaseLaws.{lt-or-le}
 use Rattle.ports.specs.declared.size.Block.{Block}
 use Rattle.ports.specs.Lengths.{ports}
@@ -60,13 +60,13 @@ module _ (B : Block) (t st : List ℕ) where
           (h .0, loop-wire-is (graph B t st) (ports B) (rows-closed B t st ok) w (h .1))
 
       -- no wire depends on itself, there is a row for each, and those written from the queue are the block's list
-      pub listed-rows : (k : ℕ) → r ≡ Listed k → (queue : List ℕ) → Queued (graphOf rows) n queue r → ListedRows B t st rows queue n k
-      listed-rows k e queue q = record {
+      pub listed-rows : (k : ℕ) → r ≡ Listed k → (old queue : List ℕ) → Queued (graphOf rows) n old queue r → ListedRows B t st rows queue n k
+      listed-rows k e old queue q = record {
         straight = ⊎-elim (λ l. absurd (yes .1 .1 _ l (low .here l))) (λ l. l) (lt-or-le (loopWire (graph B t st) (ports B)) (ports B));
         count = yes .0 ∙ count-wires B t st (yes .1 .0);
-        fits = queue-long rows n queue (front .0) k (front .1) many;
-        inside = queue-inside rows n queue (front .0) k (front .1) many rows-long;
-        writes = λ m h. ap (rowsOf (rowInOrder rows queue k)) h ∙ queue-list rows n queue (front .0) k (front .1) many ∙ ap (λ (j : ℕ). listOf rows j) long
+        fits = queue-long rows n queue (drop k old) k front many;
+        inside = queue-inside rows n queue (drop k old) k front many rows-long;
+        writes = λ m h. ap (rowsOf (rowInOrder rows queue k)) h ∙ queue-list rows n queue (drop k old) k front many ∙ ap (λ (j : ℕ). listOf rows j) long
             ∙ ap (λ (x : List ℕ). listOf x (ports B)) is;
       }
         where
@@ -79,5 +79,5 @@ module _ (B : Block) (t st : List ℕ) where
           many : k ≡ length (order (graphOf rows) n)
           many = subst (Answers (graphOf rows) n) e a .0
 
-          front : (behind : List ℕ) × (queue ≡ order (graphOf rows) n ++ behind)
-          front = subst (Queued (graphOf rows) n queue) e q
+          front : queue ≡ order (graphOf rows) n ++ drop k old
+          front = subst (Queued (graphOf rows) n old queue) e q

@@ -111,15 +111,16 @@ fn find_loop(rows: &[u16], marks: &mut [u16], queue: &mut [u16], listed: &[u16])
     search_loop(rows, marks, queue, listed)
 }
 
-// The same, from marks that are 1 where a wire is listed and may say something else elsewhere (`onlyListed`); `listed` is a room for what they
-// say of listed wires.
+// The same, from marks that are 1 where a wire is listed and may say something else elsewhere (`onlyListed`); `listed` ends with what they say of
+// listed wires. `marks` and `queue` are work rooms: what they end with is left open.
 // Rules out: a wire that only hangs on a loop; a loop's highest wire.
 pub fn lowest_loop(rows: &[u16], marks: &mut [u16], queue: &mut [u16], listed: &mut [u16]) -> usize
     requires { ⌜ length (now rows) ≡ rowLength * length (now marks) ⌝ }
     requires { ⌜ Closed (graphOf (now rows)) (length (now marks)) ⌝ }
     requires { ⌜ (length (now listed) ≡ length (now marks)) × (length (now marks) ≤ length (now queue)) × (length (now marks) ≤ maxWires) ⌝ }
     requires { ⌜ Settled (graphOf (now rows)) (onlyListed (now marks)) ⌝ }
-    ensures { λ r. ⌜ LowestLoop (graphOf (now (rows .entry))) (length (now (marks .entry))) r ⌝ }
+    ensures answer { λ r. ⌜ LowestLoop (graphOf (now (rows .entry))) (length (now (marks .entry))) r ⌝ }
+    ensures listed { λ r. ⌜ now (listed .exit) ≡ onlyListed (now (marks .entry)) ⌝ }
 {
     write_listed(marks, listed);
     find_loop(rows, marks, queue, listed)

@@ -59,14 +59,15 @@ pub fn write_list(rows: &[u16], wires: &[u16], count: usize, n: usize, list: &mu
 }
 
 // The order of a block's rows, left at the front of `queue`, or the lowest wire that depends on itself. `write_list` then writes the
-// list, so that a caller can make more checks before it touches its output.
+// list, so that a caller can make more checks before it touches its output. `marks` and `links` are work rooms, and so is the queue where there is
+// a loop: what they end with is left open.
 // Rules out: a loop's place taken as the first wire that never becomes ready; a wire left over.
 pub fn schedule(rows: &[u16], marks: &mut [u16], queue: &mut [u16], links: &mut [u16]) -> Scheduled
     requires { ⌜ length (now rows) ≡ rowLength * length (now marks) ⌝ }
     requires { ⌜ Closed (graphOf (now rows)) (length (now marks)) ⌝ }
     requires { ⌜ (length (now links) ≡ length (now marks)) × (length (now marks) ≤ length (now queue)) × (length (now marks) ≤ maxWires) ⌝ }
     ensures answer { λ r. ⌜ Answers (graphOf (now (rows .entry))) (length (now (marks .entry))) r ⌝ }
-    ensures queue { λ r. ⌜ Queued (graphOf (now (rows .entry))) (length (now (marks .entry))) (now (queue .exit)) r ⌝ }
+    ensures queue { λ r. ⌜ Queued (graphOf (now (rows .entry))) (length (now (marks .entry))) (now (queue .entry)) (now (queue .exit)) r ⌝ }
 {
     let n = marks.len();
     let count = list_wires(rows, marks, links, queue);

@@ -130,7 +130,7 @@ returns c =
     let room = at-start .pre .1 .1 in
     let few = tiles-le B (ok .size) in
     let long = marks-long at-marks in
-    let listed = listed-rows B table st ok rows (length marks) (at-start .pre .1 .0 .2) long (at-schedule .schedule .result) (at-schedule .schedule .ensures .0) (at-s2 .s2 .given .0 .0) (at-s2 .s2 .given .1) (at-schedule .schedule .last .1 .1 .0) (at-schedule .schedule .ensures .1) in
+    let listed = listed-rows B table st ok rows (length marks) (at-start .pre .1 .0 .2) long (at-schedule .schedule .result) (at-schedule .schedule .ensures .0) (at-s2 .s2 .given .0 .0) (at-s2 .s2 .given .1) (at-start .args .queue .now) (at-schedule .schedule .last .1 .1 .0) (at-schedule .schedule .ensures .1) in
     let found = at-clocked-tile .clocked-tile .ensures ∙ ap (clockedTile B st) (at-start .pre .1 .0 .1) in
     (list-clocked B table st (at-start .pre .0 .1) (at-start .pre .0 .2) (listed .straight) (at-clocked-tile .clocked-tile .result) found (c .if1 .taken), refl)
 
@@ -150,7 +150,7 @@ write-list-requires c κs =
     let room = at-start .pre .1 .1 in
     let few = tiles-le B (ok .size) in
     let long = marks-long at-marks in
-    let listed = listed-rows B table st ok rows (length marks) (at-start .pre .1 .0 .2) long (at-schedule .schedule .result) (at-schedule .schedule .ensures .0) (at-s2 .s2 .given .0 .0) (at-s2 .s2 .given .1) (at-schedule .schedule .last .1 .1 .0) (at-schedule .schedule .ensures .1) in
+    let listed = listed-rows B table st ok rows (length marks) (at-start .pre .1 .0 .2) long (at-schedule .schedule .result) (at-schedule .schedule .ensures .0) (at-s2 .s2 .given .0 .0) (at-s2 .s2 .given .1) (at-start .args .queue .now) (at-schedule .schedule .last .1 .1 .0) (at-schedule .schedule .ensures .1) in
     let fits : at-s2 .s2 .given .0 .0 ≤ length (at-start .args .wires .now) = omega (arith, listed .fits, room .queue-long, room .wires-long) in
     ((listed .fits, fits, omega (arith, room .list-long, room .wires-long)), listed .inside)
 
@@ -170,7 +170,7 @@ cast-t38 c =
     let room = at-start .pre .1 .1 in
     let few = tiles-le B (ok .size) in
     let long = marks-long at-marks in
-    let listed = listed-rows B table st ok rows (length marks) (at-start .pre .1 .0 .2) long (at-schedule .schedule .result) (at-schedule .schedule .ensures .0) (at-s2 .s2 .given .0 .0) (at-s2 .s2 .given .1) (at-schedule .schedule .last .1 .1 .0) (at-schedule .schedule .ensures .1) in
+    let listed = listed-rows B table st ok rows (length marks) (at-start .pre .1 .0 .2) long (at-schedule .schedule .result) (at-schedule .schedule .ensures .0) (at-s2 .s2 .given .0 .0) (at-s2 .s2 .given .1) (at-start .args .queue .now) (at-schedule .schedule .last .1 .1 .0) (at-schedule .schedule .ensures .1) in
     omega (arith, listed .fits, room .queue-long)
 
 same-length-4 : tie.Need-same-length-4
@@ -249,7 +249,7 @@ returns-3 c =
     let room = at-start .pre .1 .1 in
     let few = tiles-le B (ok .size) in
     let long = marks-long at-marks in
-    let listed = listed-rows B table st ok rows (length marks) (at-start .pre .1 .0 .2) long (at-schedule .schedule .result) (at-schedule .schedule .ensures .0) (at-s2 .s2 .given .0 .0) (at-s2 .s2 .given .1) (at-schedule .schedule .last .1 .1 .0) (at-schedule .schedule .ensures .1) in
+    let listed = listed-rows B table st ok rows (length marks) (at-start .pre .1 .0 .2) long (at-schedule .schedule .result) (at-schedule .schedule .ensures .0) (at-s2 .s2 .given .0 .0) (at-s2 .s2 .given .1) (at-start .args .queue .now) (at-schedule .schedule .last .1 .1 .0) (at-schedule .schedule .ensures .1) in
     let found = at-clocked-tile .clocked-tile .ensures ∙ ap (clockedTile B st) (at-start .pre .1 .0 .1) in
     (list-listed B table st (at-start .pre .0 .1) (at-start .pre .0 .2) (listed .straight) (at-clocked-tile .clocked-tile .result) found (at-if1 .if1 .left) _ (listed .count), at-write-list .write-list .ensures ∙ listed .writes (length (at-start .args .wires .now)) (omega (arith, room .wires-long)))
 

@@ -30,20 +30,20 @@ insert-requires : tie.Need-insert-requires Inv-loop μ-loop
 insert-requires c κs =
     let at-test = c .before in
     let at-loop = at-test .before in
-    (at-loop .loop .inv .rest .bits, waking-within _ _ _ _ _ (at-loop .loop .inv) (at-test .loop-test .taken))
+    (at-loop .loop .inv .rest .bits, waking-within _ _ _ _ _ (at-loop .loop .inv) (omega arith))
 
 mul-wide : tie.Need-mul-wide Inv-loop μ-loop
 mul-wide c =
     let at-test = c .before .before in
     let at-loop = at-test .before in
-    let l = waking-within _ _ _ _ _ (at-loop .loop .inv) (at-test .loop-test .taken) in
+    let l = waking-within _ _ _ _ _ (at-loop .loop .inv) (omega arith) in
     omega arith
 
 shared-slice-read-wide : tie.Need-shared-slice-read-wide Inv-loop μ-loop
 shared-slice-read-wide c =
     let at-test = c .before .before .before in
     let at-loop = at-test .before in
-    waking-lt _ _ _ _ _ (at-loop .loop .inv) (at-test .loop-test .taken) .0
+    waking-lt _ _ _ _ _ (at-loop .loop .inv) (omega arith) .0
 
 wide-requires-2 : tie.Need-wide-requires-2 Inv-loop μ-loop
 wide-requires-2 c κs = search needs
@@ -53,14 +53,14 @@ loop-less c =
     let at-insert = c .before .before in
     let at-test = at-insert .before .before in
     let at-loop = at-test .before in
-    waking-less _ _ _ _ _ (at-loop .loop .inv) (at-test .loop-test .taken) _ (at-insert .insert .ensures .0) (at-insert .insert .ensures .1 .0) (at-insert .insert .ensures .1 .1)
+    waking-less _ _ _ _ _ (at-loop .loop .inv) (omega arith) _ (at-insert .insert .ensures .0) (at-insert .insert .ensures .1 .0) (at-insert .insert .ensures .1 .1)
 
 loop-again : tie.Need-loop-again Inv-loop μ-loop
 loop-again c =
     let at-insert = c .before .before in
     let at-test = at-insert .before .before in
     let at-loop = at-test .before in
-    rw (c .wide2 .ensures) (waking-step _ _ _ _ _ (at-loop .loop .inv) (at-test .loop-test .taken) _ (at-insert .insert .ensures .0) (at-insert .insert .ensures .1 .0) (at-insert .insert .ensures .1 .1))
+    rw (c .wide2 .ensures) (waking-step _ _ _ _ _ (at-loop .loop .inv) (omega arith) _ (at-insert .insert .ensures .0) (at-insert .insert .ensures .1 .0) (at-insert .insert .ensures .1 .1))
 
 returns : tie.Need-returns Inv-loop μ-loop
 returns c = waking-end _ _ _ _ _ (c .before .loop .inv) (c .loop-test .left)

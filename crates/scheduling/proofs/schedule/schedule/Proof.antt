@@ -48,7 +48,7 @@ returns c =
     let at-start = at-list-wires .before .before .before .before .before .before .before .before in
     let listed = at-list-wires .list-wires .ensures in (
       (listed .0, none-left _ _ _ _ _ (at-start .pre .1 .0) (listed .1 .1) (long at-list-wires) (at-first-unlisted .first-unlisted .ensures) (c .if1 .taken)),
-      (_, listed .1 .0),
+      listed .1 .0,
     )
 
 lowest-loop-requires : tie.Need-lowest-loop-requires
@@ -94,7 +94,7 @@ returns-2 c =
     let at-list-wires = at-if1 .before .before .before .before .before .before .before .before .before in
     let at-start = at-list-wires .before .before .before .before .before .before .before .before in
     let e = long at-list-wires in
-    let low = subst (λ (k : ℕ). LowestLoop (graphOf (at-start .args .rows .now)) k (at-lowest-loop .lowest-loop .result)) e (at-lowest-loop .lowest-loop .ensures) in
+    let low = subst (λ (k : ℕ). LowestLoop (graphOf (at-start .args .rows .now)) k (at-lowest-loop .lowest-loop .result)) e (at-lowest-loop .lowest-loop .ensures .0) in
     let loop = one-left _ _ _ _ _ (at-start .pre .1 .0) (at-list-wires .list-wires .ensures .1 .1) e (at-first-unlisted .first-unlisted .ensures) (at-if1 .if1 .left) in
     ((lowest-loop-lt _ _ _ low loop, low), tt)
 

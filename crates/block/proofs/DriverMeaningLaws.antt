@@ -23,7 +23,7 @@ use Rattle.equations.specs.Sources.{contendedWire}
 use Rattle.equations.proofs.SourceLaws.{contended-exact}
 use Rattle.drivers.proofs.FollowingLaws.{driven-exact}
 use Rattle.block.specs.declared.Followed.{Followed}
-use Rattle.block.specs.Lengths.{followExact, FollowLong}
+use Rattle.block.specs.Lengths.{followLent, followExact, FollowLong}
 use Rattle.block.specs.declared.lengths.FollowLent.{FollowLent}
 use Rattle.block.specs.Building.{none}
 use Rattle.block.specs.Drivers.{portAnswer, settingsAnswer, followAnswer}
@@ -33,7 +33,10 @@ use Rattle.block.proofs.LengthLaws.{follow-long-exact}
 use Rattle.block.proofs.RoutedLaws.{routed-of-fit}
 use Rattle.block.proofs.MeaningLaws.{free-of}
 
-module _ (B : Block) (t st : List ℕ) (tile port : ℕ) (lent : FollowLent) where
+module _ (B : Block) (t st : List ℕ) (tile port : ℕ) (wires sources marks : List ℕ) where
+  abbrev lent : FollowLent
+  lent = followLent t st wires sources marks
+
   abbrev Says : Followed → Type 0
   Says = FollowSays B t st tile port lent
 

@@ -1,21 +1,22 @@
 // Building a block's list, following a driver, and a step.
 ghost use mathlib.Core.Path.{_≡_};
-ghost use lib.ListN.{length};
 ghost use Rattle.refusal.specs.Memory.{output, workRoom};
 ghost use Rattle.ports.specs.Block.{block, tiles};
 ghost use Rattle.config.specs.Blocks.{decoded, tilesOf};
 ghost use Rattle.equations.specs.Settling.{blockList};
-ghost use Rattle.block.specs.Lengths.{buildLengths, followLengths};
+ghost use Rattle.block.specs.Lengths.{roomLent, buildLent, buildExact, followLent, followExact};
 ghost use Rattle.block.specs.Building.{builtNumber, buildAnswer};
 ghost use Rattle.block.specs.Drivers.{followedNumber, followAnswer};
 ghost use Rattle.stepper.specs.Settling.{settledBy, portValues};
 ghost use Rattle.stepper.specs.Clocking.{nextStates};
-ghost use Rattle.sim.specs.Stepping.{stepLengths, stepAnswer};
+ghost use Rattle.sim.specs.Lengths.{inputsLent, stepRoomLent, stepLent, stepExact};
+ghost use Rattle.sim.specs.Stepping.{stepAnswer};
 ghost use Rattle.capi.specs.Packed.{groundIn, packedAnswer, packedBuilt, driverCode, packedFollowed};
 use crate::pack;
 use block::Built;
 use block::Followed;
 use drivers::follow::Driver;
+use ports::size::Block;
 
 // The list of a block's rows in order, from its bits. Grounds 1 to 8; the value is the row count. The output is list; the rest is work room.
 #[no_mangle]
@@ -32,7 +33,7 @@ pub extern "C" fn ice40_build(
     marks: &mut [u16],
     queue: &mut [u16],
 ) -> u64
-    ensures answer { λ r. ⌜ r ≡ packedBuilt (buildAnswer w h (now (table .entry)) (tilesOf (now (bits .entry))) (buildLengths (tiles (block w h)) (length (now (table .entry))) (length (now (bits .entry))) (length (now (list .entry))) (length (now (settings .entry))) (length (now (wires .entry))) (length (now (sources .entry))) (length (now (rows .entry))) (length (now (marks .entry))) (length (now (queue .entry))))) ⌝ }
+    ensures answer { λ r. ⌜ r ≡ packedBuilt (buildAnswer (block w h) (now (table .entry)) (tilesOf (now (bits .entry))) (buildExact (block w h) (buildLent (now (table .entry)) (now (bits .entry)) (now (settings .entry)) (roomLent (now (list .entry)) (now (wires .entry)) (now (sources .entry)) (now (rows .entry)) (now (marks .entry)) (now (queue .entry)))))) ⌝ }
     ensures list { λ r. ⌜ now (list .exit) ≡ output (groundIn r) (now (list .entry)) (blockList (block w h) (now (table .entry)) (decoded (now (table .entry)) (tilesOf (now (bits .entry))) (tiles (block w h)))) ⌝ }
     ensures settings { λ r. ⌜ now (settings .exit) ≡ workRoom (groundIn r) (now (settings .entry)) ⌝ }
     ensures wires { λ r. ⌜ now (wires .exit) ≡ workRoom (groundIn r) (now (wires .entry)) ⌝ }
@@ -42,8 +43,7 @@ pub extern "C" fn ice40_build(
     ensures queue { λ r. ⌜ now (queue .exit) ≡ workRoom (groundIn r) (now (queue .entry)) ⌝ }
 {
     let a = block::build(
-        w,
-        h,
+        Block { w, h },
         table,
         bits,
         list,
@@ -71,12 +71,12 @@ pub extern "C" fn ice40_follow(
     sources: &mut [u16],
     marks: &mut [u16],
 ) -> u64
-    ensures answer { λ r. ⌜ r ≡ packedFollowed (followAnswer w h (now (table .entry)) (now (settings .entry)) tile port (followLengths (tiles (block w h)) (length (now (table .entry))) (length (now (settings .entry))) (length (now (wires .entry))) (length (now (sources .entry))) (length (now (marks .entry))))) ⌝ }
+    ensures answer { λ r. ⌜ r ≡ packedFollowed (followAnswer (block w h) (now (table .entry)) (now (settings .entry)) tile port (followExact (block w h) (followLent (now (table .entry)) (now (settings .entry)) (now (wires .entry)) (now (sources .entry)) (now (marks .entry))))) ⌝ }
     ensures wires { λ r. ⌜ now (wires .exit) ≡ workRoom (groundIn r) (now (wires .entry)) ⌝ }
     ensures sources { λ r. ⌜ now (sources .exit) ≡ workRoom (groundIn r) (now (sources .entry)) ⌝ }
     ensures marks { λ r. ⌜ now (marks .exit) ≡ workRoom (groundIn r) (now (marks .entry)) ⌝ }
 {
-    let a = block::follow(w, h, table, settings, tile, port, wires, sources, marks);
+    let a = block::follow(Block { w, h }, table, settings, tile, port, wires, sources, marks);
     pack_followed(a)
 }
 
@@ -99,7 +99,7 @@ pub extern "C" fn ice40_step(
     first: &mut [u8],
     second: &mut [u8],
 ) -> u64
-    ensures answer { λ r. ⌜ r ≡ packedAnswer (stepAnswer w h (now (table .entry)) (now (settings .entry)) (now (list .entry)) (now (state .entry)) (now (before .entry)) (now (after .entry)) (stepLengths (tiles (block w h)) (length (now (table .entry))) (length (now (settings .entry))) (length (now (list .entry))) (length (now (state .entry))) (length (now (before .entry))) (length (now (after .entry))) (length (now (values .entry))) (length (now (next .entry))) (length (now (wires .entry))) (length (now (own .entry))) (length (now (marks .entry))) (length (now (first .entry))) (length (now (second .entry))))) ⌝ }
+    ensures answer { λ r. ⌜ r ≡ packedAnswer (stepAnswer (block w h) (now (table .entry)) (now (settings .entry)) (now (list .entry)) (now (state .entry)) (now (before .entry)) (now (after .entry)) (stepExact (block w h) (stepLent (inputsLent (now (table .entry)) (now (settings .entry)) (now (list .entry)) (now (state .entry)) (now (before .entry)) (now (after .entry))) (stepRoomLent (now (values .entry)) (now (next .entry)) (now (wires .entry)) (now (own .entry)) (now (marks .entry)) (now (first .entry)) (now (second .entry)))))) ⌝ }
     ensures values { λ r. ⌜ now (values .exit) ≡ output (groundIn r) (now (values .entry)) (portValues (block w h) (settledBy (block w h) (now (list .entry)) (now (state .entry)) (now (before .entry)))) ⌝ }
     ensures next { λ r. ⌜ now (next .exit) ≡ output (groundIn r) (now (next .entry)) (nextStates (block w h) (now (settings .entry)) (settledBy (block w h) (now (list .entry)) (now (state .entry)) (now (before .entry))) (settledBy (block w h) (now (list .entry)) (now (state .entry)) (now (after .entry))) (now (state .entry))) ⌝ }
     ensures wires { λ r. ⌜ now (wires .exit) ≡ workRoom (groundIn r) (now (wires .entry)) ⌝ }
@@ -109,8 +109,7 @@ pub extern "C" fn ice40_step(
     ensures second { λ r. ⌜ now (second .exit) ≡ workRoom (groundIn r) (now (second .entry)) ⌝ }
 {
     let a = sim::step(
-        w,
-        h,
+        Block { w, h },
         table,
         settings,
         list,

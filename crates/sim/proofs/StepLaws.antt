@@ -17,7 +17,7 @@ use Rattle.refusal.specs.declared.Refusal.the-variants.{WrongSize, WrongLength,
 use Rattle.refusal.specs.declared.Answer.{Answer}
 use Rattle.refusal.specs.declared.Answer.the-variants.{Done, Refused}
 use Rattle.ports.specs.declared.size.Block.{Block}
-use Rattle.ports.specs.Block.{block, tiles, sized}
+use Rattle.ports.specs.Block.{tiles, sized}
 use Rattle.ports.specs.Lengths.{ports}
 use Rattle.netlist.specs.Rows.{rowLength}
 use Rattle.netlist.specs.Running.{Bits}
@@ -105,17 +105,17 @@ module _ (B : Block) (t st list state before after : List ℕ) where
 
 -- ---- grounds 1 and 2
 
-module _ (w h : ℕ) (t st list state before after : List ℕ) where
-  pub step-size : (lengths : Bool) → sized (block w h) ≡ false → Refused WrongSize ≡ stepAnswer w h t st list state before after lengths
+module _ (B : Block) (t st list state before after : List ℕ) where
+  pub step-size : (lengths : Bool) → sized B ≡ false → Refused WrongSize ≡ stepAnswer B t st list state before after lengths
   unfolding stepAnswer
   step-size lengths e = rw e
 
-  pub step-length : (lengths : Bool) → sized (block w h) ≡ true → lengths ≡ false → Refused WrongLength ≡ stepAnswer w h t st list state before after lengths
+  pub step-length : (lengths : Bool) → sized B ≡ true → lengths ≡ false → Refused WrongLength ≡ stepAnswer B t st list state before after lengths
   unfolding stepAnswer
   step-length lengths e l = rw (e, l)
 
-  pub step-inputs : (lengths : Bool) → sized (block w h) ≡ true → lengths ≡ true
-      → inputsAnswer (block w h) t st list state before after ≡ stepAnswer w h t st list state before after lengths
+  pub step-inputs : (lengths : Bool) → sized B ≡ true → lengths ≡ true
+      → inputsAnswer B t st list state before after ≡ stepAnswer B t st list state before after lengths
   unfolding stepAnswer
   step-inputs lengths e l = rw (e, l)
 

@@ -1,12 +1,12 @@
 // A step whose block has a size and whose lengths are right: the checks of the contents, then what is written.
 ghost use mathlib.Core.Path.{_≡_};
-ghost use lib.ListN.{length};
 ghost use Rattle.refusal.specs.Grounds.{answerNumber};
 ghost use Rattle.refusal.specs.Memory.{output};
-ghost use Rattle.ports.specs.Block.{Sized, tiles};
+ghost use Rattle.ports.specs.Block.{Sized};
 ghost use Rattle.stepper.specs.Settling.{settledBy, portValues};
 ghost use Rattle.stepper.specs.Clocking.{nextStates};
-ghost use Rattle.sim.specs.Stepping.{InputsLong, RoomLong, inputsAnswer};
+ghost use Rattle.sim.specs.Stepping.{inputsAnswer};
+ghost use Rattle.sim.specs.Lengths.{inputsLent, InputsLong, stepRoomLent, StepRoomLong};
 use crate::checks::check_inputs;
 use ports::size::Block;
 use refusal::Answer;
@@ -29,7 +29,9 @@ pub fn step_checked(
     first: &mut [u8],
     second: &mut [u8],
 ) -> Answer
-    requires { ⌜ Sized b × InputsLong (tiles b) (length (now table)) (length (now settings)) (length (now list)) (length (now state)) (length (now before)) (length (now after)) × RoomLong (tiles b) (length (now values)) (length (now next)) (length (now wires)) (length (now own)) (length (now marks)) (length (now first)) (length (now second)) ⌝ }
+    requires { ⌜ Sized b ⌝ }
+    requires { ⌜ InputsLong b (inputsLent (now table) (now settings) (now list) (now state) (now before) (now after)) ⌝ }
+    requires { ⌜ StepRoomLong b (stepRoomLent (now values) (now next) (now wires) (now own) (now marks) (now first) (now second)) ⌝ }
     ensures answer { λ r. ⌜ r ≡ inputsAnswer b (now (table .entry)) (now (settings .entry)) (now (list .entry)) (now (state .entry)) (now (before .entry)) (now (after .entry)) ⌝ }
     ensures values { λ r. ⌜ now (values .exit) ≡ output (answerNumber r) (now (values .entry)) (portValues b (settledBy b (now (list .entry)) (now (state .entry)) (now (before .entry)))) ⌝ }
     ensures next { λ r. ⌜ now (next .exit) ≡ output (answerNumber r) (now (next .entry)) (nextStates b (now (settings .entry)) (settledBy b (now (list .entry)) (now (state .entry)) (now (before .entry))) (settledBy b (now (list .entry)) (now (state .entry)) (now (after .entry))) (now (state .entry))) ⌝ }

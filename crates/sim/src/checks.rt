@@ -1,17 +1,17 @@
 // The checks of a step that look at contents: grounds 3, 9, 12, 10. They are not given the outputs, so they cannot write them.
 ghost use mathlib.Core.Path.{_≡_};
-ghost use Prim.Native.Nat.{ℕ, _*_, _<_, _≤_};
+ghost use Prim.Native.Nat.{ℕ, _<_, _≤_};
 ghost use mathlib.Core.Bool.{cond};
 ghost use lib.Dec.{eqb};
 ghost use mathlib.Core.List.{_++_};
 ghost use lib.ListN.{length, getD};
 ghost use Rattle.refusal.specs.declared.Answer.the-variants.{Done};
-ghost use Rattle.ports.specs.Block.{Sized, tiles};
-ghost use Rattle.ports.specs.Lengths.{ports};
+ghost use Rattle.ports.specs.Block.{sizeOf, Sized};
+ghost use Rattle.ports.specs.Lengths.{ports, stateLength, listLength};
 ghost use Rattle.fabric.specs.Wire.{wiresOf};
-ghost use Rattle.netlist.specs.Rows.{rowLength};
 ghost use Rattle.stepper.specs.Settling.{wireMarks};
-ghost use Rattle.sim.specs.Stepping.{badByte, InputsLong, inputsAnswer, runAnswer};
+ghost use Rattle.sim.specs.Stepping.{badByte, inputsAnswer, runAnswer};
+ghost use Rattle.sim.specs.Lengths.{inputsLent, InputsLong};
 use config::blocks::bitless_tile;
 use netlist::check::count_wires;
 use netlist::check::first_bad_row;
@@ -57,7 +57,7 @@ fn first_above_one(bytes: &[u8]) -> usize
 // The same of state, before and after joined.
 // Rules out: an index that starts again at each of the three.
 fn bad_byte(b: Block, state: &[u8], before: &[u8], after: &[u8]) -> usize
-    requires { ⌜ Sized b × (length (now state) ≡ 8 * tiles b) × (length (now before) ≡ ports b) × (length (now after) ≡ ports b) ⌝ }
+    requires { ⌜ Sized b × (length (now state) ≡ stateLength (sizeOf b)) × (length (now before) ≡ ports b) × (length (now after) ≡ ports b) ⌝ }
     ensures { λ r. ⌜ r ≡ badByte (now (state .entry) ++ now (before .entry) ++ now (after .entry)) ⌝ }
 {
     let i = first_above_one(state);
@@ -102,7 +102,7 @@ pub fn check_run(
     own: &mut [u16],
     marks: &mut [u16],
 ) -> Answer
-    requires { ⌜ Sized b × (length (now list) ≡ rowLength * ports b) × (length (now state) ≡ 8 * tiles b) × (length (now before) ≡ ports b) × (length (now after) ≡ ports b) × (length (now wires) ≡ ports b) × (length (now own) ≡ ports b) × (length (now marks) ≡ ports b) ⌝ }
+    requires { ⌜ Sized b × (length (now list) ≡ listLength b) × (length (now state) ≡ stateLength (sizeOf b)) × (length (now before) ≡ ports b) × (length (now after) ≡ ports b) × (length (now wires) ≡ ports b) × (length (now own) ≡ ports b) × (length (now marks) ≡ ports b) ⌝ }
     ensures answer { λ r. ⌜ r ≡ runAnswer b (now (list .entry)) (now (state .entry)) (now (before .entry)) (now (after .entry)) ⌝ }
     ensures wires { λ r. ⌜ now (wires .exit) ≡ wiresOf b ⌝ }
     ensures own { λ r. ⌜ now (own .exit) ≡ wireMarks b ⌝ }
@@ -136,7 +136,8 @@ pub fn check_inputs(
     own: &mut [u16],
     marks: &mut [u16],
 ) -> Answer
-    requires { ⌜ Sized b × InputsLong (tiles b) (length (now table)) (length (now settings)) (length (now list)) (length (now state)) (length (now before)) (length (now after)) × (length (now wires) ≡ ports b) × (length (now own) ≡ ports b) × (length (now marks) ≡ ports b) ⌝ }
+    requires { ⌜ Sized b × InputsLong b (inputsLent (now table) (now settings) (now list) (now state) (now before) (now after)) ⌝ }
+    requires { ⌜ (length (now wires) ≡ ports b) × (length (now own) ≡ ports b) × (length (now marks) ≡ ports b) ⌝ }
     ensures answer { λ r. ⌜ r ≡ inputsAnswer b (now (table .entry)) (now (settings .entry)) (now (list .entry)) (now (state .entry)) (now (before .entry)) (now (after .entry)) ⌝ }
     ensures wires { λ r. ⌜ (r ≡ Done → now (wires .exit) ≡ wiresOf b) ⌝ }
     ensures own { λ r. ⌜ (r ≡ Done → now (own .exit) ≡ wireMarks b) ⌝ }

@@ -1,109 +1,103 @@
-// Ground 2 of a step: the lengths lent for a block of n tiles.
+// Ground 2 of a step: how long what is lent to it is, and whether that is exact.
 ghost use mathlib.Core.Path.{_≡_};
-ghost use Prim.Native.Nat.{_≤_};
-ghost use mathlib.Core.Bool.{true};
-ghost use Rattle.sim.specs.Stepping.{inputLengths, roomLengths, stepLengths, InputsLong, RoomLong};
-use netlist::row::ROW_LENGTH;
-use ports::lengths::PORTS_PER_TILE;
-use ports::lengths::SETTINGS_LENGTH;
+ghost use Rattle.ports.specs.Block.{Sized};
+ghost use Rattle.sim.specs.Lengths.{inputsExact, stepRoomExact, stepExact};
+use ports::lengths::TABLE_LENGTH;
+use ports::lengths::list_length;
+use ports::lengths::port_count;
+use ports::lengths::settings_total;
+use ports::lengths::state_length;
+use ports::size::Block;
+use ports::size::size_of;
 
-// Numbers in a table; cells in a tile.
-const TABLE_LENGTH: usize = 38469;
-
-const CELLS: usize = 8;
-
-// What a step reads.
-fn input_lengths(
-    n: usize,
-    table: usize,
-    settings: usize,
-    list: usize,
-    state: usize,
-    before: usize,
-    after: usize,
-) -> bool
-    requires { ⌜ n ≤ 64 ⌝ }
-    ensures { λ r. ⌜ r ≡ inputLengths n table settings list state before after ⌝ }
-{
-    let ports = PORTS_PER_TILE as usize * n;
-    if table != TABLE_LENGTH {
-        return false;
-    }
-    if settings != SETTINGS_LENGTH * n {
-        return false;
-    }
-    if list != ROW_LENGTH * ports {
-        return false;
-    }
-    if state != CELLS * n {
-        return false;
-    }
-    if before != ports {
-        return false;
-    }
-    after == ports
+// The lengths of what a step reads.
+pub struct InputsLent {
+    pub table: usize,
+    pub settings: usize,
+    pub list: usize,
+    pub state: usize,
+    pub before: usize,
+    pub after: usize,
 }
 
-// The outputs and the work room.
-fn room_lengths(
-    n: usize,
-    values: usize,
-    next: usize,
-    wires: usize,
-    own: usize,
-    marks: usize,
-    first: usize,
-    second: usize,
-) -> bool
-    requires { ⌜ n ≤ 64 ⌝ }
-    ensures { λ r. ⌜ r ≡ roomLengths n values next wires own marks first second ⌝ }
-{
-    let ports = PORTS_PER_TILE as usize * n;
-    if values != ports {
-        return false;
-    }
-    if next != CELLS * n {
-        return false;
-    }
-    if wires != ports {
-        return false;
-    }
-    if own != ports {
-        return false;
-    }
-    if marks != ports {
-        return false;
-    }
-    if first != ports {
-        return false;
-    }
-    second == ports
+// The lengths of its outputs and of its work room.
+pub struct StepRoomLent {
+    pub values: usize,
+    pub next: usize,
+    pub wires: usize,
+    pub own: usize,
+    pub marks: usize,
+    pub first: usize,
+    pub second: usize,
 }
 
-// Everything that a step is lent.
+pub struct StepLent {
+    pub inputs: InputsLent,
+    pub room: StepRoomLent,
+}
+
+fn are_inputs_exact(b: Block, lent: InputsLent) -> bool
+    requires { ⌜ Sized b ⌝ }
+    ensures { λ r. ⌜ r ≡ inputsExact b lent ⌝ }
+{
+    let settings = settings_total(size_of(b));
+    let numbers = list_length(b);
+    let cells = state_length(size_of(b));
+    let ports = port_count(b);
+    if lent.table != TABLE_LENGTH {
+        return false;
+    }
+    if lent.settings != settings {
+        return false;
+    }
+    if lent.list != numbers {
+        return false;
+    }
+    if lent.state != cells {
+        return false;
+    }
+    if lent.before != ports {
+        return false;
+    }
+    lent.after == ports
+}
+
+fn is_step_room_exact(b: Block, lent: StepRoomLent) -> bool
+    requires { ⌜ Sized b ⌝ }
+    ensures { λ r. ⌜ r ≡ stepRoomExact b lent ⌝ }
+{
+    let cells = state_length(size_of(b));
+    let ports = port_count(b);
+    if lent.values != ports {
+        return false;
+    }
+    if lent.next != cells {
+        return false;
+    }
+    if lent.wires != ports {
+        return false;
+    }
+    if lent.own != ports {
+        return false;
+    }
+    if lent.marks != ports {
+        return false;
+    }
+    if lent.first != ports {
+        return false;
+    }
+    lent.second == ports
+}
+
 // Rules out: an output or a part of the work room that is not looked at.
-pub fn step_lengths(
-    n: usize,
-    table: usize,
-    settings: usize,
-    list: usize,
-    state: usize,
-    before: usize,
-    after: usize,
-    values: usize,
-    next: usize,
-    wires: usize,
-    own: usize,
-    marks: usize,
-    first: usize,
-    second: usize,
-) -> bool
-    requires { ⌜ n ≤ 64 ⌝ }
-    ensures answer { λ r. ⌜ r ≡ stepLengths n table settings list state before after values next wires own marks first second ⌝ }
-    ensures facts { λ r. ⌜ (r ≡ true → InputsLong n table settings list state before after × RoomLong n values next wires own marks first second) ⌝ }
+pub fn is_step_exact(b: Block, lent: StepLent) -> bool
+    requires { ⌜ Sized b ⌝ }
+    ensures { λ r. ⌜ r ≡ stepExact b lent ⌝ }
 {
-    if !input_lengths(n, table, settings, list, state, before, after) {
+    let inputs = lent.inputs;
+    let room = lent.room;
+    if !are_inputs_exact(b, inputs) {
         return false;
     }
-    room_lengths(n, values, next, wires, own, marks, first, second)
+    is_step_room_exact(b, room)
 }

@@ -5,7 +5,7 @@ use Rattle.block.proofs.LengthLaws.{build-long-exact}
 use Rattle.ports.proofs.BlockLaws.{sized-exact, tiles-le}
 use Rattle.ports.specs.Block.{tiles}
 use borrow.Author.Tests.{not-true, not-false}
-use lib.ListN.{length}
+use Rattle.block.specs.Lengths.{roomLent, buildLent}
 use native.Mathlib.Omega.{arith}
 use mathlib.Core.Path.{refl, sym, _∙_}
 use borrow.Author.Needs.{needs}
@@ -31,37 +31,16 @@ returns c =
     let marks = at-start .args .marks .now in
     let queue = at-start .args .queue .now in
     let answer = build-size B table bits _ (sym (at-is-sized .is-sized .ensures) ∙ not-true _ (c .if1 .taken)) in
-    (answer, (refl, (refl, (refl, (refl, (refl, (refl, (refl, build-says B table bits (length list) (length settings) (length wires) (length sources) (length rows) (length marks) (length queue) _ answer))))))))
+    (answer, (refl, (refl, (refl, (refl, (refl, (refl, (refl, build-says B table bits settings (roomLent list wires sources rows marks queue) _ answer))))))))
 
-mul-n : tie.Need-mul-n
-mul-n c =
+is-build-exact-requires : tie.Need-is-build-exact-requires
+is-build-exact-requires c κs =
     let at-is-sized = c .before in
     let at-start = at-is-sized .before .before .before .before .before .before .before .before .before .before in
     let B = at-start .args .b in
     let sized = (sym (at-is-sized .is-sized .ensures) ∙ not-false _ (c .if1 .left)) in
     let size = sized-exact B .0 sized in
-    let few = tiles-le B size in
-    omega arith
-
-cast-n : tie.Need-cast-n
-cast-n c =
-    let at-is-sized = c .before in
-    let at-start = at-is-sized .before .before .before .before .before .before .before .before .before .before in
-    let B = at-start .args .b in
-    let sized = (sym (at-is-sized .is-sized .ensures) ∙ not-false _ (c .if1 .left)) in
-    let size = sized-exact B .0 sized in
-    let few = tiles-le B size in
-    omega arith
-
-build-lengths-requires : tie.Need-build-lengths-requires
-build-lengths-requires c κs =
-    let at-is-sized = c .before in
-    let at-start = at-is-sized .before .before .before .before .before .before .before .before .before .before in
-    let B = at-start .args .b in
-    let sized = (sym (at-is-sized .is-sized .ensures) ∙ not-false _ (c .if1 .left)) in
-    let size = sized-exact B .0 sized in
-    let few = tiles-le B size in
-    few
+    size
 
 -- a length that is not the exact one
 returns-2 : tie.Need-returns-2
@@ -80,8 +59,8 @@ returns-2 c =
     let rows = at-start .args .rows .now in
     let marks = at-start .args .marks .now in
     let queue = at-start .args .queue .now in
-    let answer = build-length B table bits _ (sym (at-is-sized .is-sized .ensures) ∙ not-false _ (at-if1 .if1 .left)) (sym (at-build-lengths .build-lengths .ensures) ∙ not-true _ (c .if2 .taken)) in
-    (answer, (refl, (refl, (refl, (refl, (refl, (refl, (refl, build-says B table bits (length list) (length settings) (length wires) (length sources) (length rows) (length marks) (length queue) _ answer))))))))
+    let answer = build-length B table bits _ (sym (at-is-sized .is-sized .ensures) ∙ not-false _ (at-if1 .if1 .left)) (sym (at-build-lengths .is-build-exact .ensures) ∙ not-true _ (c .if2 .taken)) in
+    (answer, (refl, (refl, (refl, (refl, (refl, (refl, (refl, build-says B table bits settings (roomLent list wires sources rows marks queue) _ answer))))))))
 
 list-bits-requires : tie.Need-list-bits-requires
 list-bits-requires c κs =
@@ -103,8 +82,8 @@ list-bits-requires c κs =
     let sized = (sym (at-is-sized .is-sized .ensures) ∙ not-false _ (at-if1 .if1 .left)) in
     let size = sized-exact B .0 sized in
     let few = tiles-le B size in
-    let long = build-long-exact (tiles B) (length table) (length bits) (length list) (length settings) (length wires) (length sources) (length rows) (length marks) (length queue) .0 (sym (at-build-lengths .build-lengths .ensures) ∙ not-false _ (at-if2 .if2 .left)) in
-    ((size, long .table-long, long .bits-long, long .settings-long), long .room-long)
+    let long = build-long-exact B (buildLent table bits settings (roomLent list wires sources rows marks queue)) .0 (sym (at-build-lengths .is-build-exact .ensures) ∙ not-false _ (at-if2 .if2 .left)) in
+    (size, long)
 
 clear-requires : tie.Need-clear-requires
 clear-requires c κs = search needs
@@ -192,7 +171,7 @@ returns-3 c =
     let queue = at-start .args .queue .now in
     let list = at-start .args .list .now in
     let cleared = build-cleared B table bits _ (at-list-bits .list-bits .ensures .0) in
-    let answer = at-list-bits .list-bits .ensures .0 ∙ build-bits B table bits _ (sym (at-is-sized .is-sized .ensures) ∙ not-false _ (at-if1 .if1 .left)) (sym (at-build-lengths .build-lengths .ensures) ∙ not-false _ (at-if2 .if2 .left)) in (
+    let answer = at-list-bits .list-bits .ensures .0 ∙ build-bits B table bits _ (sym (at-is-sized .is-sized .ensures) ∙ not-false _ (at-if1 .if1 .left)) (sym (at-build-lengths .is-build-exact .ensures) ∙ not-false _ (at-if2 .if2 .left)) in (
       answer,
       (
         at-list-bits .list-bits .ensures .1,
@@ -206,7 +185,7 @@ returns-3 c =
                 cleared rows (at-list-bits .list-bits .last .1 .1 .1 .1 .1 .1 .1 .0) _ (at-list-bits .list-bits .kept .1 .1 .1 .1 .1 .1 .1 .0) (at-clear4 .clear4 .ensures),
                 (
                   cleared marks (at-list-bits .list-bits .last .1 .1 .1 .1 .1 .1 .1 .1 .0) _ (at-list-bits .list-bits .kept .1 .1 .1 .1 .1 .1 .1 .1 .0) (at-clear5 .clear5 .ensures),
-                  (cleared queue (at-list-bits .list-bits .last .1 .1 .1 .1 .1 .1 .1 .1 .1 .0) _ (at-list-bits .list-bits .kept .1 .1 .1 .1 .1 .1 .1 .1 .1 .0) (at-clear6 .clear6 .ensures), build-says B table bits (length list) (length settings) (length wires) (length sources) (length rows) (length marks) (length queue) _ answer),
+                  (cleared queue (at-list-bits .list-bits .last .1 .1 .1 .1 .1 .1 .1 .1 .1 .0) _ (at-list-bits .list-bits .kept .1 .1 .1 .1 .1 .1 .1 .1 .1 .0) (at-clear6 .clear6 .ensures), build-says B table bits settings (roomLent list wires sources rows marks queue) _ answer),
                 ),
               ),
             ),
@@ -216,27 +195,4 @@ returns-3 c =
     )
 
 pub build-spec : {M : Type 1} → statement M
-build-spec =
-    tie.close
-    (tie.spec
-    is-sized-requires
-    returns
-    mul-n
-    cast-n
-    build-lengths-requires
-    returns-2
-    list-bits-requires
-    clear-requires
-    clear-requires-2
-    clear-requires-3
-    clear-requires-4
-    clear-requires-5
-    clear-requires-6
-    same-length
-    same-length-2
-    same-length-3
-    same-length-4
-    same-length-5
-    same-length-6
-    same-length-7
-    returns-3)
+build-spec = tie.close (tie.spec is-sized-requires returns is-build-exact-requires returns-2 list-bits-requires clear-requires clear-requires-2 clear-requires-3 clear-requires-4 clear-requires-5 clear-requires-6 same-length same-length-2 same-length-3 same-length-4 same-length-5 same-length-6 same-length-7 returns-3)

@@ -5,7 +5,7 @@ use Rattle.block.proofs.LengthLaws.{follow-long-exact}
 use Rattle.ports.proofs.BlockLaws.{sized-exact, tiles-le}
 use Rattle.ports.specs.Block.{tiles}
 use borrow.Author.Tests.{not-true, not-false}
-use lib.ListN.{length}
+use Rattle.block.specs.Lengths.{followLent}
 use native.Mathlib.Omega.{arith}
 use mathlib.Core.Path.{refl, sym, _∙_}
 use borrow.Author.Needs.{needs}
@@ -29,37 +29,16 @@ returns c =
     let sources = at-start .args .sources .now in
     let marks = at-start .args .marks .now in
     let answer = follow-size B table settings tile port _ (sym (at-is-sized .is-sized .ensures) ∙ not-true _ (c .if1 .taken)) in
-    (answer, (refl, (refl, (refl, follow-says B table settings tile port (length wires) (length sources) (length marks) _ answer))))
+    (answer, (refl, (refl, (refl, follow-says B table settings tile port wires sources marks _ answer))))
 
-mul-n : tie.Need-mul-n
-mul-n c =
+is-follow-exact-requires : tie.Need-is-follow-exact-requires
+is-follow-exact-requires c κs =
     let at-is-sized = c .before in
     let at-start = at-is-sized .before .before .before .before .before .before in
     let B = at-start .args .b in
     let sized = (sym (at-is-sized .is-sized .ensures) ∙ not-false _ (c .if1 .left)) in
     let size = sized-exact B .0 sized in
-    let few = tiles-le B size in
-    omega arith
-
-cast-n : tie.Need-cast-n
-cast-n c =
-    let at-is-sized = c .before in
-    let at-start = at-is-sized .before .before .before .before .before .before in
-    let B = at-start .args .b in
-    let sized = (sym (at-is-sized .is-sized .ensures) ∙ not-false _ (c .if1 .left)) in
-    let size = sized-exact B .0 sized in
-    let few = tiles-le B size in
-    omega arith
-
-follow-lengths-requires : tie.Need-follow-lengths-requires
-follow-lengths-requires c κs =
-    let at-is-sized = c .before in
-    let at-start = at-is-sized .before .before .before .before .before .before in
-    let B = at-start .args .b in
-    let sized = (sym (at-is-sized .is-sized .ensures) ∙ not-false _ (c .if1 .left)) in
-    let size = sized-exact B .0 sized in
-    let few = tiles-le B size in
-    few
+    size
 
 -- a length that is not the exact one
 returns-2 : tie.Need-returns-2
@@ -76,8 +55,8 @@ returns-2 c =
     let wires = at-start .args .wires .now in
     let sources = at-start .args .sources .now in
     let marks = at-start .args .marks .now in
-    let answer = follow-length B table settings tile port _ (sym (at-is-sized .is-sized .ensures) ∙ not-false _ (at-if1 .if1 .left)) (sym (at-follow-lengths .follow-lengths .ensures) ∙ not-true _ (c .if2 .taken)) in
-    (answer, (refl, (refl, (refl, follow-says B table settings tile port (length wires) (length sources) (length marks) _ answer))))
+    let answer = follow-length B table settings tile port _ (sym (at-is-sized .is-sized .ensures) ∙ not-false _ (at-if1 .if1 .left)) (sym (at-follow-lengths .is-follow-exact .ensures) ∙ not-true _ (c .if2 .taken)) in
+    (answer, (refl, (refl, (refl, follow-says B table settings tile port wires sources marks _ answer))))
 
 follow-settings-requires : tie.Need-follow-settings-requires
 follow-settings-requires c κs =
@@ -95,7 +74,7 @@ follow-settings-requires c κs =
     let sized = (sym (at-is-sized .is-sized .ensures) ∙ not-false _ (at-if1 .if1 .left)) in
     let size = sized-exact B .0 sized in
     let few = tiles-le B size in
-    let long = follow-long-exact (tiles B) (length table) (length settings) (length wires) (length sources) (length marks) .0 (sym (at-follow-lengths .follow-lengths .ensures) ∙ not-false _ (at-if2 .if2 .left)) in
+    let long = follow-long-exact B (followLent table settings wires sources marks) .0 (sym (at-follow-lengths .is-follow-exact .ensures) ∙ not-false _ (at-if2 .if2 .left)) in
     ((size, long .table-long, long .settings-long), (long .wires-long, long .sources-long, long .marks-long))
 
 clear-requires : tie.Need-clear-requires
@@ -147,32 +126,16 @@ returns-3 c =
     let sources = at-start .args .sources .now in
     let marks = at-start .args .marks .now in
     let cleared = follow-cleared B table settings tile port _ (at-follow-settings .follow-settings .ensures) in
-    let answer = at-follow-settings .follow-settings .ensures ∙ follow-settings B table settings tile port _ (sym (at-is-sized .is-sized .ensures) ∙ not-false _ (at-if1 .if1 .left)) (sym (at-follow-lengths .follow-lengths .ensures) ∙ not-false _ (at-if2 .if2 .left)) in (
+    let answer = at-follow-settings .follow-settings .ensures ∙ follow-settings B table settings tile port _ (sym (at-is-sized .is-sized .ensures) ∙ not-false _ (at-if1 .if1 .left)) (sym (at-follow-lengths .is-follow-exact .ensures) ∙ not-false _ (at-if2 .if2 .left)) in (
       answer,
       (
         cleared wires (at-follow-settings .follow-settings .last .1 .1 .1 .1 .1 .0) _ (at-follow-settings .follow-settings .kept .1 .1 .1 .1 .1 .0) (at-clear .clear .ensures),
         (
           cleared sources (at-follow-settings .follow-settings .last .1 .1 .1 .1 .1 .1 .0) _ (at-follow-settings .follow-settings .kept .1 .1 .1 .1 .1 .1 .0) (at-clear2 .clear2 .ensures),
-          (cleared marks (at-follow-settings .follow-settings .last .1 .1 .1 .1 .1 .1 .1 .0) _ (at-follow-settings .follow-settings .kept .1 .1 .1 .1 .1 .1 .1 .0) (at-clear3 .clear3 .ensures), follow-says B table settings tile port (length wires) (length sources) (length marks) _ answer),
+          (cleared marks (at-follow-settings .follow-settings .last .1 .1 .1 .1 .1 .1 .1 .0) _ (at-follow-settings .follow-settings .kept .1 .1 .1 .1 .1 .1 .1 .0) (at-clear3 .clear3 .ensures), follow-says B table settings tile port wires sources marks _ answer),
         ),
       ),
     )
 
 pub follow-spec : {M : Type 1} → statement M
-follow-spec =
-    tie.close
-    (tie.spec
-    is-sized-requires
-    returns
-    mul-n
-    cast-n
-    follow-lengths-requires
-    returns-2
-    follow-settings-requires
-    clear-requires
-    clear-requires-2
-    clear-requires-3
-    same-length
-    same-length-2
-    same-length-3
-    returns-3)
+follow-spec = tie.close (tie.spec is-sized-requires returns is-follow-exact-requires returns-2 follow-settings-requires clear-requires clear-requires-2 clear-requires-3 same-length same-length-2 same-length-3 returns-3)

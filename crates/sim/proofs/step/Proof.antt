@@ -9,9 +9,11 @@ use Rattle.lists.specs.Tables.{zeros}
 use Rattle.refusal.specs.Grounds.{answerNumber}
 use Rattle.refusal.specs.Memory.{workRoom}
 use Rattle.ports.proofs.BlockLaws.{sized-exact, tiles-le}
-use Rattle.ports.specs.Block.{block, sized}
+use Rattle.ports.specs.Block.{sized}
 use Rattle.sim.proofs.StepLaws.{step-size, step-length, step-inputs, room-cleared}
+use Rattle.sim.specs.Lengths.{inputsLent, stepRoomLent, stepLent}
 use Rattle.sim.proofs.MeaningLaws.{step-says}
+use Rattle.sim.proofs.LengthLaws.{step-long-exact}
 use borrow.Author.Tests.{not-true, not-false}
 use borrow.Author.Needs.{needs}
 use Rattle.sim.proofs.step.Statement.{statement}
@@ -25,39 +27,19 @@ returns c =
     let at-is-sized = c .before in
     let at-start = at-is-sized .before .before .before .before .before .before .before .before .before .before .before .before .before .before in
     let a = at-start .args in
-    let answer = step-size (a .w) (a .h) _ _ _ _ _ _ _ (sym (at-is-sized .is-sized .ensures) ∙ not-true _ (c .if1 .taken)) in (
+    let answer = step-size (a .b) _ _ _ _ _ _ _ (sym (at-is-sized .is-sized .ensures) ∙ not-true _ (c .if1 .taken)) in (
       answer,
-      (refl, (refl, (refl, (refl, (refl, (refl, (refl, step-says (a .w) (a .h) _ _ _ _ _ _ _ _ _ _ _ _ _ _ answer))))))),
+      (refl, (refl, (refl, (refl, (refl, (refl, (refl, step-says (a .b) (a .table .now) (a .settings .now) (a .list .now) (a .state .now) (a .before .now) (a .after .now) (stepRoomLent (a .values .now) (a .next .now) (a .wires .now) (a .own .now) (a .marks .now) (a .first .now) (a .second .now)) _ answer))))))),
     )
 
-mul-n : tie.Need-mul-n
-mul-n c =
+is-step-exact-requires : tie.Need-is-step-exact-requires
+is-step-exact-requires c κs =
     let at-is-sized = c .before in
     let at-start = at-is-sized .before .before .before .before .before .before .before .before .before .before .before .before .before .before in
     let a = at-start .args in
-    let is : sized (block (a .w) (a .h)) ≡ true = sym (at-is-sized .is-sized .ensures) ∙ not-false _ (c .if1 .left) in
-    let size = sized-exact (block (a .w) (a .h)) .0 is in
-    let few = tiles-le (block (a .w) (a .h)) size in
-    omega arith
-
-cast-n : tie.Need-cast-n
-cast-n c =
-    let at-is-sized = c .before in
-    let at-start = at-is-sized .before .before .before .before .before .before .before .before .before .before .before .before .before .before in
-    let a = at-start .args in
-    let is : sized (block (a .w) (a .h)) ≡ true = sym (at-is-sized .is-sized .ensures) ∙ not-false _ (c .if1 .left) in
-    let size = sized-exact (block (a .w) (a .h)) .0 is in
-    let few = tiles-le (block (a .w) (a .h)) size in
-    omega arith
-
-step-lengths-requires : tie.Need-step-lengths-requires
-step-lengths-requires c κs =
-    let at-is-sized = c .before in
-    let at-start = at-is-sized .before .before .before .before .before .before .before .before .before .before .before .before .before .before in
-    let a = at-start .args in
-    let is : sized (block (a .w) (a .h)) ≡ true = sym (at-is-sized .is-sized .ensures) ∙ not-false _ (c .if1 .left) in
-    let size = sized-exact (block (a .w) (a .h)) .0 is in
-    tiles-le (block (a .w) (a .h)) size
+    let is : sized (a .b) ≡ true = sym (at-is-sized .is-sized .ensures) ∙ not-false _ (c .if1 .left) in
+    let size = sized-exact (a .b) .0 is in
+    size
 
 returns-2 : tie.Need-returns-2
 returns-2 c =
@@ -66,10 +48,10 @@ returns-2 c =
     let at-is-sized = at-if1 .before in
     let at-start = at-is-sized .before .before .before .before .before .before .before .before .before .before .before .before .before .before in
     let a = at-start .args in
-    let is : sized (block (a .w) (a .h)) ≡ true = sym (at-is-sized .is-sized .ensures) ∙ not-false _ (at-if1 .if1 .left) in
-    let answer = step-length (a .w) (a .h) _ _ _ _ _ _ _ is (sym (at-step-lengths .step-lengths .ensures .0) ∙ not-true _ (c .if2 .taken)) in (
+    let is : sized (a .b) ≡ true = sym (at-is-sized .is-sized .ensures) ∙ not-false _ (at-if1 .if1 .left) in
+    let answer = step-length (a .b) _ _ _ _ _ _ _ is (sym (at-step-lengths .is-step-exact .ensures) ∙ not-true _ (c .if2 .taken)) in (
       answer,
-      (refl, (refl, (refl, (refl, (refl, (refl, (refl, step-says (a .w) (a .h) _ _ _ _ _ _ _ _ _ _ _ _ _ _ answer))))))),
+      (refl, (refl, (refl, (refl, (refl, (refl, (refl, step-says (a .b) (a .table .now) (a .settings .now) (a .list .now) (a .state .now) (a .before .now) (a .after .now) (stepRoomLent (a .values .now) (a .next .now) (a .wires .now) (a .own .now) (a .marks .now) (a .first .now) (a .second .now)) _ answer))))))),
     )
 
 step-checked-requires : tie.Need-step-checked-requires
@@ -80,10 +62,12 @@ step-checked-requires c κs =
     let at-is-sized = at-if1 .before in
     let at-start = at-is-sized .before .before .before .before .before .before .before .before .before .before .before .before .before .before in
     let a = at-start .args in
-    let is : sized (block (a .w) (a .h)) ≡ true = sym (at-is-sized .is-sized .ensures) ∙ not-false _ (at-if1 .if1 .left) in
-    let size = sized-exact (block (a .w) (a .h)) .0 is in
-    let long = at-step-lengths .step-lengths .ensures .1 (not-false _ (at-if2 .if2 .left)) in
-    (size, long .0, long .1)
+    let is : sized (a .b) ≡ true = sym (at-is-sized .is-sized .ensures) ∙ not-false _ (at-if1 .if1 .left) in
+    let size = sized-exact (a .b) .0 is in
+    let lent = stepLent (inputsLent (a .table .now) (a .settings .now) (a .list .now) (a .state .now) (a .before .now) (a .after .now))
+    (stepRoomLent (a .values .now) (a .next .now) (a .wires .now) (a .own .now) (a .marks .now) (a .first .now) (a .second .now)) in
+    let long = step-long-exact (a .b) lent .0 (sym (at-step-lengths .is-step-exact .ensures) ∙ not-false _ (at-if2 .if2 .left)) in
+    (size, (long .inputs-long, long .room-long))
 
 clear-requires : tie.Need-clear-requires
 clear-requires c κs = search needs
@@ -155,14 +139,14 @@ returns-3 c =
     let at-is-sized = at-if1 .before in
     let at-start = at-is-sized .before .before .before .before .before .before .before .before .before .before .before .before .before .before in
     let a = at-start .args in
-    let is : sized (block (a .w) (a .h)) ≡ true = sym (at-is-sized .is-sized .ensures) ∙ not-false _ (at-if1 .if1 .left) in
+    let is : sized (a .b) ≡ true = sym (at-is-sized .is-sized .ensures) ∙ not-false _ (at-if1 .if1 .left) in
     let done = at-step-checked .step-checked .ensures in
-    let long = sym (at-step-lengths .step-lengths .ensures .0) ∙ not-false _ (at-if2 .if2 .left) in
+    let long = sym (at-step-lengths .is-step-exact .ensures) ∙ not-false _ (at-if2 .if2 .left) in
     let kept = at-step-checked .step-checked .kept in
     let r = at-step-checked .step-checked .result in
     let cleared : (old : List ℕ) (n : ℕ) → n ≡ length old → zeros n ≡ workRoom (answerNumber r) old =
-    λ old n l. room-cleared (block (a .w) (a .h)) (a .table .now) (a .settings .now) (a .list .now) (a .state .now) (a .before .now) (a .after .now) old r n (done .0) l in
-    let answer = done .0 ∙ step-inputs (a .w) (a .h) _ _ _ _ _ _ _ is long in (
+    λ old n l. room-cleared (a .b) (a .table .now) (a .settings .now) (a .list .now) (a .state .now) (a .before .now) (a .after .now) old r n (done .0) l in
+    let answer = done .0 ∙ step-inputs (a .b) _ _ _ _ _ _ _ is long in (
       answer,
       (
         done .1 .0,
@@ -178,7 +162,7 @@ returns-3 c =
                   at-clear-bytes .clear-bytes .ensures ∙ cleared (a .first .now) _ (kept .1 .1 .1 .1 .1 .1 .1 .1 .1 .1 .1 .1 .0),
                   (
                     at-clear-bytes2 .clear-bytes2 .ensures ∙ cleared (a .second .now) _ (kept .1 .1 .1 .1 .1 .1 .1 .1 .1 .1 .1 .1 .1 .0),
-                    step-says (a .w) (a .h) _ _ _ _ _ _ _ _ _ _ _ _ _ _ answer,
+                    step-says (a .b) (a .table .now) (a .settings .now) (a .list .now) (a .state .now) (a .before .now) (a .after .now) (stepRoomLent (a .values .now) (a .next .now) (a .wires .now) (a .own .now) (a .marks .now) (a .first .now) (a .second .now)) _ answer,
                   ),
                 ),
               ),
@@ -189,26 +173,4 @@ returns-3 c =
     )
 
 pub step-spec : {M : Type 1} → statement M
-step-spec =
-    tie.close
-    (tie.spec
-    is-sized-requires
-    returns
-    mul-n
-    cast-n
-    step-lengths-requires
-    returns-2
-    step-checked-requires
-    clear-requires
-    clear-requires-2
-    clear-requires-3
-    clear-bytes-requires
-    clear-bytes-requires-2
-    same-length
-    same-length-2
-    same-length-3
-    same-length-4
-    same-length-5
-    same-length-6
-    same-length-7
-    returns-3)
+step-spec = tie.close (tie.spec is-sized-requires returns is-step-exact-requires returns-2 step-checked-requires clear-requires clear-requires-2 clear-requires-3 clear-bytes-requires clear-bytes-requires-2 same-length same-length-2 same-length-3 same-length-4 same-length-5 same-length-6 same-length-7 returns-3)

@@ -16,17 +16,17 @@ pack-followed-requires c κs = search needs
 same-length : tie.Need-same-length
 same-length c =
     let at-follow = c .before .before .before .before .before .before .before in
-    at-follow .follow .kept .1 .1 .1 .1 .1 .1 .0
+    at-follow .follow .kept .1 .1 .1 .1 .1 .0
 
 same-length-2 : tie.Need-same-length-2
 same-length-2 c =
     let at-follow = c .before .before .before .before .before .before .before in
-    at-follow .follow .kept .1 .1 .1 .1 .1 .1 .1 .0
+    at-follow .follow .kept .1 .1 .1 .1 .1 .1 .0
 
 same-length-3 : tie.Need-same-length-3
 same-length-3 c =
     let at-follow = c .before .before .before .before .before .before .before in
-    at-follow .follow .kept .1 .1 .1 .1 .1 .1 .1 .1 .0
+    at-follow .follow .kept .1 .1 .1 .1 .1 .1 .1 .0
 
 returns : tie.Need-returns
 returns c = (c .pack-followed .ensures .0 ∙ ap packedFollowed (c .before .before .before .before .before .before .before .follow .ensures .0), (c .before .before .before .before .before .before .before .follow .ensures .1 .0 ∙ ap (λ (x : ℕ). workRoom x (c .before .before .before .before .before .before .before .before .before .before .before .before .before .before .before .before .args .wires .now)) (sym (c .pack-followed .ensures .1)), (c .before .before .before .before .before .before .before .follow .ensures .1 .1 .0 ∙ ap (λ (x : ℕ). workRoom x (c .before .before .before .before .before .before .before .before .before .before .before .before .before .before .before .before .args .sources .now)) (sym (c .pack-followed .ensures .1)), c .before .before .before .before .before .before .before .follow .ensures .1 .1 .1 .0 ∙ ap (λ (x : ℕ). workRoom x (c .before .before .before .before .before .before .before .before .before .before .before .before .before .before .before .before .args .marks .now)) (sym (c .pack-followed .ensures .1)))))

@@ -54,8 +54,8 @@ write-step-requires c κs =
     let at-start = at-check-inputs .before .before .before .before .before .before .before .before .before .before .before .before .before .before .before .before .before in
     let a = at-start .args in
     let done : at-check-inputs .check-inputs .result ≡ Done = at-enum-told .enum-told .given .1 in
-    let long = at-start .pre .1 in
-    let room = at-start .pre .2 in
+    let long = at-start .pre .1 .0 in
+    let room = at-start .pre .1 .1 in
     let passed = inputs-shows (a .b) (a .table .now) (a .settings .now) (a .list .now) (a .state .now) (a .before .now) (a .after .now) (sym (at-check-inputs .check-inputs .ensures .0) ∙ done) in
     let runs = run-shows (a .b) (a .list .now) (a .state .now) (a .before .now) (a .after .now) (passed .2) (long .list-long) (long .state-long) (long .before-long) (long .after-long) in (
       record { size = at-start .pre .0; settings-long = long .settings-long; wired = at-check-inputs .check-inputs .ensures .1 .0 done },

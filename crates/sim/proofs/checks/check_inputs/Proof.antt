@@ -51,7 +51,7 @@ returns c =
 mul-n : tie.Need-mul-n
 mul-n c =
     let at-start = c .before .before .before .before .before .before .before .before .before .before .before .before .before in
-    omega (arith, tiles-le (at-start .args .b) (at-start .pre .0))
+    omega (arith, tiles-le (at-start .args .b) (at-start .pre .0 .0))
 
 cast-n : tie.Need-cast-n
 cast-n c = search needs
@@ -64,15 +64,15 @@ bitless-tile-requires c κs =
     let at-start = at-faulty-part .before .before .before .before .before .before .before .before .before .before in
     let a = at-start .args in
     let ok : tableOk logicTile (a .table .now) ≡ true = eq-eqb _ _ (sym (at-faulty-part .faulty-part .ensures) ∙ at-if1 .if1 .left ∙ ap (λ (g : ℕ). 2 + g) (at-group-count .group-count .ensures)) in (
-      tiles-le (a .b) (at-start .pre .0),
-      table-exact logicTile (a .table .now) (at-start .pre .1 .table-long) .0 ok,
-      at-start .pre .1 .settings-long,
+      tiles-le (a .b) (at-start .pre .0 .0),
+      table-exact logicTile (a .table .now) (at-start .pre .0 .1 .table-long) .0 ok,
+      at-start .pre .0 .1 .settings-long,
     )
 
 cast-t20 : tie.Need-cast-t20
 cast-t20 c =
     let at-start = c .before .before .before .before .before .before .before .before .before .before .before .before .before .before .before in
-    omega (arith, c .if2 .taken, tiles-le (at-start .args .b) (at-start .pre .0))
+    omega (arith, c .if2 .taken, tiles-le (at-start .args .b) (at-start .pre .0 .0))
 
 returns-2 : tie.Need-returns-2
 returns-2 c =

@@ -9,9 +9,9 @@ use lib.Dec.{eqb, leb}
 use lib.ListN.{getD}
 use Rattle.lists.specs.Search.{all}
 use Rattle.lists.proofs.CaseLaws.{and-left, and-right}
-use Rattle.frames.specs.Hex.{isDigit, pairAt}
+use Rattle.texts.specs.Hex.{isDigit, pairAt}
 use Rattle.frames.specs.Lines.{digitsAt, isLine, passiveCount, passiveLine, positionCount, entryCount, groupDigits, groupLine}
-use Rattle.frames.proofs.HexLaws.{pair-lt}
+use Rattle.texts.proofs.HexLaws.{pair-lt}
 
 abbrev pub Agree : List ℕ → List ℕ → ℕ → Type 0
 Agree s t n = (i : ℕ) → i < n → getD s i 0 ≡ getD t i 0

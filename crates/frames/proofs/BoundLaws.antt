@@ -5,7 +5,7 @@ use native.Mathlib.Omega.{arith}
 use Rattle.lists.proofs.SearchLaws.{first-le}
 use Rattle.frames.specs.Lines.{passiveCount, positionCount, entryCount, groupDigits, groupLine}
 use Rattle.frames.specs.Input.{groupAt, groupCount, sizeAt}
-use Rattle.frames.proofs.HexLaws.{pair-lt}
+use Rattle.texts.proofs.HexLaws.{pair-lt}
 use mathlib.Core.Bool.{not}
 
 module _ (s : List ℕ) where

@@ -9,12 +9,13 @@ use native.Mathlib.Omega.{arith}
 use lib.Dec.{leb}
 use lib.ListN.{length, length-append}
 use Rattle.lists.proofs.CaseLaws.{lt-or-le, and-right}
-use Rattle.frames.specs.Hex.{pairAt}
+use Rattle.texts.specs.Hex.{pairAt}
 use Rattle.frames.specs.Frames.{Frame, size, digits, line, Proper}
 use Rattle.frames.specs.Lines.{isLine, fieldsLine, passiveLine, positionCount, entryCount, groupDigits, groupLine, sizeLine}
 use Rattle.frames.specs.Input.{groupAt, groupCount, sizeAt, width, height, tilesDue, tileAt, tileCount}
 use Rattle.frames.specs.Whole.{Small}
-use Rattle.frames.specs.Meaning.{Stands, Stage, begun, with-fields, with-groups, tiles-left}
+use Rattle.texts.specs.Pieces.{Stands}
+use Rattle.frames.specs.Meaning.{Stage, begun, with-fields, with-groups, tiles-left}
 use Rattle.frames.proofs.LineLaws.{line-exact}
 use Rattle.frames.proofs.FrameTestLaws.{size-passes, size-is}
 use Rattle.frames.proofs.TurnLaws.{counted-group}

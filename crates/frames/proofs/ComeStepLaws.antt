@@ -8,13 +8,14 @@ use mathlib.Core.List.{List, [], _∷_}
 use native.Mathlib.Omega.{arith}
 use lib.ListN.{length, length-append}
 use Rattle.lists.proofs.CaseLaws.{clash, lt-or-le}
-use Rattle.frames.specs.Each.{Each}
+use Rattle.texts.specs.Each.{Each}
 use Rattle.frames.specs.Frames.{Group, Frame, fields, passives, group, size, tile, line, Proper}
 use Rattle.frames.specs.Lines.{groupLine, tileLine}
 use Rattle.frames.specs.Input.{groupAt, groupCount, sizeAt, width, height, tilesDue, tileAt, tileCount}
 use Rattle.frames.specs.Whole.{Small}
-use Rattle.frames.specs.Meaning.{Stands, Stage, Turn, the-fields, the-passives, a-group, the-size, a-tile, Sized, Begins, nothing, one-more}
-use Rattle.frames.proofs.EachLaws.{holds-append}
+use Rattle.texts.specs.Pieces.{Stands}
+use Rattle.frames.specs.Meaning.{Stage, Turn, the-fields, the-passives, a-group, the-size, a-tile, Sized, Begins, nothing, one-more}
+use Rattle.texts.proofs.EachLaws.{holds-append}
 use Rattle.frames.proofs.FrameLineLaws.{tile-length}
 use Rattle.frames.proofs.FrameTestLaws.{fields-passes, passives-digits, passives-passes, group-digits-is, group-passes, size-passes, tile-passes}
 use Rattle.frames.proofs.TurnLaws.{group-stops, tile-stops}

@@ -14,12 +14,12 @@ use Rattle.lists.specs.Tables.{tabulate, zeros}
 use Rattle.lists.specs.Parts.{joined}
 use Rattle.lists.proofs.TableLaws.{tabulate-length, tabulate-zero, zeros-length}
 use Rattle.lists.proofs.PartLaws.{part-joined}
-use Rattle.frames.specs.Each.{each}
-use Rattle.frames.specs.Hex.{pairAt, quadAt}
+use Rattle.texts.specs.Each.{each}
+use Rattle.texts.specs.Hex.{pairAt, quadAt}
 use Rattle.frames.specs.Lines.{passiveCount, positionCount, entryCount}
 use Rattle.frames.specs.Input.{groupAt, groupCount}
 use Rattle.frames.specs.Contents.{headNumber, entryNumber, groupNumber, groupNumbers, tableOf}
-use Rattle.frames.proofs.EachLaws.{each-append, tabulate-last}
+use Rattle.texts.proofs.EachLaws.{each-append, tabulate-last}
 use Rattle.frames.proofs.BoundLaws.{group-count-le}
 
 -- ---- where each number stands

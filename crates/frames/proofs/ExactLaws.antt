@@ -16,8 +16,9 @@ use Rattle.frames.specs.Frames.{Frame, group, size, tile, line}
 use Rattle.frames.specs.Lines.{fieldsLine, passiveLine, sizeLine}
 use Rattle.frames.specs.Input.{groupAt, groupCount, sizeAt, width, height, small, tilesDue, tileAt, tileCount, parsed}
 use Rattle.frames.specs.Whole.{Small}
-use Rattle.frames.specs.Meaning.{Stands, Stage, begun, with-fields, with-groups, tiles-left, Turn, the-fields, the-passives, a-group, the-size, a-tile, Begins, Stuck, SizeSays, BlockSays, ParsedSays}
-use Rattle.frames.proofs.EachLaws.{holds-behind}
+use Rattle.texts.specs.Pieces.{Stands}
+use Rattle.frames.specs.Meaning.{Stage, begun, with-fields, with-groups, tiles-left, Turn, the-fields, the-passives, a-group, the-size, a-tile, Begins, Stuck, SizeSays, BlockSays, ParsedSays}
+use Rattle.texts.proofs.EachLaws.{holds-behind}
 use Rattle.frames.proofs.FrameLaws.{Reads, fields-reads, passives-reads, group-reads, size-reads, tile-reads}
 use Rattle.frames.proofs.FrameTestLaws.{size-passes}
 use Rattle.frames.proofs.TurnLaws.{counted-group, counted-tile}

@@ -9,13 +9,13 @@ use borrow.Author.Tests.{leb-true}
 use lib.Dec.{leb}
 use Rattle.lists.proofs.CaseLaws.{and-left, and-right}
 use Rattle.lists.proofs.TableLaws.{tabulate-length}
-use Rattle.frames.specs.Hex.{two, pairAt, quadAt}
+use Rattle.texts.specs.Hex.{two, pairAt, quadAt}
 use Rattle.frames.specs.Frames.{Group, Frame, fields, passives, group, size, tile, line, Proper}
 use Rattle.frames.specs.Lines.{isLine, fieldsLine, passiveCount, passiveLine, positionCount, entryCount, groupDigits, groupLine, sizeLine, tileLine}
-use Rattle.frames.proofs.HexLaws.{pair-lt, quad-lt}
-use Rattle.frames.proofs.StandsLaws.{Spans, spans-to, spans-append, spans-nil}
-use Rattle.frames.proofs.ReadingLaws.{two-spans, four-spans, entryRead}
-use Rattle.frames.proofs.ListReadLaws.{quadsRead, pairsRead, entriesRead, fours-read, twos-read, entries-read, quads-fit, pairs-fit, entries-fit, counted}
+use Rattle.texts.proofs.HexLaws.{pair-lt, quad-lt}
+use Rattle.texts.proofs.StandsLaws.{Spans, spans-to, spans-append, spans-nil}
+use Rattle.texts.proofs.ReadingLaws.{two-spans, four-spans}
+use Rattle.frames.proofs.ListReadLaws.{entryRead, quadsRead, pairsRead, entriesRead, fours-read, twos-read, entries-read, quads-fit, pairs-fit, entries-fit, counted}
 use Rattle.frames.proofs.LineLaws.{LineAt, line-exact, line-spans}
 
 -- what a test that passes shows: a proper frame whose line ends at b

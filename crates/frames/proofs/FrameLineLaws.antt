@@ -7,14 +7,14 @@ use mathlib.Core.List.{List, [], _∷_, _++_}
 use native.Mathlib.Omega.{arith}
 use native.Mathlib.Nat.{add-zero}
 use lib.ListN.{length, getD, length-append}
-use Rattle.frames.specs.Each.{each, Each}
-use Rattle.frames.specs.Hex.{two, four, isDigit}
+use Rattle.texts.specs.Each.{each, Each}
+use Rattle.texts.specs.Hex.{two, four, isDigit}
 use Rattle.frames.specs.Frames.{Entry, Group, Frame, fields, passives, group, size, tile, entryDigits, digits, line, Proper}
-use Rattle.frames.specs.Meaning.{Stands}
-use Rattle.frames.proofs.EachLaws.{each-length, holds-append, holds-each}
-use Rattle.frames.proofs.HexLaws.{digit-is}
-use Rattle.frames.proofs.StandsLaws.{Spans, spans-at, spans-left, spans-right, spans-to}
-use Rattle.frames.proofs.ReadingLaws.{pair-is, digits-of}
+use Rattle.texts.specs.Pieces.{Stands}
+use Rattle.texts.proofs.EachLaws.{each-length, holds-append, holds-each}
+use Rattle.texts.proofs.HexLaws.{digit-is}
+use Rattle.texts.proofs.StandsLaws.{Spans, spans-at, spans-left, spans-right, spans-to}
+use Rattle.texts.proofs.ReadingLaws.{pair-is, digits-of}
 use Rattle.frames.proofs.LineLaws.{LineAt}
 
 -- ---- number and digits

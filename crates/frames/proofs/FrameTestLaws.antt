@@ -8,13 +8,13 @@ use native.Mathlib.Omega.{arith}
 use borrow.Author.Tests.{le-leb}
 use lib.ListN.{length}
 use Rattle.lists.proofs.CaseLaws.{and-true}
-use Rattle.frames.specs.Each.{each}
-use Rattle.frames.specs.Hex.{two, four, pairAt}
+use Rattle.texts.specs.Each.{each}
+use Rattle.texts.specs.Hex.{two, four, pairAt}
 use Rattle.frames.specs.Frames.{Group, fields, passives, group, size, tile, entryDigits, digits, line, Proper}
 use Rattle.frames.specs.Lines.{fieldsLine, passiveCount, passiveLine, positionCount, entryCount, groupDigits, groupLine, sizeLine, tileLine}
-use Rattle.frames.specs.Meaning.{Stands}
-use Rattle.frames.proofs.StandsLaws.{Spans, spans-right, spans-from}
-use Rattle.frames.proofs.ReadingLaws.{pair-is}
+use Rattle.texts.specs.Pieces.{Stands}
+use Rattle.texts.proofs.StandsLaws.{Spans, spans-right, spans-from}
+use Rattle.texts.proofs.ReadingLaws.{pair-is}
 use Rattle.frames.proofs.LineLaws.{LineAt, line-exact}
 use Rattle.frames.proofs.FrameLineLaws.{frame-line, frame-digits, behind, fromEntries, fromPositions, fours-length, passives-length, group-length, tile-length}
 

@@ -1,9 +1,5 @@
 -- The laws of `frames`: what the tests, counts and readings of specs/ mean in the paper's words.
-pub mod EachLaws  -- each-append, each-length: what is made of each; holds-tabulate, holds-append: what holds of each; tabulate-last
-pub mod HexLaws  -- digit-back, value-back: a digit and its value; pair-of, quad-high, quad-low: numbers of two and four digits
-pub mod StandsLaws  -- Spans: what stands from one position up to another; spans-append, -left, -right, -at, -one
-pub mod ReadingLaws  -- Digits: only digits stand there; two-spans, four-spans, each-spans: the numbers read there, written again, stand there
-pub mod ListReadLaws  -- fours-read, twos-read, entries-read: the same for lists; counted: a list's length stands before it
+pub mod ListReadLaws  -- fours-read, twos-read, entries-read: the lists that are read, written again, stand there; counted: a list's length stands before it
 pub mod LineLaws  -- line-exact: what isLine tests; line-spans: digits and a line end are a line
 pub mod FrameLineLaws  -- frame-line: the line of any frame has its number, only digits and a line end; digits-few: 512 digits at most
 pub mod FrameLaws  -- fields-, passives-, group-, size-, tile-reads: where a test of Lines passes, a proper frame of that kind stands

@@ -10,11 +10,11 @@ use lib.Dec.{eqb}
 use lib.ListN.{getD}
 use Rattle.lists.proofs.CaseLaws.{and-left, and-right, and-true}
 use Rattle.lists.proofs.SearchLaws.{all-at, all-of}
-use Rattle.frames.specs.Hex.{isDigit, pairAt}
+use Rattle.texts.specs.Hex.{isDigit, pairAt}
 use Rattle.frames.specs.Frames.{Frame, digits, line}
 use Rattle.frames.specs.Lines.{digitsAt, isLine}
-use Rattle.frames.proofs.StandsLaws.{Spans, spans-one, spans-to, spans-append}
-use Rattle.frames.proofs.ReadingLaws.{Digits}
+use Rattle.texts.proofs.StandsLaws.{Spans, spans-one, spans-to, spans-append}
+use Rattle.texts.proofs.ReadingLaws.{Digits}
 
 -- the frame's number, n digits with it, and a line feed
 pub record LineAt (s : List ℕ) (at kind n : ℕ) : Type 0 where

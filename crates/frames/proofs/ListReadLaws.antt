@@ -1,4 +1,4 @@
--- The same for lists of numbers and entries, as many as a count says. Main laws: `fours-read`, `twos-read`, `entries-read`, `counted`; `quads-fit`,
+-- Lists of numbers and entries, as many as a count says: what is read, written again, is what stands there. Main laws: `fours-read`, `twos-read`, `entries-read`, `counted`; `quads-fit`,
 -- `pairs-fit`, `entries-fit`: what is read fits its digits.
 use Prim.Native.Nat.{ℕ, _+_, _*_, _<_, _≤_}
 use mathlib.Core.Path.{_≡_, refl, sym, ap, _∙_}
@@ -8,13 +8,21 @@ use native.Mathlib.Nat.{zero-add}
 use lib.ListN.{length}
 use Rattle.lists.specs.Tables.{tabulate}
 use Rattle.lists.proofs.TableLaws.{tabulate-length}
-use Rattle.frames.specs.Each.{each, Each}
-use Rattle.frames.specs.Hex.{two, four, pairAt, quadAt}
+use Rattle.texts.specs.Each.{each, Each}
+use Rattle.texts.specs.Hex.{two, four, pairAt, quadAt}
 use Rattle.frames.specs.Frames.{Entry, entryDigits, Fits2, Fits4, EntryFits}
-use Rattle.frames.proofs.EachLaws.{holds-tabulate}
-use Rattle.frames.proofs.HexLaws.{pair-lt, quad-lt}
-use Rattle.frames.proofs.StandsLaws.{Spans, spans-to, spans-from}
-use Rattle.frames.proofs.ReadingLaws.{Digits, two-spans, four-spans, entry-spans, each-spans, entryRead}
+use Rattle.texts.proofs.EachLaws.{holds-tabulate}
+use Rattle.texts.proofs.HexLaws.{pair-lt, quad-lt}
+use Rattle.texts.proofs.StandsLaws.{Spans, spans-append, spans-to, spans-from}
+use Rattle.texts.proofs.ReadingLaws.{Digits, two-spans, four-spans, each-spans}
+
+-- the entry that is read
+abbrev pub entryRead : List ℕ → ℕ → Entry
+entryRead s at = record { pattern = pairAt s at; source = quadAt s (at + 2) }
+
+pub entry-spans : (s : List ℕ) (a b : ℕ) → Digits s a b → (i : ℕ) → a ≤ i → i + 6 ≤ b → Spans s i (entryDigits (entryRead s i)) (i + 6)
+entry-spans s a b ds i from l =
+    spans-to (spans-append (two-spans s a b ds i from (omega arith)) (four-spans s a b ds (i + 2) (omega arith) (omega arith))) refl (omega arith)
 
 abbrev pub quadsRead : List ℕ → ℕ → ℕ → List ℕ
 quadsRead s at n = tabulate (λ k. quadAt s (at + 4 * k)) 0 n

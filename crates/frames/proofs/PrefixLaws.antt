@@ -16,10 +16,10 @@ use Rattle.lists.proofs.SearchLaws.{first-at, first-none, first-ext}
 use Rattle.refusal.specs.Grounds.{unless}
 use Rattle.refusal.specs.declared.Refusal.the-variants.{Line}
 use Rattle.frames.specs.declared.input.Parsed.the-variants.{Block, Refused}
-use Rattle.frames.specs.Hex.{pairAt}
+use Rattle.texts.specs.Hex.{pairAt}
 use Rattle.frames.specs.Lines.{groupDigits, groupLine, sizeLine, tileLine}
 use Rattle.frames.specs.Input.{groupAt, groupCount, sizeAt, width, height, small, tilesDue, tileAt, tileCount, parsed}
-use Rattle.frames.proofs.HexLaws.{pair-lt}
+use Rattle.texts.proofs.HexLaws.{pair-lt}
 use Rattle.frames.proofs.TurnLaws.{counted-group, group-stops}
 use Rattle.frames.proofs.BoundLaws.{group-count-le}
 use Rattle.frames.proofs.SmallLaws.{small-of, small-due}

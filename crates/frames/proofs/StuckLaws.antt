@@ -10,7 +10,8 @@ use lib.ListN.{length}
 use Rattle.lists.proofs.CaseLaws.{clash}
 use Rattle.frames.specs.Frames.{Frame, line, Proper}
 use Rattle.frames.specs.Lines.{fieldsLine, passiveLine, groupLine, sizeLine, tileLine}
-use Rattle.frames.specs.Meaning.{Stands, Stage, begun, with-fields, with-groups, tiles-left, Turn, the-fields, the-passives, a-group, the-size, a-tile, Stuck}
+use Rattle.texts.specs.Pieces.{Stands}
+use Rattle.frames.specs.Meaning.{Stage, begun, with-fields, with-groups, tiles-left, Turn, the-fields, the-passives, a-group, the-size, a-tile, Stuck}
 use Rattle.frames.proofs.FrameTestLaws.{fields-passes, passives-passes, group-passes, size-passes, tile-passes}
 
 module _ (s : List ℕ) where

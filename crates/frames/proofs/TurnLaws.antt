@@ -11,14 +11,14 @@ use lib.Seq.{take-add}
 use Rattle.lists.specs.Tables.{tabulate}
 use Rattle.lists.proofs.SearchLaws.{first-le, first-true, first-before}
 use Rattle.lists.proofs.TableLaws.{tabulate-length}
-use Rattle.frames.specs.Each.{Each}
+use Rattle.texts.specs.Each.{Each}
 use Rattle.frames.specs.Frames.{Group, Frame, group, tile, line, Proper}
 use Rattle.frames.specs.Whole.{Small, text}
 use Rattle.frames.specs.Lines.{fieldsLine, passiveLine, groupLine, sizeLine, tileLine}
 use Rattle.frames.specs.Input.{groupAt, groupCount, sizeAt, width, height, tilesDue, tileAt, tileCount}
 use Rattle.frames.specs.Meaning.{Stage, with-fields, with-groups, tiles-left, Turn, the-fields, the-passives, a-group, the-size, a-tile, Sized, Begins, nothing, one-more}
 use Rattle.frames.proofs.BoundLaws.{group-count-le}
-use Rattle.frames.proofs.EachLaws.{each-append, holds-append, mapped-last}
+use Rattle.texts.proofs.EachLaws.{each-append, holds-append, mapped-last}
 use Rattle.frames.proofs.FrameLaws.{Reads, fieldsRead, fields-reads, passivesRead, passives-reads, groupRead, group-reads, sizeRead, size-reads, tileRead, tile-reads}
 
 -- ---- what has begun

@@ -9,15 +9,14 @@ use lib.Seq.{take-length}
 use Rattle.lists.proofs.TableLaws.{tabulate-length}
 use Rattle.routing.specs.LogicTile.{logicTile}
 use Rattle.routing.specs.Table.{positionAt, passiveAt}
-use Rattle.frames.specs.Hex.{quadAt}
+use Rattle.texts.specs.Hex.{quadAt}
 use Rattle.frames.specs.Lines.{passiveCount, positionCount, entryCount, passiveLine}
 use Rattle.frames.specs.Input.{groupAt, groupCount, width, height, tilesDue, tileAt}
 use Rattle.frames.specs.Whole.{Input, Small, Whole, EntryHolds, GroupHolds, Holds, flat}
-use Rattle.frames.specs.Contents.{headNumber, groupNumber, tableOf, tileNumbers, bitsOf}
+use Rattle.frames.specs.Contents.{headNumber, groupNumber, tableOf, tileBytes, bitsOf}
 use Rattle.frames.specs.Meaning.{Begins, tiles-left}
-use Rattle.frames.proofs.EachLaws.{holds-from-tabulate}
-use Rattle.frames.proofs.ReadingLaws.{entryRead}
-use Rattle.frames.proofs.ListReadLaws.{quadsRead}
+use Rattle.texts.proofs.EachLaws.{holds-from-tabulate}
+use Rattle.frames.proofs.ListReadLaws.{entryRead, quadsRead}
 use Rattle.frames.proofs.FrameLaws.{groupRead, tileRead, passives-reads, group-reads}
 use Rattle.frames.proofs.TurnLaws.{groupsRead, tilesRead, tilesFrames, counted-group, begins-text, begins-proper}
 use Rattle.frames.proofs.BoundLaws.{group-count-le}
@@ -88,7 +87,7 @@ module _ (s : List ℕ) where
 
   pub bits-flat : bitsOf s (tilesDue s) ≡ flat (inputRead .tiles)
   unfolding bitsOf
-  bits-flat = flat-joined (tileNumbers s) (tilesDue s)
+  bits-flat = flat-joined (tileBytes s) (tilesDue s)
 
   -- ---- the text
 

@@ -6,12 +6,12 @@ use native.Mathlib.Omega.{arith}
 use native.Mathlib.Nat.{add-zero, zero-add}
 use lib.ListN.{length, take}
 use lib.Seq.{take-length}
-use Rattle.frames.specs.Each.{Each}
+use Rattle.texts.specs.Each.{Each}
 use Rattle.frames.specs.Frames.{Group, Frame, group, size, tile, line, Proper}
 use Rattle.frames.specs.Whole.{Input, framesOf, text, Whole}
 use Rattle.frames.specs.Meaning.{Stage, begun, with-groups, tiles-left, Turn, the-fields, the-passives, a-group, the-size, a-tile, Sized, Begins, nothing, one-more}
-use Rattle.frames.proofs.EachLaws.{holds-append}
-use Rattle.frames.proofs.StandsLaws.{Spans, spans-left, spans-right}
+use Rattle.texts.proofs.EachLaws.{holds-append}
+use Rattle.texts.proofs.StandsLaws.{Spans, spans-left, spans-right}
 
 -- frames in their turn, the first first
 data Turns : Stage → List Frame → Stage → Type 0 where

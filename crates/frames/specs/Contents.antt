@@ -5,7 +5,7 @@ use mathlib.Core.List.{List, _++_}
 use lib.Dec.{eqb, ltb}
 use Rattle.lists.specs.Tables.{tabulate, zeros}
 use Rattle.lists.specs.Parts.{joined}
-use Rattle.frames.specs.Hex.{pairAt, quadAt}
+use Rattle.texts.specs.Hex.{pairAt, quadAt}
 use Rattle.frames.specs.Lines.{passiveCount, positionCount, entryCount}
 use Rattle.frames.specs.Input.{groupAt, groupCount, tileAt}
 
@@ -37,8 +37,8 @@ unfoldable pub tableOf : List ℕ → List ℕ
 tableOf s = tabulate (headNumber s) 0 69 ++ joined (groupNumbers s) 512
 
 -- byte j of tile t, and the bits of n tiles
-abbrev pub tileNumbers : List ℕ → ℕ → List ℕ
-tileNumbers s t = tabulate (λ j. pairAt s (tileAt s t + 2 + 2 * j)) 0 108
+abbrev pub tileBytes : List ℕ → ℕ → List ℕ
+tileBytes s t = tabulate (λ j. pairAt s (tileAt s t + 2 + 2 * j)) 0 108
 
 unfoldable pub bitsOf : List ℕ → ℕ → List ℕ
-bitsOf s n = joined (tileNumbers s) n
+bitsOf s n = joined (tileBytes s) n

@@ -3,8 +3,9 @@ use Prim.Native.Nat.{ℕ, _<_, _≤_}
 use mathlib.Core.Path.{_≡_}
 use mathlib.Core.List.{List, [], _∷_, _++_}
 use lib.ListN.{length}
-use Rattle.frames.specs.Each.{each, Each}
-use Rattle.frames.specs.Hex.{two, four}
+use Rattle.texts.specs.Each.{each, Each}
+use Rattle.texts.specs.Hex.{two, four}
+use Rattle.texts.specs.Pieces.{lineEnd}
 
 -- "entries of pattern and source"
 pub record Entry : Type 0 where
@@ -44,7 +45,7 @@ digits (tile bytes) = two 5 ++ each two bytes
 
 -- "one frame a line, every line ended"
 abbrev pub line : Frame → List ℕ
-line f = digits f ++ (10 ∷ [])
+line f = digits f ++ lineEnd
 
 -- a number that fits its digits
 abbrev pub Fits2 : ℕ → Type 0

@@ -10,7 +10,7 @@ use lib.ListN.{length}
 use Rattle.lists.specs.Search.{first}
 use Rattle.refusal.specs.Grounds.{unless, numberOf, placeOf}
 use Rattle.refusal.specs.declared.Refusal.the-variants.{WrongSize, Line}
-use Rattle.frames.specs.Hex.{pairAt}
+use Rattle.texts.specs.Hex.{pairAt}
 use Rattle.frames.specs.Lines.{fieldsLine, passiveCount, passiveLine, groupDigits, groupLine, sizeLine, tileLine}
 use Rattle.frames.specs.declared.input.Parsed.{Parsed}
 use Rattle.frames.specs.declared.input.Parsed.the-variants.{Block, Refused}

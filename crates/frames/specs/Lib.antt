@@ -1,6 +1,4 @@
 -- Frames on lines: what document 01 says of an input, and reading one.
-pub mod Hex  -- digitOf, two, four: digits of a number; isDigit, valueOf, pairAt, quadAt: the other way
-pub mod Each  -- each, Each, EachFrom: what is made of each of a list, and what holds of each
 pub mod Frames  -- Frame, line, Proper: the frames and the line of each
 pub mod Whole  -- Input, its frames and text; Holds: what a routing table filled from it holds
 pub mod Lines  -- isLine and a test for each kind of frame, by position

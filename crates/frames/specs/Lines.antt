@@ -6,7 +6,7 @@ use mathlib.Core.List.{List}
 use lib.Dec.{eqb, leb}
 use lib.ListN.{getD}
 use Rattle.lists.specs.Search.{all}
-use Rattle.frames.specs.Hex.{isDigit, pairAt}
+use Rattle.texts.specs.Hex.{isDigit, pairAt}
 
 -- n digits from position `at` on; a byte past the end counts as 0, which is no digit
 abbrev pub digitsAt : List ℕ → ℕ → ℕ → Bool

@@ -4,18 +4,15 @@ use Prim.Native.Nat.{ℕ, suc, _+_, _*_, _<_}
 use mathlib.Core.Path.{_≡_}
 use mathlib.Core.Logic.{_≢_}
 use mathlib.Core.List.{List, [], _∷_, _++_}
-use lib.ListN.{length, take, drop}
+use lib.ListN.{length}
 use Rattle.refusal.specs.declared.Refusal.{Refusal}
 use Rattle.refusal.specs.declared.Refusal.the-variants.{WrongSize, WrongLength, Table, Undecodable, Contention, DisabledCarry, Loop, CellClock, NoSuchSettings, NotABit, Line, Row, OutOfRange}
+use Rattle.texts.specs.Pieces.{Stands}
 use Rattle.frames.specs.Frames.{Group, Frame, fields, passives, group, size, tile, line, Proper}
 use Rattle.frames.specs.Whole.{Input, Small, Whole, Holds, flat}
 use Rattle.frames.specs.Contents.{tableOf, bitsOf}
 use Rattle.frames.specs.declared.input.Parsed.{Parsed}
 use Rattle.frames.specs.declared.input.Parsed.the-variants.{Block, Refused}
-
--- xs stands in s at position `at`
-abbrev pub Stands : List ℕ → ℕ → List ℕ → Type 0
-Stands s at xs = take (length xs) (drop at s) ≡ xs
 
 -- how far an input has come: no frame yet; the fields; the passive list and g groups; the size, with so many tiles to come
 pub data Stage : Type 0 where

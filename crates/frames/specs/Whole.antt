@@ -5,7 +5,7 @@ use mathlib.Core.List.{List, _∷_, _++_, map}
 use lib.ListN.{length}
 use Rattle.routing.specs.LogicTile.{logicTile}
 use Rattle.routing.specs.Table.{fieldAt, passiveCount, passiveAt, groupCount, destinationOf, widthOf, positionAt, entryCount, patternAt, sourceAt}
-use Rattle.frames.specs.Each.{each, Each, EachFrom}
+use Rattle.texts.specs.Each.{each, Each, EachFrom}
 use Rattle.frames.specs.Frames.{Entry, Group, Frame, fields, passives, group, size, tile, line, Proper}
 
 pub record Input : Type 0 where

@@ -5,12 +5,12 @@ ghost use lib.ListN.{length};
 ghost use Rattle.lists.specs.Tables.{tabulate};
 ghost use Rattle.lists.specs.Parts.{joined};
 ghost use Rattle.frames.specs.Input.{groupCount};
-ghost use Rattle.frames.specs.Hex.{pairAt};
+ghost use Rattle.texts.specs.Hex.{pairAt};
 ghost use Rattle.frames.specs.Contents.{headNumber, groupNumber, entryNumber, groupNumbers, tableOf, bitsOf};
-use crate::hex::pair;
-use crate::hex::quad;
 use crate::input::count_groups;
 use crate::lines;
+use texts::hex::pair;
+use texts::hex::quad;
 
 const HEAD: usize = 69;
 

@@ -9,9 +9,9 @@ ghost use Rattle.frames.specs.Lines.{tileLine};
 ghost use Rattle.frames.specs.Input.{groupCount, sizeAt, width, height, small, Opened, parsed};
 ghost use Rattle.frames.specs.Meaning.{ParsedSays};
 ghost use Rattle.frames.specs.declared.input.Parsed.the-variants.{Refused};
-use crate::hex::pair;
 use crate::lines;
 use refusal::Refusal;
+use texts::hex::pair;
 
 // W and H, or why there is no block.
 pub enum Parsed {

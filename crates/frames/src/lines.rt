@@ -4,11 +4,10 @@ ghost use mathlib.Core.Path.{_≡_};
 ghost use Prim.Native.Nat.{_+_, _*_, _^_, _<_, _≤_};
 ghost use lib.ListN.{length};
 ghost use Rattle.frames.specs.Lines.{digitsAt, isLine, fieldsLine, passiveCount, passiveLine, positionCount, entryCount, groupDigits, groupLine, sizeLine, tileLine};
-use crate::hex::byte_at;
-use crate::hex::is_digit;
-use crate::hex::pair;
-
-const LINE_END: u8 = 10;
+use texts::LINE_END;
+use texts::byte_at;
+use texts::hex::is_digit;
+use texts::hex::pair;
 
 // How many digits the frames of fixed length have.
 const FIELDS_DIGITS: usize = 14;

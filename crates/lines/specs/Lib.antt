@@ -1,3 +1,3 @@
 -- The lines of a report.
-pub mod Lines  -- switchLine, cellLine, answerLine: the lines 06, 07, 08; placed: a list with another put in
+pub mod Lines  -- switchLine, cellLine, answerLine: the lines 06, 07, 08
 pub mod Listing  -- switchLines, cellLines: those of an accepted block

@@ -1,13 +1,9 @@
 -- The lines that a report prints: "06 is driven wire and source wire of each enabled switch [..]; 07 is tile, cell, table, flags [..]; 08 is number
 -- and place." Ports, wires, tables and places are 4 digits, the rest 2.
-use Prim.Native.Nat.{ℕ, _+_, min}
-use mathlib.Core.List.{List, [], _∷_, _++_}
-use lib.ListN.{length, take, drop}
-use Rattle.frames.specs.Hex.{two, four}
-
--- "every line ended"
-abbrev pub lineEnd : List ℕ
-lineEnd = 10 ∷ []
+use Prim.Native.Nat.{ℕ, min}
+use mathlib.Core.List.{List, _++_}
+use Rattle.texts.specs.Hex.{two, four}
+use Rattle.texts.specs.Pieces.{lineEnd}
 
 abbrev pub switchLine : ℕ → ℕ → List ℕ
 switchLine wire source = two 6 ++ (four wire ++ (four source ++ lineEnd))
@@ -18,7 +14,3 @@ cellLine tile cell table flags = two 7 ++ (two tile ++ (two cell ++ (four table 
 -- "a place above FFFF is FFFF"
 abbrev pub answerLine : ℕ → ℕ → List ℕ
 answerLine number place = two 8 ++ (two number ++ (four (min place 65535) ++ lineEnd))
-
--- a list with xs put in at position `at`
-abbrev pub placed : ℕ → List ℕ → List ℕ → List ℕ
-placed at xs out = take at out ++ (xs ++ drop (at + length xs) out)

@@ -7,11 +7,11 @@ ghost use lib.ListN.{length};
 ghost use Rattle.routing.specs.LogicTile.{logicTile};
 ghost use Rattle.ports.specs.Lengths.{settingsLength};
 ghost use Rattle.equations.specs.Tiles.{tableOf, flagsAt};
-ghost use Rattle.lines.specs.Lines.{placed};
+ghost use Rattle.texts.specs.Pieces.{placed};
 ghost use Rattle.lines.specs.Listing.{switchPart, switchLines, cellPart, cellLines};
 use crate::text::cell_line;
-use crate::text::put;
 use crate::text::switch_line;
+use texts::put;
 
 const SETTINGS: usize = 595;
 

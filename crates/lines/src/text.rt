@@ -1,9 +1,8 @@
-// The lines of a report, by value, and putting one behind those that are written.
+// The lines of a report, by value.
 ghost use mathlib.Core.Path.{_≡_};
-ghost use Prim.Native.Nat.{_+_, _≤_, min};
-ghost use lib.ListN.{length};
-ghost use Rattle.lines.specs.Lines.{switchLine, cellLine, answerLine, placed};
-use frames::hex::digit;
+ghost use Prim.Native.Nat.{min};
+ghost use Rattle.lines.specs.Lines.{switchLine, cellLine, answerLine};
+use texts::hex::digit;
 
 // A line 06.
 pub fn switch_line(wire: u16, source: u16) -> [u8; 11]
@@ -72,15 +71,4 @@ pub fn answer_line(number: u8, place: u32) -> [u8; 9]
         digit(p),
         b'\n',
     ]
-}
-
-// Puts a line at a position, and says where the next one goes.
-pub fn put(out: &mut [u8], at: usize, line: &[u8]) -> usize
-    requires { ⌜ at + length (now line) ≤ length (now out) ⌝ }
-    ensures next { λ r. ⌜ r ≡ at + length (now (line .entry)) ⌝ }
-    ensures out { λ r. ⌜ now (out .exit) ≡ placed at (now (line .entry)) (now (out .entry)) ⌝ }
-{
-    let end = at + line.len();
-    lists::copy_bytes(line, &mut out[at..end]);
-    end
 }

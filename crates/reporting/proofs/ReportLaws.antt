@@ -15,7 +15,7 @@ use Rattle.frames.specs.Whole.{Small}
 use Rattle.frames.specs.Meaning.{ParsedSays}
 use Rattle.lines.specs.Lines.{answerLine}
 use Rattle.reporting.specs.Report.{blockLines, parsedLines, reportOf}
-use Rattle.lines.proofs.TextLaws.{Puts}
+use Rattle.texts.proofs.PutsLaws.{Puts}
 
 module _ (s : List ℕ) (r : Parsed) (e : r ≡ parsed s) where
   pub refused-report : (refusal : Refusal) → r ≡ Refused refusal → answerLine (numberOf refusal) (placeOf refusal) ≡ reportOf s

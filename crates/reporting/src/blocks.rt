@@ -8,16 +8,17 @@ ghost use Rattle.ports.specs.Lengths.{ports, portsPerTile, tableLength, tileNum
 ghost use Rattle.routing.specs.LogicTile.{logicTile};
 ghost use Rattle.routing.specs.Rules.{TableRules};
 ghost use Rattle.config.specs.Blocks.{undecodableTile, decoded, tilesOf};
-ghost use Rattle.lines.specs.Lines.{answerLine, placed};
+ghost use Rattle.texts.specs.Pieces.{placed};
+ghost use Rattle.lines.specs.Lines.{answerLine};
 ghost use Rattle.block.specs.Lengths.{BuildLong};
 ghost use Rattle.frames.specs.Whole.{Small};
 ghost use Rattle.reporting.specs.Report.{outLength, linesOf, acceptedLines, blockLines};
 use block::Built;
 use lines::listing;
 use lines::text::answer_line;
-use lines::text::put;
 use ports::size::Block;
 use refusal::Refusal;
+use texts::put;
 
 // Room for the largest block of a program, 3 by 3: numbers for its ports, its rows and its settings.
 const PORTS: usize = 4554;

@@ -9,7 +9,7 @@ ghost use mathlib.Core.List.{_++_};
 ghost use lib.ListN.{length, drop};
 ghost use Rattle.frames.specs.Whole.{Small};
 ghost use Rattle.frames.specs.Contents.{tableOf, bitsOf};
-ghost use Rattle.lines.specs.Lines.{placed};
+ghost use Rattle.texts.specs.Pieces.{placed};
 ghost use Rattle.reporting.specs.Report.{outLength, blockLines, reportOf};
 use frames::input::Parsed;
 

@@ -1,6 +1,6 @@
 -- `put_frames` meets its contract: table and bits hold what the frames say. Assumes nothing.
 use Rattle.reporting.proofs.SizeLaws.{small-tiles}
-use Rattle.lines.proofs.TextLaws.{Puts}
+use Rattle.texts.proofs.PutsLaws.{Puts}
 use Rattle.reporting.specs.Report.{blockLines}
 use Rattle.frames.specs.Contents.{bitsOf}
 use Prim.Native.Nat.{_*_}

@@ -1,8 +1,8 @@
 -- `contents::fill_bits` meets its contract. Invariant: the first t parts are the tiles' bytes, and the length is the old one. Measure: the tiles
 -- that are left. Assumes nothing.
 use Rattle.frames.proofs.BoundLaws.{size-at-le}
-use Rattle.frames.specs.Contents.{tileNumbers, bitsOf}
-use Rattle.frames.specs.Hex.{pairAt}
+use Rattle.frames.specs.Contents.{tileBytes, bitsOf}
+use Rattle.texts.specs.Hex.{pairAt}
 use Rattle.lists.proofs.PartLaws.{part-code-length, put-length, joined-step, joined-end}
 use Rattle.lists.specs.Parts.{joined}
 use Rattle.lists.specs.Tables.{tabulate}
@@ -15,7 +15,7 @@ use Rattle.frames.proofs.contents.fill_bits.Statement.{statement}
 use Rattle.frames.proofs.contents.fill_bits.Tie as tie
 
 abbrev Inv-loop : tie.InvT-loop
-Inv-loop s n bits₀ start t₀ bits t = (t ≤ n) × (length bits ≡ 108 * n) × (take (108 * t) bits ≡ joined (tileNumbers s) t)
+Inv-loop s n bits₀ start t₀ bits t = (t ≤ n) × (length bits ≡ 108 * n) × (take (108 * t) bits ≡ joined (tileBytes s) t)
 
 abbrev μ-loop : tie.MeasureT-loop
 μ-loop s n bits₀ start t₀ bits t = n - t
@@ -78,7 +78,7 @@ loop-again c =
     let same = at-fill-tile .fill-tile .ensures ∙ ap (λ a. tabulate (λ j. pairAt s (a + 7 + 219 * t + 2 + 2 * j)) 0 108) (at-count-groups .count-groups .ensures .1) in (
       omega arith,
       put-length 108 t bits part (omega arith) long ∙ at-loop .loop .inv .1,
-      joined-step 108 (tileNumbers s) t bits part (omega arith) long (at-loop .loop .inv .2) same (108 * (t + 1)) (omega arith),
+      joined-step 108 (tileBytes s) t bits part (omega arith) long (at-loop .loop .inv .2) same (108 * (t + 1)) (omega arith),
     )
 
 same-length : tie.Need-same-length Inv-loop μ-loop
@@ -89,7 +89,7 @@ unfolding bitsOf
 returns c =
     let at-loop = c .before in
     let at-start = at-loop .before .before .before .before .before in
-    joined-end (tileNumbers (at-start .args .s .now)) (at-loop .loop .t) _ (108 * at-loop .loop .t) (at-loop .loop .bits) (at-loop .loop .inv .2) (omega arith) (omega arith)
+    joined-end (tileBytes (at-start .args .s .now)) (at-loop .loop .t) _ (108 * at-loop .loop .t) (at-loop .loop .bits) (at-loop .loop .inv .2) (omega arith) (omega arith)
 
 pub fill-bits-spec : {M : Type 1} → statement M
 fill-bits-spec =

@@ -1,6 +1,6 @@
 -- `contents::fill_tile` meets its contract. Invariant: the first j bytes are the tile's (`Filled`). Measure: the bytes left. Assumes nothing.
-use Rattle.frames.proofs.HexLaws.{pair-lt}
-use Rattle.frames.specs.Hex.{pairAt}
+use Rattle.texts.proofs.HexLaws.{pair-lt}
+use Rattle.texts.specs.Hex.{pairAt}
 use Rattle.lists.proofs.TableLaws.{Filled, filled-start, filled-step, filled-end}
 use borrow.Author.Needs.{needs}
 use native.Mathlib.Omega.{arith}

@@ -5,7 +5,7 @@ use Rattle.frames.proofs.MeaningLaws.{says-too}
 use Rattle.frames.proofs.BoundLaws.{group-count-le, size-at-le}
 use Rattle.frames.specs.Input.{sizeAt, width, height, small, Opened, parsed}
 use Rattle.frames.specs.Lines.{fieldsLine, passiveLine, sizeLine}
-use Rattle.frames.specs.Hex.{pairAt}
+use Rattle.texts.specs.Hex.{pairAt}
 use Rattle.frames.specs.declared.input.Parsed.the-variants.{Refused}
 use Rattle.refusal.specs.declared.Refusal.the-variants.{WrongSize, Line}
 use Rattle.lists.proofs.CaseLaws.{and-true, and-false-left, and-false-right}

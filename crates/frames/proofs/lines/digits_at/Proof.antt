@@ -1,6 +1,6 @@
 -- `lines::digits_at` meets its contract. Invariant: the test from digit k on is the whole test. Measure: the digits left. Assumes nothing.
 use Rattle.frames.specs.Lines.{digitsAt}
-use Rattle.frames.specs.Hex.{isDigit}
+use Rattle.texts.specs.Hex.{isDigit}
 use Rattle.lists.proofs.SearchLaws.{all-turn-hit, all-turn-skip, all-turn-end}
 use Rattle.lists.specs.Search.{all}
 use lib.ListN.{getD}

@@ -1,6 +1,6 @@
 -- `lines::entry_count` meets its contract. Assumes nothing.
 use Rattle.frames.proofs.BoundLaws.{position-count-lt}
-use Rattle.frames.specs.Hex.{pairAt}
+use Rattle.texts.specs.Hex.{pairAt}
 use native.Mathlib.Omega.{arith}
 use mathlib.Core.Path.{ap, _∙_}
 use Prim.Native.Nat.{_+_, _*_}

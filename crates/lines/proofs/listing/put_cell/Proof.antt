@@ -1,6 +1,6 @@
 -- `listing::put_cell` meets its contract: a line or nothing. Assumes nothing.
 use Rattle.lines.proofs.LineLaws.{cell-none, cell-some}
-use Rattle.lines.proofs.TextLaws.{puts-none, puts-line}
+use Rattle.texts.proofs.PutsLaws.{puts-none, puts-line}
 use mathlib.Core.Path.{sym, _∙_}
 use borrow.Author.Needs.{needs}
 use Rattle.lines.proofs.listing.put_cell.Statement.{statement}

@@ -1,6 +1,6 @@
 -- `listing::put_cells` meets its contract. Invariant: the lines of the first c cells stand there, and the length is the old one. Measure: the cells left. Assumes nothing.
 use Rattle.lines.proofs.LineLaws.{cell-long}
-use Rattle.lines.proofs.TextLaws.{Puts, puts-none, puts-turn, joined-long}
+use Rattle.texts.proofs.PutsLaws.{Puts, puts-none, puts-turn, joined-long}
 use Rattle.lines.specs.Listing.{cellPart}
 use Rattle.lists.specs.Parts.{joined}
 use lib.ListN.{length}

@@ -1,6 +1,6 @@
 -- `listing::put_switch` meets its contract: a line or nothing. Assumes nothing.
 use Rattle.lines.proofs.LineLaws.{switch-none, switch-some}
-use Rattle.lines.proofs.TextLaws.{puts-none, puts-line}
+use Rattle.texts.proofs.PutsLaws.{puts-none, puts-line}
 use mathlib.Core.Path.{_∙_}
 use borrow.Author.Needs.{needs}
 use Rattle.lines.proofs.listing.put_switch.Statement.{statement}

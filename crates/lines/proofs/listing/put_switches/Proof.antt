@@ -1,6 +1,6 @@
 -- `listing::put_switches` meets its contract. Invariant: the lines of the first w wires stand there, and the length is the old one. Measure: the wires left. Assumes nothing.
 use Rattle.lines.proofs.LineLaws.{switch-long}
-use Rattle.lines.proofs.TextLaws.{Puts, puts-none, puts-turn, joined-long}
+use Rattle.texts.proofs.PutsLaws.{Puts, puts-none, puts-turn, joined-long}
 use Rattle.lines.specs.Listing.{switchPart}
 use Rattle.lists.specs.Parts.{joined}
 use lib.ListN.{length}

@@ -1,5 +1,5 @@
 -- `text::answer_line` meets its contract: one digit after another. Assumes nothing.
-use Rattle.frames.specs.Hex.{digitOf}
+use Rattle.texts.specs.Hex.{digitOf}
 use borrow.Author.Needs.{needs}
 use Rattle.lines.proofs.text.answer_line.Statement.{statement}
 use Rattle.lines.proofs.text.answer_line.Tie as tie

@@ -1,5 +1,5 @@
 -- `blocks::put_accepted` meets its contract: the settings that were read are routed, and their sources are the map. Assumes nothing.
-use Rattle.lines.proofs.TextLaws.{Puts}
+use Rattle.texts.proofs.PutsLaws.{Puts}
 use Rattle.reporting.specs.Report.{linesOf, acceptedLines}
 use Rattle.block.proofs.RoutedLaws.{routed-of-read}
 use Rattle.equations.specs.Sources.{sourcesOf}

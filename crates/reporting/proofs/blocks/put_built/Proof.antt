@@ -1,6 +1,6 @@
 -- `blocks::put_built` meets its contract: what building answered decides which lines. Assumes nothing.
 use Rattle.reporting.proofs.SizeLaws.{small-tiles}
-use Rattle.lines.proofs.TextLaws.{puts-line}
+use Rattle.texts.proofs.PutsLaws.{puts-line}
 use Rattle.reporting.proofs.BlockLaws.{refused-lines, listed-lines, listed-decodable}
 use Rattle.block.specs.Meaning.{BuildSays}
 use Rattle.block.proofs.LengthLaws.{build-long-exact}

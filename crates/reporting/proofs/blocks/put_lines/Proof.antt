@@ -1,7 +1,7 @@
 -- `blocks::put_lines` meets its contract: three parts, one behind the other, and all of them fit. Assumes nothing.
 use mathlib.Core.List.{_++_}
 use Rattle.lines.proofs.LineLaws.{switch-long, cell-long}
-use Rattle.lines.proofs.TextLaws.{Puts, puts-line, puts-three, joined-long}
+use Rattle.texts.proofs.PutsLaws.{Puts, puts-line, puts-three, joined-long}
 use Rattle.lines.specs.Listing.{switchPart, switchLines, cellPart, cellLines}
 use Rattle.lines.specs.Lines.{answerLine}
 use lib.ListN.{length}

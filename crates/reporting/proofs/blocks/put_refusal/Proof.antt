@@ -1,5 +1,5 @@
 -- `blocks::put_refusal` meets its contract: the one line. Assumes nothing.
-use Rattle.lines.proofs.TextLaws.{puts-line}
+use Rattle.texts.proofs.PutsLaws.{puts-line}
 use Rattle.lines.specs.Lines.{answerLine}
 use mathlib.Core.Path.{_∙_, ap₂}
 use borrow.Author.Needs.{needs}

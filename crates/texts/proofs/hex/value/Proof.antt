@@ -3,11 +3,11 @@ use mathlib.Core.Path.{_≡_, sym, _∙_}
 use mathlib.Core.Bool.{true}
 use native.Mathlib.Omega.{arith}
 use borrow.Author.Tests.{not-true, not-false, le-leb, lt-leb}
-use Rattle.frames.specs.Hex.{isDigit, valueOf}
-use Rattle.frames.proofs.HexLaws.{digit-least, letter-least, letter-most}
+use Rattle.texts.specs.Hex.{isDigit, valueOf}
+use Rattle.texts.proofs.HexLaws.{digit-least, letter-least, letter-most}
 use borrow.Author.Needs.{needs}
-use Rattle.frames.proofs.hex.value.Statement.{statement}
-use Rattle.frames.proofs.hex.value.Tie as tie
+use Rattle.texts.proofs.hex.value.Statement.{statement}
+use Rattle.texts.proofs.hex.value.Tie as tie
 
 is-digit-requires : tie.Need-is-digit-requires
 is-digit-requires c κs = search needs

@@ -1,11 +1,11 @@
 -- `hex::pair` meets its contract. Assumes nothing.
 use mathlib.Core.Path.{ap, _∙_}
 use native.Mathlib.Omega.{arith}
-use Rattle.frames.specs.Hex.{valueOf, pairAt}
-use Rattle.frames.proofs.HexLaws.{value-lt}
+use Rattle.texts.specs.Hex.{valueOf, pairAt}
+use Rattle.texts.proofs.HexLaws.{value-lt}
 use borrow.Author.Needs.{needs}
-use Rattle.frames.proofs.hex.pair.Statement.{statement}
-use Rattle.frames.proofs.hex.pair.Tie as tie
+use Rattle.texts.proofs.hex.pair.Statement.{statement}
+use Rattle.texts.proofs.hex.pair.Tie as tie
 
 byte-at-requires : tie.Need-byte-at-requires
 byte-at-requires c κs = search needs

@@ -2,9 +2,9 @@
 use native.Mathlib.Omega.{arith}
 use borrow.Author.Needs.{needs}
 use borrow.Author.Tests.{lt-ltb, le-ltb}
-use Rattle.frames.specs.Hex.{digitOf}
-use Rattle.frames.proofs.hex.digit.Statement.{statement}
-use Rattle.frames.proofs.hex.digit.Tie as tie
+use Rattle.texts.specs.Hex.{digitOf}
+use Rattle.texts.proofs.hex.digit.Statement.{statement}
+use Rattle.texts.proofs.hex.digit.Tie as tie
 
 cast-v : tie.Need-cast-v
 cast-v c = search needs

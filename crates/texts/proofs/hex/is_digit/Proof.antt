@@ -1,9 +1,9 @@
 -- `hex::is_digit` meets its contract. Assumes nothing.
 use native.Mathlib.Omega.{arith}
 use borrow.Author.Tests.{le-leb, lt-leb}
-use Rattle.frames.specs.Hex.{isDigit}
-use Rattle.frames.proofs.hex.is_digit.Statement.{statement}
-use Rattle.frames.proofs.hex.is_digit.Tie as tie
+use Rattle.texts.specs.Hex.{isDigit}
+use Rattle.texts.proofs.hex.is_digit.Statement.{statement}
+use Rattle.texts.proofs.hex.is_digit.Tie as tie
 
 -- below 0
 returns : tie.Need-returns

@@ -1,4 +1,4 @@
--- Lists of numbers, entries, groups and frames: what is made of each, one behind another, and what holds of each.
+-- What is made of each of a list, one piece of text behind another, and what holds of each.
 use Prim.Native.Nat.{ℕ, suc}
 use mathlib.Core.List.{List, [], _∷_, _++_}
 

@@ -1,18 +1,8 @@
 // Upper-case hexadecimal digits, at a position of a slice of bytes.
 ghost use mathlib.Core.Path.{_≡_};
 ghost use Prim.Native.Nat.{_+_, _^_, _<_};
-ghost use lib.ListN.{length, getD};
-ghost use Rattle.frames.specs.Hex.{isDigit, valueOf, digitOf, pairAt, quadAt};
-
-// Byte i, or 0 past the end, which is neither a digit nor a line end.
-pub fn byte_at(s: &[u8], i: usize) -> u8
-    ensures { λ r. ⌜ r ≡ getD (now (s .entry)) i 0 ⌝ }
-{
-    if i < s.len() {
-        return s[i];
-    }
-    0
-}
+ghost use Rattle.texts.specs.Hex.{isDigit, valueOf, digitOf, pairAt, quadAt};
+use crate::byte_at;
 
 // Rules out: lower case.
 pub fn is_digit(c: u8) -> bool

@@ -1,9 +1,9 @@
--- `hex::byte_at` meets its contract. Assumes nothing.
+-- `byte_at` meets its contract. Assumes nothing.
 use mathlib.Core.Path.{sym}
 use borrow.Author.Needs.{needs}
 use lib.ListN.{List·getD-eq-default}
-use Rattle.frames.proofs.hex.byte_at.Statement.{statement}
-use Rattle.frames.proofs.hex.byte_at.Tie as tie
+use Rattle.texts.proofs.byte_at.Statement.{statement}
+use Rattle.texts.proofs.byte_at.Tie as tie
 
 shared-slice-read-result : tie.Need-shared-slice-read-result
 shared-slice-read-result c = search needs

@@ -1,10 +1,10 @@
--- `text::put` meets its contract: the part that was lent comes back as the line. Assumes nothing.
+-- `put` meets its contract: the part that was lent comes back as the piece. Assumes nothing.
 use mathlib.Core.Path.{refl}
 use lib.ListN.{length}
-use Rattle.lines.proofs.TextLaws.{put-is}
+use Rattle.texts.proofs.PlacedLaws.{put-is}
 use borrow.Author.Needs.{needs}
-use Rattle.lines.proofs.text.put.Statement.{statement}
-use Rattle.lines.proofs.text.put.Tie as tie
+use Rattle.texts.proofs.put.Statement.{statement}
+use Rattle.texts.proofs.put.Tie as tie
 
 add-end : tie.Need-add-end
 add-end c = search needs
@@ -27,7 +27,7 @@ same-length c = search needs
 returns : tie.Need-returns
 returns c =
     let args = c .before .before .before .before .before .before .args in
-    (refl, put-is (args .at) (length (args .line .now)) (args .line .now) _ (args .out .now) (c .before .before .copy-bytes .ensures) refl)
+    (refl, put-is (args .at) (length (args .piece .now)) (args .piece .now) _ (args .out .now) (c .before .before .copy-bytes .ensures) refl)
 
 pub put-spec : {M : Type 1} → statement M
 put-spec =

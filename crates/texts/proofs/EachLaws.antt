@@ -7,7 +7,7 @@ use native.Mathlib.Omega.{arith}
 use native.Mathlib.Nat.{add-zero, mul-zero, zero-add}
 use lib.ListN.{length, getD, length-append}
 use Rattle.lists.specs.Tables.{tabulate}
-use Rattle.frames.specs.Each.{each, Each, EachFrom}
+use Rattle.texts.specs.Each.{each, Each, EachFrom}
 
 pub holds-append : {A : Type 0} (P : A → Type 0) (xs ys : List A) → Each P xs → Each P ys → Each P (xs ++ ys)
 holds-append P [] ys p q = q

@@ -1,11 +1,11 @@
 -- `hex::quad` meets its contract. Assumes nothing.
 use Prim.Native.Nat.{_+_}
 use native.Mathlib.Omega.{arith}
-use Rattle.frames.specs.Hex.{quadAt}
-use Rattle.frames.proofs.HexLaws.{pair-lt}
+use Rattle.texts.specs.Hex.{quadAt}
+use Rattle.texts.proofs.HexLaws.{pair-lt}
 use borrow.Author.Needs.{needs}
-use Rattle.frames.proofs.hex.quad.Statement.{statement}
-use Rattle.frames.proofs.hex.quad.Tie as tie
+use Rattle.texts.proofs.hex.quad.Statement.{statement}
+use Rattle.texts.proofs.hex.quad.Tie as tie
 
 pair-requires : tie.Need-pair-requires
 pair-requires c κs = search needs

@@ -9,7 +9,7 @@ use native.Mathlib.Nat.{add-zero}
 use lib.ListN.{length, getD, take, drop, length-append, List·getD-eq-default}
 use lib.Seq.{take-add, take-take, take-append-seam, drop-append-seam, drop-drop, drop-cons, getD-take, getD-drop}
 use Rattle.lists.proofs.CaseLaws.{lt-or-le}
-use Rattle.frames.specs.Meaning.{Stands}
+use Rattle.texts.specs.Pieces.{Stands}
 
 pub record Spans (s : List ℕ) (a : ℕ) (xs : List ℕ) (b : ℕ) : Type 0 where
   pub stands : Stands s a xs

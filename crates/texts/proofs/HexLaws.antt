@@ -10,7 +10,7 @@ use borrow.Author.Tests.{leb-true, le-leb, lt-leb, lt-ltb, le-ltb}
 use lib.Dec.{leb}
 use lib.ListN.{getD}
 use Rattle.lists.proofs.CaseLaws.{cases, lt-or-le, and-left, and-right, and-true, or-is, or-left, or-right}
-use Rattle.frames.specs.Hex.{digitOf, isDigit, valueOf, pairAt, quadAt}
+use Rattle.texts.specs.Hex.{digitOf, isDigit, valueOf, pairAt, quadAt}
 
 -- ---- a digit
 

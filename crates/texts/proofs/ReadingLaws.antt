@@ -1,5 +1,5 @@
 -- Where only digits stand, the numbers that are read there, written again, are what stands there. Main laws: `two-spans`, `four-spans`,
--- `entry-spans`, `each-spans`; the other way: `pair-is`, `digits-of`.
+-- `each-spans`; the other way: `pair-is`, `digits-of`.
 use Prim.Native.Nat.{ℕ, zero, suc, _+_, _-_, _*_, _/_, _<_, _≤_}
 use mathlib.Core.Path.{_≡_, refl, sym, ap, ap₂, _∙_}
 use mathlib.Core.Bool.{true}
@@ -9,12 +9,11 @@ use native.Mathlib.Omega.{arith}
 use native.Mathlib.Nat.{add-zero}
 use lib.ListN.{getD}
 use Rattle.lists.specs.Tables.{tabulate}
-use Rattle.frames.specs.Each.{each, Each}
-use Rattle.frames.specs.Hex.{two, four, isDigit, pairAt, quadAt}
-use Rattle.frames.specs.Frames.{Entry, entryDigits}
-use Rattle.frames.proofs.EachLaws.{holds-at}
-use Rattle.frames.proofs.HexLaws.{digit-is-one, digit-same, pair-high, pair-low, pair-of, quad-high, quad-low}
-use Rattle.frames.proofs.StandsLaws.{Spans, spans-nil, spans-one, spans-at, spans-append, spans-to}
+use Rattle.texts.specs.Each.{each, Each}
+use Rattle.texts.specs.Hex.{two, four, isDigit, pairAt, quadAt}
+use Rattle.texts.proofs.EachLaws.{holds-at}
+use Rattle.texts.proofs.HexLaws.{digit-is-one, digit-same, pair-high, pair-low, pair-of, quad-high, quad-low}
+use Rattle.texts.proofs.StandsLaws.{Spans, spans-nil, spans-one, spans-at, spans-append, spans-to}
 
 -- only digits stand from a up to b
 abbrev pub Digits : List ℕ → ℕ → ℕ → Type 0
@@ -43,14 +42,6 @@ module _ (s : List ℕ) (a b : ℕ) (ds : Digits s a b) (i : ℕ) (from : a ≤ 
       (ap₂ _++_ (ap two (sym (quad-high s i)))
       (ap₂ (λ (x y : ℕ). x ∷ y ∷ []) (digit-same _ (quadAt s i / 16) (omega (arith, quad-low s i))) (digit-same _ (quadAt s i) (omega (arith, quad-low s i)))))
       (omega arith)
-
--- the entry that is read
-abbrev pub entryRead : List ℕ → ℕ → Entry
-entryRead s at = record { pattern = pairAt s at; source = quadAt s (at + 2) }
-
-pub entry-spans : (s : List ℕ) (a b : ℕ) → Digits s a b → (i : ℕ) → a ≤ i → i + 6 ≤ b → Spans s i (entryDigits (entryRead s i)) (i + 6)
-entry-spans s a b ds i from l =
-    spans-to (spans-append (two-spans s a b ds i from (omega arith)) (four-spans s a b ds (i + 2) (omega arith) (omega arith))) refl (omega arith)
 
 -- pieces of width w, one behind another from position p on
 pub each-spans : {A : Type 0} (s : List ℕ) (f : A → List ℕ) (g : ℕ → A) (w p i n : ℕ)

@@ -76,7 +76,16 @@ pub extern "C" fn ice40_follow(
     ensures sources { λ r. ⌜ now (sources .exit) ≡ workRoom (groundIn r) (now (sources .entry)) ⌝ }
     ensures marks { λ r. ⌜ now (marks .exit) ≡ workRoom (groundIn r) (now (marks .entry)) ⌝ }
 {
-    let a = block::follow(Block { w, h }, table, settings, tile, port, wires, sources, marks);
+    let a = block::follow(
+        Block { w, h },
+        table,
+        settings,
+        tile,
+        port,
+        wires,
+        sources,
+        marks,
+    );
     pack_followed(a)
 }
 

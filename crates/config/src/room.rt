@@ -2,8 +2,9 @@
 ghost use mathlib.Core.Path.{_≡_};
 ghost use lib.ListN.{length};
 ghost use Rattle.config.specs.Blocks.{roomLength};
+use ports::lengths::SETTINGS_LENGTH;
 
-const SETTINGS: usize = 38080;
+const SETTINGS: usize = 64 * SETTINGS_LENGTH;
 
 // Room of zeros. The promise gives the length alone, which is what lending a part of it asks for.
 pub fn settings_room() -> [u16; SETTINGS]

@@ -9,7 +9,8 @@ use native.Mathlib.Omega.{arith}
 use borrow.Author.Tests.{le-leb, lt-leb, eq-eqb, ne-eqb}
 use lib.ListN.{length}
 use Rattle.lists.proofs.CaseLaws.{cases, lt-or-le}
-use Rattle.refusal.specs.declared.Refusal.the-variants.{WrongSize, WrongLength, Table, Undecodable, Contention, DisabledCarry, Loop, CellClock, NoSuchSettings, NotABit, Line, Row, OutOfRange}
+use Rattle.refusal.specs.declared.Refusal.{Refusal}
+use Rattle.refusal.specs.declared.Refusal.the-variants.{WrongSize, Line}
 use Rattle.frames.specs.declared.input.Parsed.{Parsed}
 use Rattle.frames.specs.declared.input.Parsed.the-variants.{Block, Refused}
 use Rattle.frames.specs.Frames.{Frame, group, size, tile, line}
@@ -17,7 +18,7 @@ use Rattle.frames.specs.Lines.{fieldsLine, passiveLine, sizeLine}
 use Rattle.frames.specs.Input.{groupAt, groupCount, sizeAt, width, height, small, tilesDue, tileAt, tileCount, parsed}
 use Rattle.frames.specs.Whole.{Small}
 use Rattle.texts.specs.Pieces.{Stands}
-use Rattle.frames.specs.Meaning.{Stage, begun, with-fields, with-groups, tiles-left, Turn, the-fields, the-passives, a-group, the-size, a-tile, Begins, Stuck, SizeSays, BlockSays, ParsedSays}
+use Rattle.frames.specs.Meaning.{Stage, begun, with-fields, with-groups, tiles-left, Turn, the-fields, the-passives, a-group, the-size, a-tile, Begins, Stuck, SizeSays, BlockSays, wrong-size, bad-line, ParsedNo, ParsedSays}
 use Rattle.texts.proofs.EachLaws.{holds-behind}
 use Rattle.frames.proofs.FrameLaws.{Reads, fields-reads, passives-reads, group-reads, size-reads, tile-reads}
 use Rattle.frames.proofs.FrameTestLaws.{size-passes}
@@ -137,21 +138,14 @@ module _ (s : List ℕ) where
 
   -- ---- any answer
 
+  no-only : (refusal : Refusal) → ParsedNo s refusal → parsed s ≡ Refused refusal
+  no-only refusal (wrong-size z) = size-only z
+  no-only refusal (bad-line n z) =
+      line-only (z .stage) (z .frames) (z .at) (z .begins) (z .stuck) ∙ ap (λ (k : ℕ). Refused (Line k)) (sym (z .place))
+
   parsed-only : (r : Parsed) → ParsedSays s r → r ≡ parsed s
   parsed-only (Block w h) z = sym (block-only w h z)
-  parsed-only (Refused WrongSize) z = sym (size-only z)
-  parsed-only (Refused (Line n)) z = sym (line-only (z .stage) (z .frames) (z .at) (z .begins) (z .stuck) ∙ ap (λ (k : ℕ). Refused (Line k)) (sym (z .place)))
-  parsed-only (Refused WrongLength) z = absurd z
-  parsed-only (Refused (Table x)) z = absurd z
-  parsed-only (Refused (Undecodable x)) z = absurd z
-  parsed-only (Refused (Contention x)) z = absurd z
-  parsed-only (Refused (DisabledCarry x)) z = absurd z
-  parsed-only (Refused (Loop x)) z = absurd z
-  parsed-only (Refused (CellClock x)) z = absurd z
-  parsed-only (Refused (NoSuchSettings x)) z = absurd z
-  parsed-only (Refused (NotABit x)) z = absurd z
-  parsed-only (Refused (Row x)) z = absurd z
-  parsed-only (Refused (OutOfRange x)) z = absurd z
+  parsed-only (Refused refusal) z = sym (no-only refusal z)
 
   pub parsed-exact : (r : Parsed) → ParsedSays s r ↔ (r ≡ parsed s)
   parsed-exact r = (parsed-only r, λ e. subst (ParsedSays s) (sym e) (parsed-says s))

@@ -1,5 +1,6 @@
 -- Where a test of specs/Lines.antt passes, a proper frame of that kind stands: that of the numbers which are read there (`fieldsRead`, ..,
 -- `tileRead`), and its line ends where Input has the next begin. Main laws: `fields-reads`, `passives-reads`, `group-reads`, `size-reads`, `tile-reads`.
+use Rattle.ports.specs.Lengths.{tileBytes}
 use Prim.Native.Nat.{ℕ, _+_, _*_, _≤_}
 use mathlib.Core.Path.{_≡_, refl, ap}
 use mathlib.Core.Bool.{true, _&&_}
@@ -138,18 +139,18 @@ module _ (s : List ℕ) (at : ℕ) where
       }
 
   abbrev pub tileRead : List ℕ
-  tileRead = pairsRead s (at + 2) 108
+  tileRead = pairsRead s (at + 2) tileBytes
 
   pub tile-reads : tileLine s at ≡ true → Reads s at (tile tileRead) (at + 219)
   tile-reads e =
       let h = line-exact s at 5 218 .0 e in
       let ds = h .only-digits in
       record {
-        proper = (tabulate-length (λ (k : ℕ). pairAt s (at + 2 + 2 * k)) 0 108, pairs-fit s (at + 2) 108);
+        proper = (tabulate-length (λ (k : ℕ). pairAt s (at + 2 + 2 * k)) 0 tileBytes, pairs-fit s (at + 2) tileBytes);
         spans =
             spans-to
             (line-spans s at 218 (tile tileRead)
-            (spans-append (kind-spans s at 5 218 h (omega arith)) (spans-to (twos-read s at _ ds (at + 2) 108 (omega arith) (omega arith)) refl (omega arith)))
+            (spans-append (kind-spans s at 5 218 h (omega arith)) (spans-to (twos-read s at _ ds (at + 2) tileBytes (omega arith) (omega arith)) refl (omega arith)))
             (h .ended))
             refl (omega arith);
       }

@@ -13,7 +13,7 @@ use Rattle.frames.specs.Lines.{fieldsLine, passiveLine, sizeLine}
 use Rattle.frames.specs.Input.{groupCount, sizeAt, width, height, small, tilesDue, tileAt, tileCount, parsed}
 use Rattle.frames.specs.Whole.{Small}
 use Rattle.frames.specs.declared.input.Parsed.{Parsed}
-use Rattle.frames.specs.Meaning.{begun, with-fields, with-groups, tiles-left, nothing, LineSays, SizeSays, BlockSays, ParsedSays}
+use Rattle.frames.specs.Meaning.{begun, with-fields, with-groups, tiles-left, nothing, LineSays, SizeSays, BlockSays, wrong-size, bad-line, ParsedSays}
 use Rattle.frames.proofs.SmallLaws.{small-of, small-passes}
 use Rattle.frames.proofs.FrameLaws.{size-reads}
 use Rattle.frames.proofs.TurnLaws.{groups-frames-length, tiles-frames-length, group-stops, tile-stops, begins-fields, begins-groups, begins-tiles}
@@ -92,14 +92,14 @@ module _ (s : List ℕ) where
   pub parsed-says : ParsedSays s (parsed s)
   unfolding parsed
   parsed-says =
-      unless-cases (ParsedSays s) (fieldsLine s) _ _ line-one
-      (λ one. unless-cases (ParsedSays s) (passiveLine s) _ _ (line-two one)
-      (λ two. unless-cases (ParsedSays s) (sizeLine s (sizeAt s)) _ _ (line-size one two)
-      (λ three. unless-cases (ParsedSays s) (small (width s) && small (height s)) _ _ (size-no one two three)
+      unless-cases (ParsedSays s) (fieldsLine s) _ _ (λ e. bad-line _ (line-one e))
+      (λ one. unless-cases (ParsedSays s) (passiveLine s) _ _ (λ e. bad-line _ (line-two one e))
+      (λ two. unless-cases (ParsedSays s) (sizeLine s (sizeAt s)) _ _ (λ e. bad-line _ (line-size one two e))
+      (λ three. unless-cases (ParsedSays s) (small (width s) && small (height s)) _ _ (λ e. wrong-size (size-no one two three e))
       (λ e. let few = small-of (width s) (height s) e in
-      unless-cases (ParsedSays s) (leb (tilesDue s) (tileCount s)) _ _ (λ e. line-tile one two three few (leb-false (tilesDue s) (tileCount s) e))
+      unless-cases (ParsedSays s) (leb (tilesDue s) (tileCount s)) _ _ (λ e. bad-line _ (line-tile one two three few (leb-false (tilesDue s) (tileCount s) e)))
       (λ e. let all = leb-true (tilesDue s) (tileCount s) e in
-      unless-cases (ParsedSays s) (eqb (length s) (tileAt s (tilesDue s))) _ _ (λ e. line-extra one two three few all (eqb-false (length s) (tileAt s (tilesDue s)) e))
+      unless-cases (ParsedSays s) (eqb (length s) (tileAt s (tilesDue s))) _ _ (λ e. bad-line _ (line-extra one two three few all (eqb-false (length s) (tileAt s (tilesDue s)) e)))
       (λ e. block-yes one two three few all (eqb-true (length s) (tileAt s (tilesDue s)) e)))))))
 
   -- an answer that is the right one says what it should

@@ -13,7 +13,7 @@ use Rattle.texts.specs.Hex.{quadAt}
 use Rattle.frames.specs.Lines.{passiveCount, positionCount, entryCount, passiveLine}
 use Rattle.frames.specs.Input.{groupAt, groupCount, width, height, tilesDue, tileAt}
 use Rattle.frames.specs.Whole.{Input, Small, Whole, EntryHolds, GroupHolds, Holds, flat}
-use Rattle.frames.specs.Contents.{headNumber, groupNumber, tableOf, tileBytes, bitsOf}
+use Rattle.frames.specs.Contents.{headNumber, groupNumber, tableOf, bytesOfTile, bitsOf}
 use Rattle.frames.specs.Meaning.{Begins, tiles-left}
 use Rattle.texts.proofs.EachLaws.{holds-from-tabulate}
 use Rattle.frames.proofs.ListReadLaws.{entryRead, quadsRead}
@@ -87,7 +87,7 @@ module _ (s : List ℕ) where
 
   pub bits-flat : bitsOf s (tilesDue s) ≡ flat (inputRead .tiles)
   unfolding bitsOf
-  bits-flat = flat-joined (tileBytes s) (tilesDue s)
+  bits-flat = flat-joined (bytesOfTile s) (tilesDue s)
 
   -- ---- the text
 

@@ -1,4 +1,5 @@
 -- What the frames of an input say, laid out as the lent routing table and the block's bits (docs/API.md). Places that a frame leaves unused are 0.
+use Rattle.ports.specs.Lengths.{tileBytes}
 use Prim.Native.Nat.{ℕ, _+_, _-_, _*_, _/_, _%_}
 use mathlib.Core.Bool.{cond}
 use mathlib.Core.List.{List, _++_}
@@ -37,8 +38,8 @@ unfoldable pub tableOf : List ℕ → List ℕ
 tableOf s = tabulate (headNumber s) 0 69 ++ joined (groupNumbers s) 512
 
 -- byte j of tile t, and the bits of n tiles
-abbrev pub tileBytes : List ℕ → ℕ → List ℕ
-tileBytes s t = tabulate (λ j. pairAt s (tileAt s t + 2 + 2 * j)) 0 108
+abbrev pub bytesOfTile : List ℕ → ℕ → List ℕ
+bytesOfTile s t = tabulate (λ j. pairAt s (tileAt s t + 2 + 2 * j)) 0 tileBytes
 
 unfoldable pub bitsOf : List ℕ → ℕ → List ℕ
-bitsOf s n = joined (tileBytes s) n
+bitsOf s n = joined (bytesOfTile s) n

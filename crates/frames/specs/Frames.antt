@@ -1,4 +1,5 @@
 -- The frames that are read, as document 01 gives them, and the line of each ('Frames and one whole run').
+use Rattle.ports.specs.Lengths.{tileBytes}
 use Prim.Native.Nat.{ℕ, _<_, _≤_}
 use mathlib.Core.Path.{_≡_}
 use mathlib.Core.List.{List, [], _∷_, _++_}
@@ -70,4 +71,4 @@ Proper (fields a b c) = Each Fits4 (a ∷ b ∷ c ∷ [])
 Proper (passives positions) = (length positions ≤ 64) × Each Fits4 positions
 Proper (group x) = GroupFits x
 Proper (size w h) = Fits2 w × Fits2 h
-Proper (tile bytes) = (length bytes ≡ 108) × Each Fits2 bytes
+Proper (tile bytes) = (length bytes ≡ tileBytes) × Each Fits2 bytes

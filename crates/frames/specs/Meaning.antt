@@ -6,7 +6,7 @@ use mathlib.Core.Logic.{_≢_}
 use mathlib.Core.List.{List, [], _∷_, _++_}
 use lib.ListN.{length}
 use Rattle.refusal.specs.declared.Refusal.{Refusal}
-use Rattle.refusal.specs.declared.Refusal.the-variants.{WrongSize, WrongLength, Table, Undecodable, Contention, DisabledCarry, Loop, CellClock, NoSuchSettings, NotABit, Line, Row, OutOfRange}
+use Rattle.refusal.specs.declared.Refusal.the-variants.{WrongSize, Line}
 use Rattle.texts.specs.Pieces.{Stands}
 use Rattle.frames.specs.Frames.{Group, Frame, fields, passives, group, size, tile, line, Proper}
 use Rattle.frames.specs.Whole.{Input, Small, Whole, Holds, flat}
@@ -79,22 +79,11 @@ pub record BlockSays (s : List ℕ) (w h : ℕ) : Type 0 where
   pub table : Holds (tableOf s) input
   pub bits : bitsOf s (h * w) ≡ flat (input .tiles)
 
--- no other ground is given
-abbrev pub RefusalSays : List ℕ → Refusal → Type 0
-RefusalSays s WrongSize = SizeSays s
-RefusalSays s WrongLength = ⊥
-RefusalSays s (Table part) = ⊥
-RefusalSays s (Undecodable t) = ⊥
-RefusalSays s (Contention wire) = ⊥
-RefusalSays s (DisabledCarry wire) = ⊥
-RefusalSays s (Loop wire) = ⊥
-RefusalSays s (CellClock t) = ⊥
-RefusalSays s (NoSuchSettings t) = ⊥
-RefusalSays s (NotABit index) = ⊥
-RefusalSays s (Line n) = LineSays s n
-RefusalSays s (Row row) = ⊥
-RefusalSays s (OutOfRange number) = ⊥
+-- what each no says; no other ground is given
+pub data ParsedNo (s : List ℕ) : Refusal → Type 0 where
+  wrong-size : SizeSays s → ParsedNo s WrongSize
+  bad-line : (n : ℕ) → LineSays s n → ParsedNo s (Line n)
 
 abbrev pub ParsedSays : List ℕ → Parsed → Type 0
 ParsedSays s (Block w h) = BlockSays s w h
-ParsedSays s (Refused refusal) = RefusalSays s refusal
+ParsedSays s (Refused refusal) = ParsedNo s refusal

@@ -4,19 +4,19 @@ ghost use Prim.Native.Nat.{ℕ, _+_, _*_, _^_, _<_, _≤_};
 ghost use lib.ListN.{length};
 ghost use Rattle.lists.specs.Tables.{tabulate};
 ghost use Rattle.lists.specs.Parts.{joined};
+ghost use Rattle.ports.specs.Lengths.{tileBytes, tableLength};
 ghost use Rattle.frames.specs.Input.{groupCount};
 ghost use Rattle.texts.specs.Hex.{pairAt};
 ghost use Rattle.frames.specs.Contents.{headNumber, groupNumber, entryNumber, groupNumbers, tableOf, bitsOf};
 use crate::input::count_groups;
 use crate::lines;
+use ports::lengths::TILE_BYTES;
 use texts::hex::pair;
 use texts::hex::quad;
 
 const HEAD: usize = 69;
 
 const GROUP: usize = 75;
-
-const TILE: usize = 108;
 
 // Number k of those before the groups; `count` is the group count.
 fn head_number(s: &[u8], count: usize, k: usize) -> u16
@@ -122,7 +122,7 @@ fn fill_groups(s: &[u8], count: usize, rest: &mut [u16])
 
 // The routing table of an input that was parsed.
 pub fn fill_table(s: &[u8], table: &mut [u16])
-    requires { ⌜ length (now table) ≡ 38469 ⌝ }
+    requires { ⌜ length (now table) ≡ tableLength ⌝ }
     ensures { λ r. ⌜ now (table .exit) ≡ tableOf (now (s .entry)) ⌝ }
 {
     let found = count_groups(s);
@@ -132,11 +132,11 @@ pub fn fill_table(s: &[u8], table: &mut [u16])
 }
 
 fn fill_tile(s: &[u8], at: usize, tile: &mut [u8])
-    requires { ⌜ (at < 2 ^ 28) × (length (now tile) ≡ 108) ⌝ }
-    ensures { λ r. ⌜ now (tile .exit) ≡ tabulate (λ j. pairAt (now (s .entry)) (at + 2 + 2 * j)) 0 108 ⌝ }
+    requires { ⌜ (at < 2 ^ 28) × (length (now tile) ≡ tileBytes) ⌝ }
+    ensures { λ r. ⌜ now (tile .exit) ≡ tabulate (λ j. pairAt (now (s .entry)) (at + 2 + 2 * j)) 0 tileBytes ⌝ }
 {
     let mut j = 0;
-    while j < TILE {
+    while j < TILE_BYTES {
         tile[j] = pair(s, at + 2 + 2 * j) as u8;
         j += 1;
     }
@@ -144,15 +144,15 @@ fn fill_tile(s: &[u8], at: usize, tile: &mut [u8])
 
 // The bits of the n tiles of an input that was parsed.
 pub fn fill_bits(s: &[u8], n: usize, bits: &mut [u8])
-    requires { ⌜ (n ≤ 9) × (length (now bits) ≡ 108 * n) ⌝ }
+    requires { ⌜ (n ≤ 9) × (length (now bits) ≡ tileBytes * n) ⌝ }
     ensures { λ r. ⌜ now (bits .exit) ≡ bitsOf (now (s .entry)) n ⌝ }
 {
     let found = count_groups(s);
     let start = found.end + 7;
     let mut t = 0;
     while t < n {
-        let from = TILE * t;
-        let to = from + TILE;
+        let from = TILE_BYTES * t;
+        let to = from + TILE_BYTES;
         fill_tile(s, start + 219 * t, &mut bits[from..to]);
         t += 1;
     }

@@ -9,9 +9,12 @@ use Rattle.ports.specs.declared.size.Block.{Block}
 abbrev pub portsPerTile : ℕ
 portsPerTile = 506
 
--- "A tile is 108 bytes"
+-- "A tile is 108 bytes", in frames and as it is lent
+abbrev pub tileBytes : ℕ
+tileBytes = 108
+
 abbrev pub tileNumbers : ℕ
-tileNumbers = 108
+tileNumbers = tileBytes
 
 -- "its eight cells", a byte of state each
 abbrev pub cellsPerTile : ℕ

@@ -9,10 +9,12 @@ use crate::size::Size;
 use crate::size::size_of;
 use crate::size::tile_count;
 
-// A tile's ports, the numbers of its bits, and its cells.
+// A tile's ports, its bytes in a frame, the numbers of its bits as they are lent, and its cells.
 pub const PORTS_PER_TILE: u32 = 506;
 
-pub const TILE_NUMBERS: usize = 108;
+pub const TILE_BYTES: usize = 108;
+
+pub const TILE_NUMBERS: usize = TILE_BYTES;
 
 pub const CELLS_PER_TILE: usize = 8;
 

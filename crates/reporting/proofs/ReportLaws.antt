@@ -12,6 +12,7 @@ use Rattle.frames.specs.declared.input.Parsed.the-variants.{Block, Refused}
 use Rattle.frames.specs.Input.{parsed}
 use Rattle.frames.specs.Contents.{tableOf, bitsOf}
 use Rattle.frames.specs.Whole.{Small}
+use Rattle.ports.specs.Block.{block}
 use Rattle.frames.specs.Meaning.{ParsedSays}
 use Rattle.lines.specs.Lines.{answerLine}
 use Rattle.reporting.specs.Report.{blockLines, parsedLines, reportOf}
@@ -22,15 +23,15 @@ module _ (s : List ℕ) (r : Parsed) (e : r ≡ parsed s) where
   unfolding reportOf
   refused-report refusal q = ap (parsedLines s) (sym q ∙ e)
 
-  pub block-report : (w h : ℕ) → r ≡ Block w h → blockLines w h (tableOf s) (bitsOf s (h * w)) ≡ reportOf s
+  pub block-report : (w h : ℕ) → r ≡ Block w h → blockLines (block w h) (tableOf s) (bitsOf s (h * w)) ≡ reportOf s
   unfolding reportOf
   block-report w h q = ap (parsedLines s) (sym q ∙ e)
 
 -- W and H of a block that was parsed are 1 to 3
 pub small-size : (s : List ℕ) (r : Parsed) (w h : ℕ) → ParsedSays s r → r ≡ Block w h → Small w h
 small-size s r w h says q =
-    let block = subst (ParsedSays s) q says in
-    subst (λ (x : ℕ). Small x h) (block .w-is) (subst (Small (block .input .w)) (block .h-is) (block .whole .small))
+    let yes = subst (ParsedSays s) q says in
+    subst (λ (x : ℕ). Small x h) (yes .w-is) (subst (Small (yes .input .w)) (yes .h-is) (yes .whole .small))
 
 -- at the front of `out` stands the report, and it fits
 pub report-put : (lines whole old : List ℕ) (next : ℕ) (out : List ℕ) → lines ≡ whole → Puts 0 lines old next out

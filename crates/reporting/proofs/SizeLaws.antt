@@ -6,11 +6,12 @@ use native.Mathlib.Omega.{arith}
 use native.Mathlib.Nat.{mul-le-mul}
 use lib.ListN.{length, take}
 use lib.Seq.{length-take-le}
-use Rattle.ports.specs.Block.{block, tiles}
+use Rattle.ports.specs.declared.size.Block.{Block}
+use Rattle.ports.specs.Block.{tiles}
 use Rattle.frames.specs.Whole.{Small}
 
-pub small-tiles : (w h : ℕ) → Small w h → tiles (block w h) ≤ 9
-small-tiles w h s = mul-le-mul (s .h-few) (s .w-few)
+pub small-tiles : (B : Block) → Small (B .w) (B .h) → tiles B ≤ 9
+small-tiles B s = mul-le-mul (s .h-few) (s .w-few)
 
 -- the front of a room is as long as it should be
 pub front-long : (k m : ℕ) (room : List ℕ) → m ≡ length room → k ≤ m → length (take k room) ≡ k

@@ -35,11 +35,11 @@ builtLines B t st (built.Listed rows) = acceptedLines B t st
 builtLines B t st (built.Refused refusal) = answerLine (builtNumber (built.Refused refusal)) (builtValue (built.Refused refusal))
 
 -- the report of a block's bits; every lent length is exact
-unfoldable pub blockLines : ℕ → ℕ → List ℕ → List ℕ → List ℕ
-blockLines w h t bits = builtLines (block w h) t (decoded t (tilesOf bits) (tiles (block w h))) (buildAnswer w h t (tilesOf bits) true)
+unfoldable pub blockLines : Block → List ℕ → List ℕ → List ℕ
+blockLines B t bits = builtLines B t (decoded t (tilesOf bits) (tiles B)) (buildAnswer B t (tilesOf bits) true)
 
 abbrev pub parsedLines : List ℕ → Parsed → List ℕ
-parsedLines s (parse.Block w h) = blockLines w h (contents.tableOf s) (bitsOf s (h * w))
+parsedLines s (parse.Block w h) = blockLines (block w h) (contents.tableOf s) (bitsOf s (h * w))
 parsedLines s (parse.Refused refusal) = answerLine (parsedNumber (parse.Refused refusal)) (parsedPlace (parse.Refused refusal))
 
 -- the whole report

@@ -3,45 +3,48 @@ ghost use mathlib.Core.Path.{_≡_};
 ghost use Prim.Native.Nat.{_+_, _*_, _<_, _≤_};
 ghost use lib.ListN.{length};
 ghost use Rattle.refusal.specs.Grounds.{numberOf, placeOf};
-ghost use Rattle.ports.specs.Block.{block, tiles, Sized};
-ghost use Rattle.ports.specs.Lengths.{ports, portsPerTile, tableLength, tileNumbers, settingsLength};
+ghost use Rattle.ports.specs.Block.{size, block, sizeOf, tiles, Sized};
+ghost use Rattle.ports.specs.Lengths.{ports, portsPerTile, tableLength, bitsLength, settingsLength, settingsTotal, listLength, tileNumbers};
 ghost use Rattle.routing.specs.LogicTile.{logicTile};
 ghost use Rattle.routing.specs.Rules.{TableRules};
 ghost use Rattle.config.specs.Blocks.{undecodableTile, decoded, tilesOf};
 ghost use Rattle.texts.specs.Pieces.{placed};
 ghost use Rattle.lines.specs.Lines.{answerLine};
-ghost use Rattle.block.specs.Lengths.{BuildLong};
+ghost use Rattle.block.specs.Lengths.{roomLent, buildLent, BuildLong};
 ghost use Rattle.frames.specs.Whole.{Small};
 ghost use Rattle.reporting.specs.Report.{outLength, linesOf, acceptedLines, blockLines};
 use block::Built;
 use lines::listing;
 use lines::text::answer_line;
+use netlist::row::ROW_LENGTH;
+use ports::lengths::PORTS_PER_TILE;
+use ports::lengths::SETTINGS_LENGTH;
 use ports::size::Block;
 use refusal::Refusal;
 use texts::put;
 
 // Room for the largest block of a program, 3 by 3: numbers for its ports, its rows and its settings.
-const PORTS: usize = 4554;
+const PORTS: usize = 9 * PORTS_PER_TILE as usize;
 
-const ROWS: usize = 31878;
+const ROWS: usize = ROW_LENGTH * PORTS;
 
-const SETTINGS: usize = 5355;
+const SETTINGS: usize = 9 * SETTINGS_LENGTH;
 
 // Room of zeros. The promise gives the length alone, which is what lending a part of it asks for.
 fn rows_room() -> [u16; ROWS]
-    ensures { λ r. ⌜ 31878 ≡ length r ⌝ }
+    ensures { λ r. ⌜ listLength (block 3 3) ≡ length r ⌝ }
 {
     [0; ROWS]
 }
 
 fn settings_room() -> [u16; SETTINGS]
-    ensures { λ r. ⌜ 5355 ≡ length r ⌝ }
+    ensures { λ r. ⌜ settingsTotal (size 3 3) ≡ length r ⌝ }
 {
     [0; SETTINGS]
 }
 
 fn ports_room() -> [u16; PORTS]
-    ensures { λ r. ⌜ 4554 ≡ length r ⌝ }
+    ensures { λ r. ⌜ ports (block 3 3) ≡ length r ⌝ }
 {
     [0; PORTS]
 }
@@ -92,8 +95,7 @@ fn put_accepted(
 
 // The report of a block's bits, in room of the exact lengths.
 fn put_built(
-    w: u32,
-    h: u32,
+    b: Block,
     table: &[u16],
     bits: &[u8],
     list: &mut [u16],
@@ -105,14 +107,13 @@ fn put_built(
     queue: &mut [u16],
     out: &mut [u8],
 ) -> usize
-    requires { ⌜ Small w h × (length (now out) ≡ outLength) ⌝ }
-    requires { ⌜ BuildLong (tiles (block w h)) (length (now table)) (length (now bits)) (length (now list)) (length (now settings)) (length (now wires)) (length (now sources)) (length (now rows)) (length (now marks)) (length (now queue)) ⌝ }
-    ensures next { λ r. ⌜ r ≡ 0 + length (blockLines w h (now (table .entry)) (now (bits .entry))) ⌝ }
-    ensures out { λ r. ⌜ now (out .exit) ≡ placed 0 (blockLines w h (now (table .entry)) (now (bits .entry))) (now (out .entry)) ⌝ }
+    requires { ⌜ Small (b .w) (b .h) × (length (now out) ≡ outLength) ⌝ }
+    requires { ⌜ BuildLong b (buildLent (now table) (now bits) (now settings) (roomLent (now list) (now wires) (now sources) (now rows) (now marks) (now queue))) ⌝ }
+    ensures next { λ r. ⌜ r ≡ 0 + length (blockLines b (now (table .entry)) (now (bits .entry))) ⌝ }
+    ensures out { λ r. ⌜ now (out .exit) ≡ placed 0 (blockLines b (now (table .entry)) (now (bits .entry))) (now (out .entry)) ⌝ }
 {
     let built = block::build(
-        w,
-        h,
+        b,
         table,
         bits,
         list,
@@ -126,21 +127,21 @@ fn put_built(
     match built {
         Built::Refused(r) => put_refusal(r, out),
         Built::Listed(rows_listed) => {
-            put_accepted(Block { w, h }, table, bits, settings, wires, sources, out)
+            put_accepted(b, table, bits, settings, wires, sources, out)
         }
     }
 }
 
 // The report of a block's bits.
-pub fn put_block(w: u32, h: u32, table: &[u16], bits: &[u8], out: &mut [u8]) -> usize
-    requires { ⌜ Small w h × (length (now bits) ≡ tileNumbers * tiles (block w h)) × (length (now table) ≡ tableLength) × (length (now out) ≡ outLength) ⌝ }
-    ensures next { λ r. ⌜ r ≡ 0 + length (blockLines w h (now (table .entry)) (now (bits .entry))) ⌝ }
-    ensures out { λ r. ⌜ now (out .exit) ≡ placed 0 (blockLines w h (now (table .entry)) (now (bits .entry))) (now (out .entry)) ⌝ }
+pub fn put_block(b: Block, table: &[u16], bits: &[u8], out: &mut [u8]) -> usize
+    requires { ⌜ Small (b .w) (b .h) × (length (now bits) ≡ bitsLength (sizeOf b)) × (length (now table) ≡ tableLength) × (length (now out) ≡ outLength) ⌝ }
+    ensures next { λ r. ⌜ r ≡ 0 + length (blockLines b (now (table .entry)) (now (bits .entry))) ⌝ }
+    ensures out { λ r. ⌜ now (out .exit) ≡ placed 0 (blockLines b (now (table .entry)) (now (bits .entry))) (now (out .entry)) ⌝ }
 {
-    let tiles = (h * w) as usize;
-    let n = 506 * tiles;
-    let numbers = 7 * n;
-    let s = 595 * tiles;
+    let tiles = (b.h * b.w) as usize;
+    let n = PORTS_PER_TILE as usize * tiles;
+    let numbers = ROW_LENGTH * n;
+    let s = SETTINGS_LENGTH * tiles;
     let mut list = rows_room();
     let mut rows = rows_room();
     let mut settings = settings_room();
@@ -149,8 +150,7 @@ pub fn put_block(w: u32, h: u32, table: &[u16], bits: &[u8], out: &mut [u8]) -> 
     let mut marks = ports_room();
     let mut queue = ports_room();
     put_built(
-        w,
-        h,
+        b,
         table,
         bits,
         &mut list[..numbers],

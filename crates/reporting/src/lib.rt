@@ -4,14 +4,19 @@
 // specs/Report.antt says what is printed. An input longer than `INPUT` bytes has the report of its first `INPUT` bytes (proofs/PrefixLaws.antt:
 // `report-prefix`), so a caller need read no more.
 ghost use mathlib.Core.Path.{_≡_};
-ghost use Prim.Native.Nat.{_+_, _*_, _≤_};
+ghost use Prim.Native.Nat.{_+_, _≤_};
 ghost use mathlib.Core.List.{_++_};
 ghost use lib.ListN.{length, drop};
+ghost use Rattle.ports.specs.Block.{size, sizeOf, tiles};
+ghost use Rattle.ports.specs.Lengths.{tableLength, bitsLength};
 ghost use Rattle.frames.specs.Whole.{Small};
 ghost use Rattle.frames.specs.Contents.{tableOf, bitsOf};
 ghost use Rattle.texts.specs.Pieces.{placed};
 ghost use Rattle.reporting.specs.Report.{outLength, blockLines, reportOf};
 use frames::input::Parsed;
+use ports::lengths::TABLE_LENGTH;
+use ports::lengths::TILE_NUMBERS;
+use ports::size::Block;
 
 pub mod blocks;
 
@@ -20,9 +25,9 @@ pub const INPUT: usize = 131072;
 
 pub const OUTPUT: usize = 51039;
 
-const TABLE: usize = 38469;
+const TABLE: usize = TABLE_LENGTH;
 
-const BITS: usize = 972;
+const BITS: usize = 9 * TILE_NUMBERS;
 
 // Room of zeros, of which callers need the length alone.
 pub fn input_room() -> [u8; INPUT]
@@ -38,38 +43,38 @@ pub fn output_room() -> [u8; OUTPUT]
 }
 
 fn table_room() -> [u16; TABLE]
-    ensures { λ r. ⌜ 38469 ≡ length r ⌝ }
+    ensures { λ r. ⌜ tableLength ≡ length r ⌝ }
 {
     [0; TABLE]
 }
 
 fn bits_room() -> [u8; BITS]
-    ensures { λ r. ⌜ 972 ≡ length r ⌝ }
+    ensures { λ r. ⌜ bitsLength (size 3 3) ≡ length r ⌝ }
 {
     [0; BITS]
 }
 
 // The report of an input whose frames are in order, in room of the exact lengths.
-fn put_frames(s: &[u8], w: u32, h: u32, table: &mut [u16], bits: &mut [u8], out: &mut [u8]) -> usize
-    requires { ⌜ Small w h × (length (now table) ≡ 38469) × (length (now bits) ≡ 108 * (h * w)) × (length (now out) ≡ outLength) ⌝ }
-    ensures next { λ r. ⌜ r ≡ 0 + length (blockLines w h (tableOf (now (s .entry))) (bitsOf (now (s .entry)) (h * w))) ⌝ }
-    ensures out { λ r. ⌜ now (out .exit) ≡ placed 0 (blockLines w h (tableOf (now (s .entry))) (bitsOf (now (s .entry)) (h * w))) (now (out .entry)) ⌝ }
+fn put_frames(s: &[u8], b: Block, table: &mut [u16], bits: &mut [u8], out: &mut [u8]) -> usize
+    requires { ⌜ Small (b .w) (b .h) × (length (now table) ≡ tableLength) × (length (now bits) ≡ bitsLength (sizeOf b)) × (length (now out) ≡ outLength) ⌝ }
+    ensures next { λ r. ⌜ r ≡ 0 + length (blockLines b (tableOf (now (s .entry))) (bitsOf (now (s .entry)) (tiles b))) ⌝ }
+    ensures out { λ r. ⌜ now (out .exit) ≡ placed 0 (blockLines b (tableOf (now (s .entry))) (bitsOf (now (s .entry)) (tiles b))) (now (out .entry)) ⌝ }
 {
     frames::contents::fill_table(s, table);
-    frames::contents::fill_bits(s, (h * w) as usize, bits);
-    blocks::put_block(w, h, table, bits, out)
+    frames::contents::fill_bits(s, (b.h * b.w) as usize, bits);
+    blocks::put_block(b, table, bits, out)
 }
 
 // The report of an input whose frames are in order.
-fn put_input(s: &[u8], w: u32, h: u32, out: &mut [u8]) -> usize
-    requires { ⌜ Small w h × (length (now out) ≡ outLength) ⌝ }
-    ensures next { λ r. ⌜ r ≡ 0 + length (blockLines w h (tableOf (now (s .entry))) (bitsOf (now (s .entry)) (h * w))) ⌝ }
-    ensures out { λ r. ⌜ now (out .exit) ≡ placed 0 (blockLines w h (tableOf (now (s .entry))) (bitsOf (now (s .entry)) (h * w))) (now (out .entry)) ⌝ }
+fn put_input(s: &[u8], b: Block, out: &mut [u8]) -> usize
+    requires { ⌜ Small (b .w) (b .h) × (length (now out) ≡ outLength) ⌝ }
+    ensures next { λ r. ⌜ r ≡ 0 + length (blockLines b (tableOf (now (s .entry))) (bitsOf (now (s .entry)) (tiles b))) ⌝ }
+    ensures out { λ r. ⌜ now (out .exit) ≡ placed 0 (blockLines b (tableOf (now (s .entry))) (bitsOf (now (s .entry)) (tiles b))) (now (out .entry)) ⌝ }
 {
-    let end = 108 * (h * w) as usize;
+    let end = TILE_NUMBERS * (b.h * b.w) as usize;
     let mut table = table_room();
     let mut bits = bits_room();
-    put_frames(s, w, h, &mut table, &mut bits[..end], out)
+    put_frames(s, b, &mut table, &mut bits[..end], out)
 }
 
 // The report of an input: how many bytes it has, at the front of `out`.
@@ -81,6 +86,6 @@ pub fn report(input: &[u8], out: &mut [u8; OUTPUT]) -> usize
 {
     match frames::input::parse(input) {
         Parsed::Refused(r) => blocks::put_refusal(r, out),
-        Parsed::Block(w, h) => put_input(input, w, h, out),
+        Parsed::Block(w, h) => put_input(input, Block { w, h }, out),
     }
 }

@@ -1,7 +1,8 @@
 -- `contents::fill_bits` meets its contract. Invariant: the first t parts are the tiles' bytes, and the length is the old one. Measure: the tiles
 -- that are left. Assumes nothing.
+use Rattle.ports.specs.Lengths.{tileBytes}
 use Rattle.frames.proofs.BoundLaws.{size-at-le}
-use Rattle.frames.specs.Contents.{tileBytes, bitsOf}
+use Rattle.frames.specs.Contents.{bytesOfTile, bitsOf}
 use Rattle.texts.specs.Hex.{pairAt}
 use Rattle.lists.proofs.PartLaws.{part-code-length, put-length, joined-step, joined-end}
 use Rattle.lists.specs.Parts.{joined}
@@ -15,7 +16,7 @@ use Rattle.frames.proofs.contents.fill_bits.Statement.{statement}
 use Rattle.frames.proofs.contents.fill_bits.Tie as tie
 
 abbrev Inv-loop : tie.InvT-loop
-Inv-loop s n bits₀ start t₀ bits t = (t ≤ n) × (length bits ≡ 108 * n) × (take (108 * t) bits ≡ joined (tileBytes s) t)
+Inv-loop s n bits₀ start t₀ bits t = (t ≤ n) × (length bits ≡ tileBytes * n) × (take (tileBytes * t) bits ≡ joined (bytesOfTile s) t)
 
 abbrev μ-loop : tie.MeasureT-loop
 μ-loop s n bits₀ start t₀ bits t = n - t
@@ -55,7 +56,7 @@ fill-tile-requires : tie.Need-fill-tile-requires Inv-loop μ-loop
 fill-tile-requires c κs =
     let at-loop = c .before .before in
     let at-start = at-loop .before .before .before .before .before in
-    (omega (arith, size-at-le (at-start .args .s .now)), part-code-length 108 (at-loop .loop .t) (at-start .args .n) (at-loop .loop .bits) (at-loop .loop .inv .1) (omega arith))
+    (omega (arith, size-at-le (at-start .args .s .now)), part-code-length tileBytes (at-loop .loop .t) (at-start .args .n) (at-loop .loop .bits) (at-loop .loop .inv .1) (omega arith))
 
 add-t : tie.Need-add-t Inv-loop μ-loop
 add-t c = search needs
@@ -74,11 +75,11 @@ loop-again c =
     let t = at-loop .loop .t in
     let bits = at-loop .loop .bits in
     let part = at-fill-tile .fill-tile .last .1 .1 .0 in
-    let long = at-fill-tile .fill-tile .kept .1 .1 .0 ∙ part-code-length 108 t (args .n) bits (at-loop .loop .inv .1) (omega arith) in
-    let same = at-fill-tile .fill-tile .ensures ∙ ap (λ a. tabulate (λ j. pairAt s (a + 7 + 219 * t + 2 + 2 * j)) 0 108) (at-count-groups .count-groups .ensures .1) in (
+    let long = at-fill-tile .fill-tile .kept .1 .1 .0 ∙ part-code-length tileBytes t (args .n) bits (at-loop .loop .inv .1) (omega arith) in
+    let same = at-fill-tile .fill-tile .ensures ∙ ap (λ a. tabulate (λ j. pairAt s (a + 7 + 219 * t + 2 + 2 * j)) 0 tileBytes) (at-count-groups .count-groups .ensures .1) in (
       omega arith,
-      put-length 108 t bits part (omega arith) long ∙ at-loop .loop .inv .1,
-      joined-step 108 (tileBytes s) t bits part (omega arith) long (at-loop .loop .inv .2) same (108 * (t + 1)) (omega arith),
+      put-length tileBytes t bits part (omega arith) long ∙ at-loop .loop .inv .1,
+      joined-step tileBytes (bytesOfTile s) t bits part (omega arith) long (at-loop .loop .inv .2) same (tileBytes * (t + 1)) (omega arith),
     )
 
 same-length : tie.Need-same-length Inv-loop μ-loop
@@ -89,7 +90,7 @@ unfolding bitsOf
 returns c =
     let at-loop = c .before in
     let at-start = at-loop .before .before .before .before .before in
-    joined-end (tileBytes (at-start .args .s .now)) (at-loop .loop .t) _ (108 * at-loop .loop .t) (at-loop .loop .bits) (at-loop .loop .inv .2) (omega arith) (omega arith)
+    joined-end (bytesOfTile (at-start .args .s .now)) (at-loop .loop .t) _ (tileBytes * at-loop .loop .t) (at-loop .loop .bits) (at-loop .loop .inv .2) (omega arith) (omega arith)
 
 pub fill-bits-spec : {M : Type 1} → statement M
 fill-bits-spec =

@@ -1,4 +1,5 @@
 -- `contents::fill_tile` meets its contract. Invariant: the first j bytes are the tile's (`Filled`). Measure: the bytes left. Assumes nothing.
+use Rattle.ports.specs.Lengths.{tileBytes}
 use Rattle.texts.proofs.HexLaws.{pair-lt}
 use Rattle.texts.specs.Hex.{pairAt}
 use Rattle.lists.proofs.TableLaws.{Filled, filled-start, filled-step, filled-end}
@@ -10,10 +11,10 @@ use Rattle.frames.proofs.contents.fill_tile.Statement.{statement}
 use Rattle.frames.proofs.contents.fill_tile.Tie as tie
 
 abbrev Inv-loop : tie.InvT-loop
-Inv-loop s at tile₀ j₀ tile j = Filled (λ k. pairAt s (at + 2 + 2 * k)) 0 108 j tile
+Inv-loop s at tile₀ j₀ tile j = Filled (λ k. pairAt s (at + 2 + 2 * k)) 0 tileBytes j tile
 
 abbrev μ-loop : tie.MeasureT-loop
-μ-loop s at tile₀ j₀ tile j = 108 - j
+μ-loop s at tile₀ j₀ tile j = tileBytes - j
 
 loop-holds : tie.Need-loop-holds Inv-loop μ-loop
 loop-holds c = filled-start _ _ _ _ (c .before .before .pre .1)

@@ -1,10 +1,10 @@
 -- `blocks::put_built` meets its contract: what building answered decides which lines. Assumes nothing.
+use Rattle.block.specs.Lengths.{roomLent, buildLent}
 use Rattle.reporting.proofs.SizeLaws.{small-tiles}
 use Rattle.texts.proofs.PutsLaws.{puts-line}
 use Rattle.reporting.proofs.BlockLaws.{refused-lines, listed-lines, listed-decodable}
 use Rattle.block.specs.Meaning.{BuildSays}
 use Rattle.block.proofs.LengthLaws.{build-long-exact}
-use Rattle.ports.specs.Block.{block, tiles}
 use lib.ListN.{length}
 use mathlib.Core.Path.{_∙_, subst}
 use borrow.Author.Needs.{needs}
@@ -30,13 +30,13 @@ put-accepted-requires c κs =
     let at-built2 = c .before .before .before .before .before in
     let at-build = at-built2 .before .before .before .before .before .before .before .before .before .before .before .before .before .before .before .before in
     let at-start = at-build .before .before .before .before .before .before .before .before .before .before .before .before .before .before .before .before .before .before in
-    let says = subst (BuildSays (at-start .args .w) (at-start .args .h) (at-start .args .table .now) (at-start .args .bits .now) (length (at-start .args .list .now)) (length (at-start .args .settings .now)) (length (at-start .args .wires .now)) (length (at-start .args .sources .now)) (length (at-start .args .rows .now)) (length (at-start .args .marks .now)) (length (at-start .args .queue .now))) (at-built2 .built2 .given .1) (at-build .build .ensures .1 .1 .1 .1 .1 .1 .1 .1) in (
-      (says .0 .size, small-tiles _ _ (at-start .pre .0 .0), says .0 .rules, listed-decodable _ _ _ _ _ _ (at-build .build .ensures .0) (build-long-exact (tiles (block (at-start .args .w) (at-start .args .h))) (length (at-start .args .table .now)) (length (at-start .args .bits .now)) (length (at-start .args .list .now)) (length (at-start .args .settings .now)) (length (at-start .args .wires .now)) (length (at-start .args .sources .now)) (length (at-start .args .rows .now)) (length (at-start .args .marks .now)) (length (at-start .args .queue .now)) .1 (at-start .pre .1)) (at-built2 .built2 .given .0 .0) (at-built2 .built2 .given .1)),
+    let says = subst (BuildSays (at-start .args .b) (at-start .args .table .now) (at-start .args .bits .now) (buildLent (at-start .args .table .now) (at-start .args .bits .now) (at-start .args .settings .now) (roomLent (at-start .args .list .now) (at-start .args .wires .now) (at-start .args .sources .now) (at-start .args .rows .now) (at-start .args .marks .now) (at-start .args .queue .now)))) (at-built2 .built2 .given .1) (at-build .build .ensures .1 .1 .1 .1 .1 .1 .1 .1) in (
+      (says .0 .size, small-tiles _ (at-start .pre .0 .0), says .0 .rules, listed-decodable _ _ _ _ _ (at-build .build .ensures .0) (build-long-exact (at-start .args .b) (buildLent (at-start .args .table .now) (at-start .args .bits .now) (at-start .args .settings .now) (roomLent (at-start .args .list .now) (at-start .args .wires .now) (at-start .args .sources .now) (at-start .args .rows .now) (at-start .args .marks .now) (at-start .args .queue .now))) .1 (at-start .pre .1)) (at-built2 .built2 .given .0 .0) (at-built2 .built2 .given .1)),
       (
         at-start .pre .1 .bits-long,
-        at-build .build .kept .1 .1 .1 .1 .1 .0 ∙ at-start .pre .1 .settings-long,
-        at-build .build .kept .1 .1 .1 .1 .1 .1 .0 ∙ at-start .pre .1 .room-long .wires-long,
-        at-build .build .kept .1 .1 .1 .1 .1 .1 .1 .0 ∙ at-start .pre .1 .room-long .sources-long,
+        at-build .build .kept .1 .1 .1 .1 .0 ∙ at-start .pre .1 .settings-long,
+        at-build .build .kept .1 .1 .1 .1 .1 .0 ∙ at-start .pre .1 .room-long .wires-long,
+        at-build .build .kept .1 .1 .1 .1 .1 .1 .0 ∙ at-start .pre .1 .room-long .sources-long,
         at-start .pre .0 .1,
       ),
     )
@@ -45,37 +45,37 @@ put-accepted-requires c κs =
 same-length : tie.Need-same-length
 same-length c =
     let at-build = c .before .before .before .before .before .before .before .before .before .before .before .before .before .before .before .before .before .before .before .before .before in
-    at-build .build .kept .1 .1 .1 .1 .0
+    at-build .build .kept .1 .1 .1 .0
 
 same-length-2 : tie.Need-same-length-2
 same-length-2 c =
     let at-build = c .before .before .before .before .before .before .before .before .before .before .before .before .before .before .before .before .before .before .before .before .before in
-    at-build .build .kept .1 .1 .1 .1 .1 .0
+    at-build .build .kept .1 .1 .1 .1 .0
 
 same-length-3 : tie.Need-same-length-3
 same-length-3 c =
     let at-build = c .before .before .before .before .before .before .before .before .before .before .before .before .before .before .before .before .before .before .before .before .before in
-    at-build .build .kept .1 .1 .1 .1 .1 .1 .0
+    at-build .build .kept .1 .1 .1 .1 .1 .0
 
 same-length-4 : tie.Need-same-length-4
 same-length-4 c =
     let at-build = c .before .before .before .before .before .before .before .before .before .before .before .before .before .before .before .before .before .before .before .before .before in
-    at-build .build .kept .1 .1 .1 .1 .1 .1 .1 .0
+    at-build .build .kept .1 .1 .1 .1 .1 .1 .0
 
 same-length-5 : tie.Need-same-length-5
 same-length-5 c =
     let at-build = c .before .before .before .before .before .before .before .before .before .before .before .before .before .before .before .before .before .before .before .before .before in
-    at-build .build .kept .1 .1 .1 .1 .1 .1 .1 .1 .0
+    at-build .build .kept .1 .1 .1 .1 .1 .1 .1 .0
 
 same-length-6 : tie.Need-same-length-6
 same-length-6 c =
     let at-build = c .before .before .before .before .before .before .before .before .before .before .before .before .before .before .before .before .before .before .before .before .before in
-    at-build .build .kept .1 .1 .1 .1 .1 .1 .1 .1 .1 .0
+    at-build .build .kept .1 .1 .1 .1 .1 .1 .1 .1 .0
 
 same-length-7 : tie.Need-same-length-7
 same-length-7 c =
     let at-build = c .before .before .before .before .before .before .before .before .before .before .before .before .before .before .before .before .before .before .before .before .before in
-    at-build .build .kept .1 .1 .1 .1 .1 .1 .1 .1 .1 .1 .0
+    at-build .build .kept .1 .1 .1 .1 .1 .1 .1 .1 .1 .0
 
 same-length-8 : tie.Need-same-length-8
 same-length-8 c = let at-put-refusal = c .before .before in at-put-refusal .put-refusal .kept .1 .0
@@ -86,45 +86,45 @@ returns c =
     let at-built = at-put-refusal .before .before .before in
     let at-build = at-built .before .before .before .before .before .before .before .before .before .before .before .before .before .before .before .before in
     let at-start = at-build .before .before .before .before .before .before .before .before .before .before .before .before .before .before .before .before .before .before in
-    puts-line _ _ _ _ _ _ (refused-lines _ _ _ _ _ _ (at-build .build .ensures .0) (build-long-exact (tiles (block (at-start .args .w) (at-start .args .h))) (length (at-start .args .table .now)) (length (at-start .args .bits .now)) (length (at-start .args .list .now)) (length (at-start .args .settings .now)) (length (at-start .args .wires .now)) (length (at-start .args .sources .now)) (length (at-start .args .rows .now)) (length (at-start .args .marks .now)) (length (at-start .args .queue .now)) .1 (at-start .pre .1)) (at-built .built .given .0 .0) (at-built .built .given .1)) (at-put-refusal .put-refusal .ensures)
+    puts-line _ _ _ _ _ _ (refused-lines _ _ _ _ _ (at-build .build .ensures .0) (build-long-exact (at-start .args .b) (buildLent (at-start .args .table .now) (at-start .args .bits .now) (at-start .args .settings .now) (roomLent (at-start .args .list .now) (at-start .args .wires .now) (at-start .args .sources .now) (at-start .args .rows .now) (at-start .args .marks .now) (at-start .args .queue .now))) .1 (at-start .pre .1)) (at-built .built .given .0 .0) (at-built .built .given .1)) (at-put-refusal .put-refusal .ensures)
 
 same-length-9 : tie.Need-same-length-9
 same-length-9 c =
     let at-build = c .before .before .before .before .before .before .before .before .before .before .before .before .before .before .before .before .before .before .before .before .before .before .before .before .before .before .before .before .before .before in
-    at-build .build .kept .1 .1 .1 .1 .0
+    at-build .build .kept .1 .1 .1 .0
 
 same-length-10 : tie.Need-same-length-10
 same-length-10 c =
     let at-put-accepted = c .before .before .before .before .before .before .before .before in
     let at-build = at-put-accepted .before .before .before .before .before .before .before .before .before .before .before .before .before .before .before .before .before .before .before .before .before .before in
-    at-put-accepted .put-accepted .kept .1 .1 .1 .0 ∙ at-build .build .kept .1 .1 .1 .1 .1 .0
+    at-put-accepted .put-accepted .kept .1 .1 .1 .0 ∙ at-build .build .kept .1 .1 .1 .1 .0
 
 same-length-11 : tie.Need-same-length-11
 same-length-11 c =
     let at-put-accepted = c .before .before .before .before .before .before .before .before in
     let at-build = at-put-accepted .before .before .before .before .before .before .before .before .before .before .before .before .before .before .before .before .before .before .before .before .before .before in
-    at-put-accepted .put-accepted .kept .1 .1 .1 .1 .0 ∙ at-build .build .kept .1 .1 .1 .1 .1 .1 .0
+    at-put-accepted .put-accepted .kept .1 .1 .1 .1 .0 ∙ at-build .build .kept .1 .1 .1 .1 .1 .0
 
 same-length-12 : tie.Need-same-length-12
 same-length-12 c =
     let at-put-accepted = c .before .before .before .before .before .before .before .before in
     let at-build = at-put-accepted .before .before .before .before .before .before .before .before .before .before .before .before .before .before .before .before .before .before .before .before .before .before in
-    at-put-accepted .put-accepted .kept .1 .1 .1 .1 .1 .0 ∙ at-build .build .kept .1 .1 .1 .1 .1 .1 .1 .0
+    at-put-accepted .put-accepted .kept .1 .1 .1 .1 .1 .0 ∙ at-build .build .kept .1 .1 .1 .1 .1 .1 .0
 
 same-length-13 : tie.Need-same-length-13
 same-length-13 c =
     let at-build = c .before .before .before .before .before .before .before .before .before .before .before .before .before .before .before .before .before .before .before .before .before .before .before .before .before .before .before .before .before .before in
-    at-build .build .kept .1 .1 .1 .1 .1 .1 .1 .1 .0
+    at-build .build .kept .1 .1 .1 .1 .1 .1 .1 .0
 
 same-length-14 : tie.Need-same-length-14
 same-length-14 c =
     let at-build = c .before .before .before .before .before .before .before .before .before .before .before .before .before .before .before .before .before .before .before .before .before .before .before .before .before .before .before .before .before .before in
-    at-build .build .kept .1 .1 .1 .1 .1 .1 .1 .1 .1 .0
+    at-build .build .kept .1 .1 .1 .1 .1 .1 .1 .1 .0
 
 same-length-15 : tie.Need-same-length-15
 same-length-15 c =
     let at-build = c .before .before .before .before .before .before .before .before .before .before .before .before .before .before .before .before .before .before .before .before .before .before .before .before .before .before .before .before .before .before in
-    at-build .build .kept .1 .1 .1 .1 .1 .1 .1 .1 .1 .1 .0
+    at-build .build .kept .1 .1 .1 .1 .1 .1 .1 .1 .1 .0
 
 same-length-16 : tie.Need-same-length-16
 same-length-16 c =
@@ -137,7 +137,7 @@ returns-2 c =
     let at-built2 = at-put-accepted .before .before .before .before .before .before in
     let at-build = at-built2 .before .before .before .before .before .before .before .before .before .before .before .before .before .before .before .before in
     let at-start = at-build .before .before .before .before .before .before .before .before .before .before .before .before .before .before .before .before .before .before in
-    puts-line _ _ _ _ _ _ (listed-lines _ _ _ _ _ _ (at-build .build .ensures .0) (build-long-exact (tiles (block (at-start .args .w) (at-start .args .h))) (length (at-start .args .table .now)) (length (at-start .args .bits .now)) (length (at-start .args .list .now)) (length (at-start .args .settings .now)) (length (at-start .args .wires .now)) (length (at-start .args .sources .now)) (length (at-start .args .rows .now)) (length (at-start .args .marks .now)) (length (at-start .args .queue .now)) .1 (at-start .pre .1)) (at-built2 .built2 .given .0 .0) (at-built2 .built2 .given .1)) (at-put-accepted .put-accepted .ensures)
+    puts-line _ _ _ _ _ _ (listed-lines _ _ _ _ _ (at-build .build .ensures .0) (build-long-exact (at-start .args .b) (buildLent (at-start .args .table .now) (at-start .args .bits .now) (at-start .args .settings .now) (roomLent (at-start .args .list .now) (at-start .args .wires .now) (at-start .args .sources .now) (at-start .args .rows .now) (at-start .args .marks .now) (at-start .args .queue .now))) .1 (at-start .pre .1)) (at-built2 .built2 .given .0 .0) (at-built2 .built2 .given .1)) (at-put-accepted .put-accepted .ensures)
 
 pub put-built-spec : {M : Type 1} → statement M
 put-built-spec =

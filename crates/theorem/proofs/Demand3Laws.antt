@@ -6,7 +6,8 @@ use mathlib.Core.List.{List}
 use native.Mathlib.Omega.{arith}
 use Rattle.lists.specs.Tables.{zeros}
 use Rattle.lists.proofs.TableLaws.{zeros-length}
-use Rattle.refusal.specs.declared.Refusal.the-variants.{WrongSize, WrongLength, Table, Undecodable, Contention, DisabledCarry, Loop, CellClock, NoSuchSettings, NotABit, Line, Row, OutOfRange}
+use Rattle.refusal.specs.declared.Refusal.{Refusal}
+use Rattle.refusal.specs.declared.Refusal.the-variants.{Loop}
 use Rattle.ports.specs.declared.size.Block.{Block}
 use Rattle.ports.specs.Lengths.{ports}
 use Rattle.fabric.specs.Count.{wires}
@@ -20,7 +21,7 @@ use Rattle.equations.proofs.SettlingLaws.{settles}
 use Rattle.block.specs.declared.Built.{Built}
 use Rattle.block.specs.declared.Built.the-variants.{Listed, Refused}
 use Rattle.block.specs.Building.{listAnswer}
-use Rattle.block.specs.Meaning.{Accepted, ListSays}
+use Rattle.block.specs.Meaning.{Accepted, ListSays, ListNo, contention, disabled-carry, loop, cell-clock}
 use Rattle.block.proofs.MeaningLaws.{list-says}
 use Rattle.stepper.specs.Settling.{settledBy, portValues, badRow}
 use Rattle.stepper.specs.Clocking.{nextStates}
@@ -34,24 +35,22 @@ module _ (B : Block) (t st : List ℕ) (ok : Routed B t st) where
 
   -- "Each block that passes checks 1 to 6 [..] is refused as a loop [..] exactly if some wire depends on itself."
   pub loop-exactly : LoopExactly B t st
-  loop-exactly free unread = (λ r. (r .0, subst (ListSays B t st) (r .1) says .2 .here), λ d. go (d .0) (d .1) (listAnswer B t st) says refl)
+  loop-exactly free unread = (λ r. (r .0, looped (r .0) (subst (ListSays B t st) (r .1) says)), λ d. go (d .0) (d .1) (listAnswer B t st) says refl)
     where
+      looped : (w : ℕ) → ListNo B t st (Loop w) → Depends B t st w w
+      looped w (loop v f u s) = s .here
+
+      no : (w : ℕ) → Depends B t st w w → (refusal : Refusal) → ListNo B t st refusal → listAnswer B t st ≡ Refused refusal
+          → (v : ℕ) × (listAnswer B t st ≡ Refused (Loop v))
+      no w d refusal (contention v s) e = absurd (free v (s .here))
+      no w d refusal (disabled-carry v f s) e = absurd (unread v (s .here))
+      no w d refusal (loop v f u s) e = (v, e)
+      no w d refusal (cell-clock T f u straight s) e = absurd (straight w d)
+
       go : (w : ℕ) → Depends B t st w w → (a : Built) → ListSays B t st a → listAnswer B t st ≡ a
           → (v : ℕ) × (listAnswer B t st ≡ Refused (Loop v))
       go w d (Listed rows) s e = absurd (s .1 .no-loop w d)
-      go w d (Refused (Loop v)) s e = (v, e)
-      go w d (Refused (Contention v)) s e = absurd (free v (s .here))
-      go w d (Refused (DisabledCarry v)) s e = absurd (unread v (s .1 .here))
-      go w d (Refused (CellClock T)) s e = absurd (s .2 w d)
-      go w d (Refused WrongSize) s e = absurd s
-      go w d (Refused WrongLength) s e = absurd s
-      go w d (Refused (Table part)) s e = absurd s
-      go w d (Refused (Undecodable tile)) s e = absurd s
-      go w d (Refused (NoSuchSettings tile)) s e = absurd s
-      go w d (Refused (NotABit index)) s e = absurd s
-      go w d (Refused (Line line)) s e = absurd s
-      go w d (Refused (Row row)) s e = absurd s
-      go w d (Refused (OutOfRange number)) s e = absurd s
+      go w d (Refused refusal) s e = no w d refusal s e
 
   -- ---- an accepted block
 

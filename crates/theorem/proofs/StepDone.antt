@@ -7,7 +7,7 @@ use native.Mathlib.Omega.{arith}
 use lib.ListN.{length}
 use Rattle.refusal.specs.declared.Answer.the-variants.{Done}
 use Rattle.ports.specs.declared.size.Block.{Block}
-use Rattle.ports.specs.Block.{Sized, block, tiles}
+use Rattle.ports.specs.Block.{Sized, tiles}
 use Rattle.ports.proofs.BlockLaws.{sized-true}
 use Rattle.routing.specs.LogicTile.{logicTile}
 use Rattle.ports.specs.Lengths.{tableLength, settingsLength}
@@ -25,21 +25,18 @@ use Rattle.sim.proofs.StepLaws.{run-done, inputs-run, step-inputs}
 use Rattle.theorem.proofs.Demand3Laws.{own-passes}
 
 -- grounds 1, 2, 3 and 9 passed
-module _ (w h : ℕ) (t st : List ℕ) (size : Sized (block w h)) (table-long : length t ≡ tableLength)
-    (settings-long : length st ≡ settingsLength * tiles (block w h)) (kept : tableOk logicTile t ≡ true)
-    (fits : tiles (block w h) ≤ bitlessTile t st (tiles (block w h))) where
-  abbrev B : Block
-  B = block w h
-
+module _ (B : Block) (t st : List ℕ) (size : Sized B) (table-long : length t ≡ tableLength)
+    (settings-long : length st ≡ settingsLength * tiles B) (kept : tableOk logicTile t ≡ true)
+    (fits : tiles B ≤ bitlessTile t st (tiles B)) where
   pub routed : Routed B t st
   routed = routed-of-fit B t st size (table-exact logicTile t table-long .0 kept) settings-long fits
 
   -- "A step takes that block's size, table, settings and list, any such state and any two such sets of lent values": grounds 12 and 10 pass too
   pub step-done : (rows : ℕ) → listAnswer B t st ≡ Listed rows → (state before after : List ℕ) → Inputs B state before → Inputs B state after
-      → stepAnswer w h t st (blockList B t st) state before after true ≡ Done
+      → stepAnswer B t st (blockList B t st) state before after true ≡ Done
   step-done rows listed state before after hb ha =
       let list = blockList B t st in
       let p = own-passes B t st routed rows listed in
-      sym (step-inputs w h t st list state before after true (sized-true B size) refl)
+      sym (step-inputs B t st list state before after true (sized-true B size) refl)
       ∙ sym (inputs-run B t st list state before after kept fits)
       ∙ sym (run-done B list state before after (omega arith) (joined-of-bits state before after (hb .state-bits) (hb .lent-bits) (ha .lent-bits)))

@@ -6,7 +6,7 @@ use lib.Dec.{ltb}
 use Rattle.refusal.specs.Grounds.{unless, numberOf, placeOf}
 use Rattle.refusal.specs.declared.Refusal.the-variants.{WrongSize, WrongLength, Table, NoSuchSettings, Contention, OutOfRange}
 use Rattle.ports.specs.declared.size.Block.{Block}
-use Rattle.ports.specs.Block.{tiles, sized, portOf}
+use Rattle.ports.specs.Block.{tiles, sized, tilePort}
 use Rattle.ports.specs.Lengths.{ports, portsPerTile}
 use Rattle.fabric.specs.Wire.{wireOf}
 use Rattle.routing.specs.LogicTile.{logicTile}
@@ -51,7 +51,7 @@ portAnswer B t st tile port =
     unless (none (ports B) (contendedWire B t st)) (Refused (Contention (contendedWire B t st)))
     (unless (ltb tile (tiles B)) (Refused (OutOfRange tile))
     (unless (ltb port portsPerTile) (Refused (OutOfRange port))
-    (Driven (driverOf B (sourcesOf B t st) (wireOf B (portOf tile port))))))
+    (Driven (driverOf B (sourcesOf B t st) (wireOf B (tilePort B tile port))))))
 
 -- grounds 3, 9, 5 and 20
 unfoldable pub settingsAnswer : Block → List ℕ → List ℕ → ℕ → ℕ → Followed

@@ -40,10 +40,10 @@ ten-digit bits p k h = digit-from-digits (λ (j : ℕ). bitAt bits (p + j)) (λ 
 
 -- where the two tens of cell i begin, and both as one number
 abbrev pub firstTen : ℕ → ℕ
-firstTen i = 108 * i + 36
+firstTen i = 2 * 54 * i + 36
 
 abbrev pub secondTen : ℕ → ℕ
-secondTen i = 108 * i + 90
+secondTen i = 2 * 54 * i + 90
 
 abbrev pub tensOf : List ℕ → ℕ → ℕ
 tensOf bits i = tenFrom (bitAt bits) (firstTen i) + 1024 * tenFrom (bitAt bits) (secondTen i)

@@ -16,11 +16,13 @@ use crate::bits::read_bit;
 use crate::cells::CELLS_FROM;
 use crate::groups::GroupRead;
 use crate::groups::read_group;
+use ports::lengths::FIELDS;
+use ports::lengths::MAX_PASSIVES;
 use ports::lengths::SETTINGS_LENGTH;
 
-pub const PASSIVES_FROM: usize = 3;
+pub const PASSIVES_FROM: usize = FIELDS;
 
-pub const GROUPS_FROM: usize = 67;
+pub const GROUPS_FROM: usize = PASSIVES_FROM + MAX_PASSIVES;
 
 // A group's setting.
 pub fn group_setting(table: &[u16], g: usize, bits: &[u8]) -> u16

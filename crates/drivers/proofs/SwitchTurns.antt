@@ -29,17 +29,17 @@ module _ (T g : ℕ) (lg : g < maxGroups) where
   group-is : groupIn (maxGroups * T + g) ≡ g
   group-is = omega arith
 
-  pub switch-past : (t st : List ℕ) → groupCount logicTile t ≤ g → enabled t st (maxGroups * T + g) ≡ false
+  pub switch-past : (B : Block) (t st : List ℕ) → groupCount logicTile t ≤ g → enabled B t st (maxGroups * T + g) ≡ false
   unfolding enabled
-  switch-past t st h = rw (group-is, le-ltb g (groupCount logicTile t) h)
+  switch-past B t st h = rw (group-is, le-ltb g (groupCount logicTile t) h)
 
-  pub switch-off : (t st : List ℕ) → g < groupCount logicTile t → groupOf st T g ≡ 0 → enabled t st (maxGroups * T + g) ≡ false
+  pub switch-off : (B : Block) (t st : List ℕ) → g < groupCount logicTile t → groupOf st T g ≡ 0 → enabled B t st (maxGroups * T + g) ≡ false
   unfolding enabled
-  switch-off t st h z = rw (tile-is, group-is, lt-ltb g (groupCount logicTile t) h, eq-eqb (groupOf st T g) 0 z)
+  switch-off B t st h z = rw (tile-is, group-is, lt-ltb g (groupCount logicTile t) h, eq-eqb (groupOf st T g) 0 z)
 
-  pub switch-on : (t st : List ℕ) → g < groupCount logicTile t → groupOf st T g ≢ 0 → enabled t st (maxGroups * T + g) ≡ true
+  pub switch-on : (B : Block) (t st : List ℕ) → g < groupCount logicTile t → groupOf st T g ≢ 0 → enabled B t st (maxGroups * T + g) ≡ true
   unfolding enabled
-  switch-on t st h nz = rw (tile-is, group-is, lt-ltb g (groupCount logicTile t) h, ne-eqb (groupOf st T g) 0 nz)
+  switch-on B t st h nz = rw (tile-is, group-is, lt-ltb g (groupCount logicTile t) h, ne-eqb (groupOf st T g) 0 nz)
 
   pub switch-target : (B : Block) (t : List ℕ) → wireOf B (portOf T (destinationOf logicTile t g)) ≡ target B t (maxGroups * T + g)
   unfolding target
@@ -49,7 +49,7 @@ module _ (T g : ℕ) (lg : g < maxGroups) where
   unfolding origin
   switch-origin B t st = rw (tile-is, group-is)
 
-  module _ (B : Block) (t st : List ℕ) (ok : Routed B t st) (lT : T < tiles B) (on : enabled t st (maxGroups * T + g) ≡ true) where
+  module _ (B : Block) (t st : List ℕ) (ok : Routed B t st) (lT : T < tiles B) (on : enabled B t st (maxGroups * T + g) ≡ true) where
     switch-lt : maxGroups * T + g < switches B
     switch-lt = omega arith
 
@@ -84,7 +84,7 @@ module _ (B : Block) (t st : List ℕ) (T : ℕ) where
       → Sourced B t st (maxGroups * T + maxGroups) x low
   skips zero g low x h e s = subst (λ (m : ℕ). Sourced B t st (maxGroups * T + m) x low) (let q : g ≡ maxGroups = omega arith in q) s
   skips (suc k) g low x h e s =
-      skips k (g + 1) low x (omega arith) (omega arith) (sourced-next g (sourced-skip B t st (maxGroups * T + g) low x s (switch-past T g (omega arith) t st h)))
+      skips k (g + 1) low x (omega arith) (omega arith) (sourced-next g (sourced-skip B t st (maxGroups * T + g) low x s (switch-past T g (omega arith) B t st h)))
 
   pub sourced-tile : (g low : ℕ) (x : List ℕ) → groupCount logicTile t ≤ g → g ≤ maxGroups → Sourced B t st (maxGroups * T + g) x low
       → Sourced B t st (maxGroups * (T + 1)) x low

@@ -6,7 +6,7 @@ use mathlib.Core.List.{List}
 use Rattle.lists.specs.Search.{first, all}
 use Rattle.digits.specs.Digits.{isSet}
 use Rattle.ports.specs.declared.size.Block.{Block}
-use Rattle.ports.specs.Block.{tiles, portOf}
+use Rattle.ports.specs.Block.{tiles, tilePort}
 use Rattle.ports.specs.PortIndex.{clk, sR}
 use Rattle.fabric.specs.Wire.{wireOf}
 use Rattle.equations.specs.Tiles.{flagsAt, flopOn}
@@ -46,7 +46,7 @@ anyCell p = not (all (λ i. not (p i)) 0 8)
 
 module _ (B : Block) (st sources : List ℕ) where
   abbrev pub drivenOutside : ℕ → ℕ → Bool
-  drivenOutside T q = isOutside (driverOf B sources (wireOf B (portOf T q)))
+  drivenOutside T q = isOutside (driverOf B sources (wireOf B (tilePort B T q)))
 
   unfoldable pub clockedAt : ℕ → Bool
   clockedAt T = (anyCell (flopOn st T) && not (drivenOutside T clk)) || (anyCell (asyncFlopOn st T) && not (drivenOutside T sR))

@@ -25,15 +25,15 @@ use Rattle.lists.proofs.GrowingSearch.{grow-old, grow-hit, grow-miss, or-false,
 module _ (B : Block) (t st : List ℕ) where
   -- ---- where switch s ends
 
-  ends-off : (s w : ℕ) → enabled t st s ≡ false → endsOn B t st w s ≡ false
+  ends-off : (s w : ℕ) → enabled B t st s ≡ false → endsOn B t st w s ≡ false
   unfolding endsOn
   ends-off s w e = rw e
 
   ends-apart : (s w : ℕ) → target B t s ≢ w → endsOn B t st w s ≡ false
   unfolding endsOn
-  ends-apart s w ne = and-false-right (enabled t st s) _ (ne-eqb _ _ ne)
+  ends-apart s w ne = and-false-right (enabled B t st s) _ (ne-eqb _ _ ne)
 
-  ends-here : (s : ℕ) → enabled t st s ≡ true → endsOn B t st (target B t s) s ≡ true
+  ends-here : (s : ℕ) → enabled B t st s ≡ true → endsOn B t st (target B t s) s ≡ true
   unfolding endsOn
   ends-here s e = rw (e, eq-eqb (target B t s) (target B t s) refl)
 
@@ -88,7 +88,7 @@ module _ (B : Block) (t st : List ℕ) where
 
   module _ (s low : ℕ) (x : List ℕ) (h : Sourced B t st s x low) where
     -- a group that is off, or that the table does not have
-    pub sourced-skip : enabled t st s ≡ false → Sourced B t st (suc s) x low
+    pub sourced-skip : enabled B t st s ≡ false → Sourced B t st (suc s) x low
     sourced-skip e = record {
       long = h .long;
       found = λ w l. h .found w l ∙ sym (source-off s w (ends-off s w e));
@@ -96,7 +96,7 @@ module _ (B : Block) (t st : List ℕ) where
     }
 
     -- an enabled switch that ends on u
-    module _ (u : ℕ) (e : enabled t st s ≡ true) (is : u ≡ target B t s) (lu : u < ports B) where
+    module _ (u : ℕ) (e : enabled B t st s ≡ true) (is : u ≡ target B t s) (lu : u < ports B) where
       on-u : endsOn B t st u s ≡ true
       on-u = rw is (ends-here s e)
 

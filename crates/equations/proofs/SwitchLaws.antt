@@ -44,11 +44,11 @@ source-lt q e =
 
 module _ (B : Block) (t st : List ℕ) where
   -- the table has its group, and the group is at an entry
-  pub enabled-group : (s : ℕ) → enabled t st s ≡ true → groupIn s < groupCount logicTile t
+  pub enabled-group : (s : ℕ) → enabled B t st s ≡ true → groupIn s < groupCount logicTile t
   unfolding enabled
   enabled-group s e = ltb-true _ _ (and-left (ltb (groupIn s) (groupCount logicTile t)) _ e)
 
-  pub enabled-on : (s : ℕ) → enabled t st s ≡ true → groupOf st (tileOf s) (groupIn s) ≢ 0
+  pub enabled-on : (s : ℕ) → enabled B t st s ≡ true → groupOf st (tileOf s) (groupIn s) ≢ 0
   unfolding enabled
   enabled-on s e = eqb-false _ _ (not-true _ (and-right (ltb (groupIn s) (groupCount logicTile t)) _ e))
 
@@ -58,7 +58,7 @@ module _ (B : Block) (t st : List ℕ) where
   -- `endsOn` is the test of `Ends`
   pub ends-of : (w s : ℕ) → s < switches B → endsOn B t st w s ≡ true → Ends B t st s w
   unfolding endsOn
-  ends-of w s l e = record { within = l; on = and-left (enabled t st s) _ e; onto = eqb-true _ _ (and-right (enabled t st s) _ e) }
+  ends-of w s l e = record { within = l; on = and-left (enabled B t st s) _ e; onto = eqb-true _ _ (and-right (enabled B t st s) _ e) }
 
   pub ends-on-true : (w s : ℕ) → Ends B t st s w → endsOn B t st w s ≡ true
   unfolding endsOn
@@ -91,7 +91,7 @@ module _ (B : Block) (t st : List ℕ) where
   -- ---- its two ends are wires of the block
 
   module _ (ok : Routed B t st) where
-    module _ (s : ℕ) (l : s < switches B) (e : enabled t st s ≡ true) where
+    module _ (s : ℕ) (l : s < switches B) (e : enabled B t st s ≡ true) where
       pub switch-destination : isDestination (destinationOf logicTile t (groupIn s)) ≡ true
       switch-destination = ok .destinations (groupIn s) (enabled-group s e)
 

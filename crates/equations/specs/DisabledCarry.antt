@@ -22,7 +22,7 @@ module _ (B : Block) (t st : List ℕ) where
 
   -- by whom a wire is read as a carry
   pub data CarryReader : ℕ → Type 0 where
-    by-switch : (s : ℕ) → s < switches B → enabled t st s ≡ true → CarryReader (origin B t st s)
+    by-switch : (s : ℕ) → s < switches B → enabled B t st s ≡ true → CarryReader (origin B t st s)
     by-chain : (T : ℕ) → T < tiles B → chained st T ≡ true → CarryReader (wire B t st T carryIn)
     by-next : (T i : ℕ) → T < tiles B → suc i < 8 → carryOn st T (suc i) ≡ true → CarryReader (wire B t st T (coutPort i))
 

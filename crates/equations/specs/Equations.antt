@@ -5,7 +5,7 @@ use mathlib.Core.Bool.{true, false}
 use mathlib.Core.List.{List}
 use lib.ListN.{getD}
 use Rattle.ports.specs.declared.size.Block.{Block}
-use Rattle.ports.specs.Block.{tiles, portOf}
+use Rattle.ports.specs.Block.{tiles, tilePort}
 use Rattle.ports.specs.PortIndex.{localPort, glb2Local, inPort, outPort, clk, cen, sR, glbNetwk, carryIn, carryInMux, coutPort, loutPort, ltin, sp4HL, neighBnl}
 use Rattle.fabric.specs.Wire.{wireOf}
 use Rattle.cell.specs.Lookup.{lookupBit, majority}
@@ -36,7 +36,7 @@ pub data OpenPort : ℕ → Type 0 where
 module _ (B : Block) (t st : List ℕ) where
   -- the wire of port q of tile T
   abbrev pub wire : ℕ → ℕ → ℕ
-  wire T q = wireOf B (portOf T q)
+  wire T q = wireOf B (tilePort B T q)
 
   -- no cell has an output on wire w
   pub record NoCell (w : ℕ) : Type 0 where
@@ -61,7 +61,7 @@ module _ (B : Block) (t st : List ℕ) where
     -- the values v meet every equation under this state and these lent values
     pub record Meets : Type 0 where
       -- "A wire with an enabled switch equals the source's wire."
-      pub switch : (s : ℕ) → s < switches B → enabled t st s ≡ true → getD v (target B t s) 0 ≡ getD v (origin B t st s) 0
+      pub switch : (s : ℕ) → s < switches B → enabled B t st s ≡ true → getD v (target B t s) 0 ≡ getD v (origin B t st s) 0
       -- "lout is the lookup"
       pub lout : (T i : ℕ) → T < tiles B → i < 8 → val T (loutPort i) ≡ looked T i
       -- "out is the flip-flop where enabled, else the lookup"
@@ -84,7 +84,7 @@ module _ (B : Block) (t st : List ℕ) where
   -- "A wire depends on those its equation reads, by structure, even where a table ignores an input [..]. A flip-flop out and a disabled cout
   -- depend on nothing." The equation of wire w reads wire d.
   pub data ReadsWire : ℕ → ℕ → Type 0 where
-    switch-reads : (s : ℕ) → s < switches B → enabled t st s ≡ true → ReadsWire (target B t s) (origin B t st s)
+    switch-reads : (s : ℕ) → s < switches B → enabled B t st s ≡ true → ReadsWire (target B t s) (origin B t st s)
     lout-reads : (T i j : ℕ) → T < tiles B → i < 8 → j < 4 → ReadsWire (wire T (loutPort i)) (wire T (inPort i j))
     out-reads : (T i j : ℕ) → T < tiles B → i < 8 → j < 4 → flopOn st T i ≡ false → ReadsWire (wire T (outPort i)) (wire T (inPort i j))
     cout-reads-in1 : (T i : ℕ) → T < tiles B → i < 8 → carryOn st T i ≡ true → ReadsWire (wire T (coutPort i)) (wire T (inPort i 1))

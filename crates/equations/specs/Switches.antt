@@ -6,9 +6,9 @@ use mathlib.Core.Bool.{Bool, true, not, _&&_}
 use mathlib.Core.List.{List}
 use lib.Dec.{eqb, ltb}
 use Rattle.ports.specs.declared.size.Block.{Block}
-use Rattle.ports.specs.Block.{tiles, portOf}
+use Rattle.ports.specs.Block.{tiles, tilePort}
 use Rattle.fabric.specs.Wire.{wireOf}
-use Rattle.routing.specs.LogicTile.{logicTile}
+use Rattle.routing.specs.TileTables.{kindOf, tableFor}
 use Rattle.ports.specs.Lengths.{maxGroups}
 use Rattle.routing.specs.Table.{groupCount, destinationOf, sourceAt}
 use Rattle.equations.specs.Tiles.{groupOf}
@@ -24,21 +24,24 @@ abbrev pub switches : Block → ℕ
 switches B = maxGroups * tiles B
 
 -- "A listed pattern is one enabled switch (the chain is none)": the table has the group, and its setting is not off
-unfoldable pub enabled : List ℕ → List ℕ → ℕ → Bool
-enabled t st s = ltb (groupIn s) (groupCount logicTile t) && not (eqb (groupOf st (tileOf s) (groupIn s)) 0)
+unfoldable pub enabled : Block → List ℕ → List ℕ → ℕ → Bool
+enabled B t st s =
+    ltb (groupIn s) (groupCount (kindOf B (tileOf s)) (tableFor B t (tileOf s))) && not (eqb (groupOf st (tileOf s) (groupIn s)) 0)
 
 -- the wire that it ends on, and the wire that it comes from
 unfoldable pub target : Block → List ℕ → ℕ → ℕ
-target B t s = wireOf B (portOf (tileOf s) (destinationOf logicTile t (groupIn s)))
+target B t s = wireOf B (tilePort B (tileOf s) (destinationOf (kindOf B (tileOf s)) (tableFor B t (tileOf s)) (groupIn s)))
 
 unfoldable pub origin : Block → List ℕ → List ℕ → ℕ → ℕ
-origin B t st s = wireOf B (portOf (tileOf s) (sourceAt logicTile t (groupIn s) (groupOf st (tileOf s) (groupIn s) - 1)))
+origin B t st s =
+    wireOf B (tilePort B (tileOf s)
+    (sourceAt (kindOf B (tileOf s)) (tableFor B t (tileOf s)) (groupIn s) (groupOf st (tileOf s) (groupIn s) - 1)))
 
 module _ (B : Block) (t st : List ℕ) where
   -- s is an enabled switch of the block and ends on wire w
   pub record Ends (s w : ℕ) : Type 0 where
     pub within : s < switches B
-    pub on : enabled t st s ≡ true
+    pub on : enabled B t st s ≡ true
     pub onto : target B t s ≡ w
 
   abbrev pub NoSwitch : ℕ → Type 0

@@ -7,7 +7,7 @@ use lib.Dec.{eqb, ltb}
 use Rattle.lists.specs.Search.{first}
 use Rattle.ports.specs.declared.size.Block.{Block}
 use Rattle.ports.specs.Lengths.{ports}
-use Rattle.ports.specs.Block.{portOf}
+use Rattle.ports.specs.Block.{tilePort}
 use Rattle.ports.specs.PortIndex.{inPort, carryIn}
 use Rattle.fabric.specs.Wire.{wireOf}
 use Rattle.netlist.specs.declared.row.Row.{Row}
@@ -25,7 +25,7 @@ abbrev pub plainRow : ℕ → ℕ → ℕ → Row
 plainRow kind w a = record { kind = kind; wire = w; a = a; b = 0; c = 0; d = 0; table = 0 }
 
 abbrev pub inWire : Block → ℕ → ℕ → ℕ → ℕ
-inWire B T i j = wireOf B (portOf T (inPort i j))
+inWire B T i j = wireOf B (tilePort B T (inPort i j))
 
 -- "6 lookup (in_0 first)", "7 majority (in_1, in_2, carry-in)"
 abbrev pub lookupRow : Block → List ℕ → ℕ → ℕ → ℕ → Row
@@ -34,7 +34,7 @@ lookupRow B st w T i =
 
 abbrev pub majorityRow : Block → ℕ → ℕ → ℕ → Row
 majorityRow B w T i =
-    record { kind = majorityKind; wire = w; a = inWire B T i 1; b = inWire B T i 2; c = wireOf B (portOf T (carryPort i)); d = 0; table = 0 }
+    record { kind = majorityKind; wire = w; a = inWire B T i 1; b = inWire B T i 2; c = wireOf B (tilePort B T (carryPort i)); d = 0; table = 0 }
 
 -- the row of wire w where no switch ends on it; "4 flip-flop (operand 1 is 8t + i)"
 unfoldable pub driveRow : Block → List ℕ → ℕ → Drive → Row
@@ -45,12 +45,12 @@ driveRow B st w (CellOut T i) = cond (flopOn st T i) (plainRow flipFlopKind w (8
 driveRow B st w (CellLout T i) = lookupRow B st w T i
 driveRow B st w (CellCout T i) = cond (carryOn st T i) (majorityRow B w T i) (plainRow zeroKind w 0)
 driveRow B st w (CarryMux T) =
-    cond (carrySet st T) (plainRow oneKind w 0) (cond (chained st T) (plainRow copyKind w (wireOf B (portOf T carryIn))) (plainRow zeroKind w 0))
+    cond (carrySet st T) (plainRow oneKind w 0) (cond (chained st T) (plainRow copyKind w (wireOf B (tilePort B T carryIn))) (plainRow zeroKind w 0))
 
 module _ (B : Block) (t st : List ℕ) where
   -- switch s is enabled and ends on w
   unfoldable pub endsOn : ℕ → ℕ → Bool
-  endsOn w s = enabled t st s && eqb (target B t s) w
+  endsOn w s = enabled B t st s && eqb (target B t s) w
 
   -- the first of the m first switches that does; m where none does
   abbrev pub driverIn : ℕ → ℕ → ℕ

@@ -7,7 +7,7 @@ use Rattle.refusal.specs.Grounds.{numberOf, placeOf, unless}
 use Rattle.ports.specs.declared.size.Block.{Block}
 use Rattle.fabric.specs.declared.WireNumber.{WireNumber}
 use Rattle.fabric.specs.declared.WireNumber.the-variants.{Wire, Refused}
-use Rattle.ports.specs.Block.{tiles, sized, portOf}
+use Rattle.ports.specs.Block.{tiles, sized, tilePort}
 use Rattle.ports.specs.Lengths.{portsPerTile}
 use Rattle.fabric.specs.Joins.{Lowest}
 use Rattle.fabric.specs.Wire.{wireOf}
@@ -18,7 +18,7 @@ wireNumber B t q =
     unless (sized B) (Refused WrongSize)
     (unless (ltb t (tiles B)) (Refused (OutOfRange t))
     (unless (ltb q portsPerTile) (Refused (OutOfRange q))
-    (Wire (wireOf B (portOf t q)))))
+    (Wire (wireOf B (tilePort B t q)))))
 
 -- the paper's number of an answer: that of the ground, and 0 for a yes, as in the last line of a report
 abbrev pub answerNumber : WireNumber → ℕ

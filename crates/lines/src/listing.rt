@@ -11,11 +11,9 @@ ghost use Rattle.texts.specs.Pieces.{placed};
 ghost use Rattle.lines.specs.Listing.{switchPart, switchLines, cellPart, cellLines};
 use crate::text::cell_line;
 use crate::text::switch_line;
+use codec::cells::CELLS_FROM;
+use ports::lengths::SETTINGS_LENGTH;
 use texts::put;
-
-const SETTINGS: usize = 595;
-
-const CELLS_FROM: usize = 579;
 
 // The line of wire w, if a switch ends on it.
 fn put_switch(sources: &[u16], w: usize, out: &mut [u8], at: usize) -> usize
@@ -64,7 +62,7 @@ fn put_cell(st: &[u16], c: usize, out: &mut [u8], at: usize) -> usize
 {
     let tile = c / 8;
     let i = c % 8;
-    let from = SETTINGS * tile;
+    let from = SETTINGS_LENGTH * tile;
     let table = st[from + (CELLS_FROM + 2 * i)];
     let flags = st[from + (CELLS_FROM + 2 * i + 1)];
     if is_blank(table, flags) {

@@ -48,6 +48,13 @@ sized B = allowed (sizeOf B)
 abbrev pub portOf : ℕ → ℕ → ℕ
 portOf t q = portsPerTile * t + q
 
+-- how many ports tile T of a block has, and the number of its port q; all tiles are logic tiles
+abbrev pub portsIn : Block → ℕ → ℕ
+portsIn B T = portsPerTile
+
+abbrev pub tilePort : Block → ℕ → ℕ → ℕ
+tilePort B T q = portOf T q
+
 -- "Tile (x, y) has index y·W + x": the number of its port q
 abbrev pub port : Block → ℕ → ℕ → ℕ → ℕ
 port B x y q = portOf (y * B .w + x) q

@@ -73,11 +73,11 @@ lc-position-right i k h = rw (le-ltb k 10 h)
 place : ℕ → ℕ
 place k = cond (ltb k 10) (36 + k) (80 + k)
 
-lc-position-place : (i k : ℕ) → lcPosition i k ≡ 108 * i + place k
+lc-position-place : (i k : ℕ) → lcPosition i k ≡ 2 * 54 * i + place k
 unfolding place
 lc-position-place i k = go (ltb k 10)
   where
-    go : (b : Bool) → cond b (54 * (2 * i) + (36 + k)) (54 * (2 * i + 1) + (26 + k)) ≡ 108 * i + cond b (36 + k) (80 + k)
+    go : (b : Bool) → cond b (54 * (2 * i) + (36 + k)) (54 * (2 * i + 1) + (26 + k)) ≡ 2 * 54 * i + cond b (36 + k) (80 + k)
     go true = omega arith
     go false = omega arith
 
@@ -111,7 +111,7 @@ unfolding cellPosition
 cell-position-once i j k l hj hl e =
     let a = lc-bit-lt j hj in
     let b = lc-bit-lt l hl in
-    let p : 108 * i + place (lcBit j) ≡ 108 * k + place (lcBit l) = sym (lc-position-place i (lcBit j)) ∙ e ∙ lc-position-place k (lcBit l) in
+    let p : 2 * 54 * i + place (lcBit j) ≡ 2 * 54 * k + place (lcBit l) = sym (lc-position-place i (lcBit j)) ∙ e ∙ lc-position-place k (lcBit l) in
     let q = place-lt (lcBit j) a in
     let r = place-lt (lcBit l) b in
     (omega arith, lc-bit-once j l hj hl (place-once (lcBit j) (lcBit l) a b (omega arith)))

@@ -9,7 +9,7 @@ pub const CELLS: usize = 8;
 
 pub const BITS_PER_CELL: usize = 20;
 
-const COLUMNS: usize = 54;
+pub const COLUMNS: usize = 54;
 
 // The logic cell bits of LUT_INIT 0 to 11, then of LUT_INIT 12 to 15, carry, flip-flop, set and asynchronous, five binary digits each, the first
 // lowest. Two numbers, for an array would be laid out anew at each look.

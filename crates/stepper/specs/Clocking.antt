@@ -4,7 +4,7 @@ use mathlib.Core.List.{List}
 use lib.ListN.{getD}
 use Rattle.lists.specs.Tables.{tabulate}
 use Rattle.ports.specs.declared.size.Block.{Block}
-use Rattle.ports.specs.Block.{tiles, portOf}
+use Rattle.ports.specs.Block.{tiles, tilePort}
 use Rattle.ports.specs.PortIndex.{clk, cen, sR, inPort}
 use Rattle.cell.specs.declared.logic.Cell.{Cell}
 use Rattle.cell.specs.declared.flip_flop.Control.{Control}
@@ -16,7 +16,7 @@ use Rattle.stepper.specs.Settling.{portValue}
 
 module _ (B : Block) (st : List ℕ) where
   abbrev pub valueAt : List ℕ → ℕ → ℕ → ℕ
-  valueAt values T q = portValue B values (portOf T q)
+  valueAt values T q = portValue B values (tilePort B T q)
 
   abbrev pub cellAt : ℕ → ℕ → Cell
   cellAt T i = cellOf (tableOf st T i) (flagsAt st T i)

@@ -42,7 +42,7 @@ returns c =
     let lc = at-start .pre .0 .3 in
     let lg : g < maxGroups = (let f = ok .few-groups in omega arith) in
     let s = maxGroups * T + g in
-    sourced-next B t st T g (sourced-skip B t st s (a .low) _ (at-start .pre .1) (switch-off T g lg t st lc (sym (c .before .group-at .ensures) ∙ c .if1 .taken)))
+    sourced-next B t st T g (sourced-skip B t st s (a .low) _ (at-start .pre .1) (switch-off T g lg B t st lc (sym (c .before .group-at .ensures) ∙ c .if1 .taken)))
 
 destination-requires : tie.Need-destination-requires
 destination-requires c κs =
@@ -71,7 +71,7 @@ wire-at-requires c κs =
     let lT = at-start .pre .0 .2 in
     let lc = at-start .pre .0 .3 in
     let lg : g < maxGroups = (let f = ok .few-groups in omega arith) in
-    let on : enabled t st (maxGroups * T + g) ≡ true = switch-on T g lg t st lc (λ z. c .before .if1 .left (c .before .before .group-at .ensures ∙ z)) in
+    let on : enabled B t st (maxGroups * T + g) ≡ true = switch-on T g lg B t st lc (λ z. c .before .if1 .left (c .before .before .group-at .ensures ∙ z)) in
     (at-start .pre .0 .1, subst (λ (q : ℕ). portOf T q < ports B) (sym (c .destination .ensures)) (switch-target-port T g lg B t st ok lT on))
 
 wide-requires : tie.Need-wide-requires
@@ -93,7 +93,7 @@ source-requires c κs =
     let lT = at-start .pre .0 .2 in
     let lc = at-start .pre .0 .3 in
     let lg : g < maxGroups = (let f = ok .few-groups in omega arith) in
-    let on : enabled t st (maxGroups * T + g) ≡ true = switch-on T g lg t st lc (λ z. c .before .before .before .if1 .left (c .before .before .before .before .group-at .ensures ∙ z)) in
+    let on : enabled B t st (maxGroups * T + g) ≡ true = switch-on T g lg B t st lc (λ z. c .before .before .before .if1 .left (c .before .before .before .before .group-at .ensures ∙ z)) in
     (ok .table-long, lg, let e = c .before .before .before .before .group-at .ensures in let l = switch-entry-lt T g lg B t st ok lT on in omega arith)
 
 cast-wire-at-2 : tie.Need-cast-wire-at-2
@@ -112,7 +112,7 @@ wire-at-requires-2 c κs =
     let lT = at-start .pre .0 .2 in
     let lc = at-start .pre .0 .3 in
     let lg : g < maxGroups = (let f = ok .few-groups in omega arith) in
-    let on : enabled t st (maxGroups * T + g) ≡ true = switch-on T g lg t st lc (λ z. c .before .before .before .before .if1 .left (c .before .before .before .before .before .group-at .ensures ∙ z)) in
+    let on : enabled B t st (maxGroups * T + g) ≡ true = switch-on T g lg B t st lc (λ z. c .before .before .before .before .if1 .left (c .before .before .before .before .before .group-at .ensures ∙ z)) in
     let from : c .source .result ≡ sourceAt logicTile t g (groupOf st T g - 1) = c .source .ensures ∙ ap (λ (e : ℕ). sourceAt logicTile t g (e - 1)) (c .before .before .before .before .before .group-at .ensures) in
     (at-start .pre .0 .1, subst (λ (q : ℕ). portOf T q < ports B) (sym from) (switch-origin-port T g lg B t st ok lT on))
 
@@ -129,7 +129,7 @@ add-source c =
     let lT = at-start .pre .0 .2 in
     let lc = at-start .pre .0 .3 in
     let lg : g < maxGroups = (let f = ok .few-groups in omega arith) in
-    let on : enabled t st (maxGroups * T + g) ≡ true = switch-on T g lg t st lc (λ z. c .before .before .before .before .before .if1 .left (c .before .before .before .before .before .before .group-at .ensures ∙ z)) in
+    let on : enabled B t st (maxGroups * T + g) ≡ true = switch-on T g lg B t st lc (λ z. c .before .before .before .before .before .if1 .left (c .before .before .before .before .before .before .group-at .ensures ∙ z)) in
     let from : c .before .source .result ≡ sourceAt logicTile t g (groupOf st T g - 1) = c .before .source .ensures ∙ ap (λ (e : ℕ). sourceAt logicTile t g (e - 1)) (c .before .before .before .before .before .before .group-at .ensures) in
     let o : c .wire-at2 .result ≡ origin B t st (maxGroups * T + g) = c .wire-at2 .ensures ∙ ap (λ (q : ℕ). wireOf B (portOf T q)) from ∙ switch-origin T g lg B t st in
     let n = at-start .pre .1 .long in
@@ -150,7 +150,7 @@ mul-old c =
     let lT = at-start .pre .0 .2 in
     let lc = at-start .pre .0 .3 in
     let lg : g < maxGroups = (let f = ok .few-groups in omega arith) in
-    let on : enabled t st (maxGroups * T + g) ≡ true = switch-on T g lg t st lc (λ z. c .before .before .before .before .before .if1 .left (c .before .before .before .before .before .before .group-at .ensures ∙ z)) in
+    let on : enabled B t st (maxGroups * T + g) ≡ true = switch-on T g lg B t st lc (λ z. c .before .before .before .before .before .if1 .left (c .before .before .before .before .before .before .group-at .ensures ∙ z)) in
     let u = c .before .before .wide .result in
     let is : u ≡ target B t (maxGroups * T + g) = c .before .before .wide .ensures ∙ c .before .before .before .wire-at .ensures ∙ ap (λ (q : ℕ). wireOf B (portOf T q)) (c .before .before .before .before .destination .ensures) ∙ switch-target T g lg B t in
     let lu : u < ports B = subst (λ (x : ℕ). x < ports B) (sym is) (switch-target-lt T g lg B t st ok lT on) in
@@ -171,7 +171,7 @@ slice-read-old c =
     let lT = at-start .pre .0 .2 in
     let lc = at-start .pre .0 .3 in
     let lg : g < maxGroups = (let f = ok .few-groups in omega arith) in
-    let on : enabled t st (maxGroups * T + g) ≡ true = switch-on T g lg t st lc (λ z. c .before .before .before .before .before .before .if1 .left (c .before .before .before .before .before .before .before .group-at .ensures ∙ z)) in
+    let on : enabled B t st (maxGroups * T + g) ≡ true = switch-on T g lg B t st lc (λ z. c .before .before .before .before .before .before .if1 .left (c .before .before .before .before .before .before .before .group-at .ensures ∙ z)) in
     let u = c .before .before .before .wide .result in
     let is : u ≡ target B t (maxGroups * T + g) = c .before .before .before .wide .ensures ∙ c .before .before .before .before .wire-at .ensures ∙ ap (λ (q : ℕ). wireOf B (portOf T q)) (c .before .before .before .before .before .destination .ensures) ∙ switch-target T g lg B t in
     let lu : u < ports B = subst (λ (x : ℕ). x < ports B) (sym is) (switch-target-lt T g lg B t st ok lT on) in
@@ -192,7 +192,7 @@ mul-sources c =
     let lT = at-start .pre .0 .2 in
     let lc = at-start .pre .0 .3 in
     let lg : g < maxGroups = (let f = ok .few-groups in omega arith) in
-    let on : enabled t st (maxGroups * T + g) ≡ true = switch-on T g lg t st lc (λ z. c .before .before .before .before .before .before .before .if1 .left (c .before .before .before .before .before .before .before .before .group-at .ensures ∙ z)) in
+    let on : enabled B t st (maxGroups * T + g) ≡ true = switch-on T g lg B t st lc (λ z. c .before .before .before .before .before .before .before .if1 .left (c .before .before .before .before .before .before .before .before .group-at .ensures ∙ z)) in
     let u = c .before .before .before .before .wide .result in
     let is : u ≡ target B t (maxGroups * T + g) = c .before .before .before .before .wide .ensures ∙ c .before .before .before .before .before .wire-at .ensures ∙ ap (λ (q : ℕ). wireOf B (portOf T q)) (c .before .before .before .before .before .before .destination .ensures) ∙ switch-target T g lg B t in
     let lu : u < ports B = subst (λ (x : ℕ). x < ports B) (sym is) (switch-target-lt T g lg B t st ok lT on) in
@@ -213,7 +213,7 @@ slice-write-sources c =
     let lT = at-start .pre .0 .2 in
     let lc = at-start .pre .0 .3 in
     let lg : g < maxGroups = (let f = ok .few-groups in omega arith) in
-    let on : enabled t st (maxGroups * T + g) ≡ true = switch-on T g lg t st lc (λ z. c .before .before .before .before .before .before .before .if1 .left (c .before .before .before .before .before .before .before .before .group-at .ensures ∙ z)) in
+    let on : enabled B t st (maxGroups * T + g) ≡ true = switch-on T g lg B t st lc (λ z. c .before .before .before .before .before .before .before .if1 .left (c .before .before .before .before .before .before .before .before .group-at .ensures ∙ z)) in
     let u = c .before .before .before .before .wide .result in
     let is : u ≡ target B t (maxGroups * T + g) = c .before .before .before .before .wide .ensures ∙ c .before .before .before .before .before .wire-at .ensures ∙ ap (λ (q : ℕ). wireOf B (portOf T q)) (c .before .before .before .before .before .before .destination .ensures) ∙ switch-target T g lg B t in
     let lu : u < ports B = subst (λ (x : ℕ). x < ports B) (sym is) (switch-target-lt T g lg B t st ok lT on) in
@@ -238,7 +238,7 @@ returns-2 c =
     let lc = at-start .pre .0 .3 in
     let lg : g < maxGroups = (let f = ok .few-groups in omega arith) in
     let s = maxGroups * T + g in
-    let on : enabled t st (maxGroups * T + g) ≡ true = switch-on T g lg t st lc (λ z. c .before .before .before .before .before .before .before .if1 .left (c .before .before .before .before .before .before .before .before .group-at .ensures ∙ z)) in
+    let on : enabled B t st (maxGroups * T + g) ≡ true = switch-on T g lg B t st lc (λ z. c .before .before .before .before .before .before .before .if1 .left (c .before .before .before .before .before .before .before .before .group-at .ensures ∙ z)) in
     let u = c .before .before .before .before .wide .result in
     let is : u ≡ target B t (maxGroups * T + g) = c .before .before .before .before .wide .ensures ∙ c .before .before .before .before .before .wire-at .ensures ∙ ap (λ (q : ℕ). wireOf B (portOf T q)) (c .before .before .before .before .before .before .destination .ensures) ∙ switch-target T g lg B t in
     let lu : u < ports B = subst (λ (x : ℕ). x < ports B) (sym is) (switch-target-lt T g lg B t st ok lT on) in
@@ -260,7 +260,7 @@ returns-3 c =
     let lc = at-start .pre .0 .3 in
     let lg : g < maxGroups = (let f = ok .few-groups in omega arith) in
     let s = maxGroups * T + g in
-    let on : enabled t st (maxGroups * T + g) ≡ true = switch-on T g lg t st lc (λ z. c .before .before .before .before .before .before .before .before .if1 .left (c .before .before .before .before .before .before .before .before .before .group-at .ensures ∙ z)) in
+    let on : enabled B t st (maxGroups * T + g) ≡ true = switch-on T g lg B t st lc (λ z. c .before .before .before .before .before .before .before .before .if1 .left (c .before .before .before .before .before .before .before .before .before .group-at .ensures ∙ z)) in
     let u = c .before .before .before .before .before .wide .result in
     let is : u ≡ target B t (maxGroups * T + g) = c .before .before .before .before .before .wide .ensures ∙ c .before .before .before .before .before .before .wire-at .ensures ∙ ap (λ (q : ℕ). wireOf B (portOf T q)) (c .before .before .before .before .before .before .before .destination .ensures) ∙ switch-target T g lg B t in
     let lu : u < ports B = subst (λ (x : ℕ). x < ports B) (sym is) (switch-target-lt T g lg B t st ok lT on) in
@@ -280,7 +280,7 @@ returns-4 c =
     let lc = at-start .pre .0 .3 in
     let lg : g < maxGroups = (let f = ok .few-groups in omega arith) in
     let s = maxGroups * T + g in
-    let on : enabled t st (maxGroups * T + g) ≡ true = switch-on T g lg t st lc (λ z. c .before .before .before .before .before .before .before .before .if1 .left (c .before .before .before .before .before .before .before .before .before .group-at .ensures ∙ z)) in
+    let on : enabled B t st (maxGroups * T + g) ≡ true = switch-on T g lg B t st lc (λ z. c .before .before .before .before .before .before .before .before .if1 .left (c .before .before .before .before .before .before .before .before .before .group-at .ensures ∙ z)) in
     let u = c .before .before .before .before .before .wide .result in
     let is : u ≡ target B t (maxGroups * T + g) = c .before .before .before .before .before .wide .ensures ∙ c .before .before .before .before .before .before .wire-at .ensures ∙ ap (λ (q : ℕ). wireOf B (portOf T q)) (c .before .before .before .before .before .before .before .destination .ensures) ∙ switch-target T g lg B t in
     let lu : u < ports B = subst (λ (x : ℕ). x < ports B) (sym is) (switch-target-lt T g lg B t st ok lT on) in

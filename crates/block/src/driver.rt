@@ -23,7 +23,8 @@ fn follow_port(
     sources: &mut [u16],
     marks: &mut [u16],
 ) -> Followed
-    requires { ⌜ Routed b (now table) (now st) × (length (now wires) ≡ ports b) × (length (now sources) ≡ ports b) × (length (now marks) ≡ ports b) ⌝ }
+    requires { ⌜ Routed b (now table) (now st) × (length (now wires) ≡ ports b) × (length (now sources) ≡ ports b) ×
+        (length (now marks) ≡ ports b) ⌝ }
     ensures { λ r. ⌜ r ≡ portAnswer b (now (table .entry)) (now (st .entry)) tile port ⌝ }
 {
     let ports = wires.len();

@@ -53,15 +53,22 @@ pub fn build(
     marks: &mut [u16],
     queue: &mut [u16],
 ) -> Built
-    ensures answer { λ r. ⌜ r ≡ buildAnswer b (now (table .entry)) (tilesOf (now (bits .entry))) (buildExact b (buildLent (now (table .entry)) (now (bits .entry)) (now (settings .entry)) (roomLent (now (list .entry)) (now (wires .entry)) (now (sources .entry)) (now (rows .entry)) (now (marks .entry)) (now (queue .entry))))) ⌝ }
-    ensures list { λ r. ⌜ now (list .exit) ≡ output (builtNumber r) (now (list .entry)) (blockList b (now (table .entry)) (decoded (now (table .entry)) (tilesOf (now (bits .entry))) (tiles b))) ⌝ }
+    ensures answer { λ r. ⌜ r ≡ buildAnswer b (now (table .entry)) (tilesOf (now (bits .entry)))
+        (buildExact b (buildLent (now (table .entry)) (now (bits .entry)) (now (settings .entry))
+        (roomLent (now (list .entry)) (now (wires .entry)) (now (sources .entry)) (now (rows .entry)) (now (marks .entry))
+        (now (queue .entry))))) ⌝ }
+    ensures list { λ r. ⌜ now (list .exit) ≡ output (builtNumber r) (now (list .entry))
+        (blockList b (now (table .entry)) (decoded (now (table .entry)) (tilesOf (now (bits .entry))) (tiles b))) ⌝ }
     ensures settings { λ r. ⌜ now (settings .exit) ≡ workRoom (builtNumber r) (now (settings .entry)) ⌝ }
     ensures wires { λ r. ⌜ now (wires .exit) ≡ workRoom (builtNumber r) (now (wires .entry)) ⌝ }
     ensures sources { λ r. ⌜ now (sources .exit) ≡ workRoom (builtNumber r) (now (sources .entry)) ⌝ }
     ensures rows { λ r. ⌜ now (rows .exit) ≡ workRoom (builtNumber r) (now (rows .entry)) ⌝ }
     ensures marks { λ r. ⌜ now (marks .exit) ≡ workRoom (builtNumber r) (now (marks .entry)) ⌝ }
     ensures queue { λ r. ⌜ now (queue .exit) ≡ workRoom (builtNumber r) (now (queue .entry)) ⌝ }
-    ensures says { λ r. ⌜ BuildSays b (now (table .entry)) (now (bits .entry)) (buildLent (now (table .entry)) (now (bits .entry)) (now (settings .entry)) (roomLent (now (list .entry)) (now (wires .entry)) (now (sources .entry)) (now (rows .entry)) (now (marks .entry)) (now (queue .entry)))) r ⌝ }
+    ensures says { λ r. ⌜ BuildSays b (now (table .entry)) (now (bits .entry))
+        (buildLent (now (table .entry)) (now (bits .entry)) (now (settings .entry))
+        (roomLent (now (list .entry)) (now (wires .entry)) (now (sources .entry)) (now (rows .entry)) (now (marks .entry))
+        (now (queue .entry)))) r ⌝ }
 {
     if !ports::size::is_sized(b) {
         return Built::Refused(Refusal::WrongSize);
@@ -117,11 +124,15 @@ pub fn follow(
     sources: &mut [u16],
     marks: &mut [u16],
 ) -> Followed
-    ensures answer { λ r. ⌜ r ≡ followAnswer b (now (table .entry)) (now (settings .entry)) tile port (followExact b (followLent (now (table .entry)) (now (settings .entry)) (now (wires .entry)) (now (sources .entry)) (now (marks .entry)))) ⌝ }
+    ensures answer { λ r. ⌜ r ≡ followAnswer b (now (table .entry)) (now (settings .entry)) tile port
+        (followExact b (followLent (now (table .entry)) (now (settings .entry)) (now (wires .entry)) (now (sources .entry))
+        (now (marks .entry)))) ⌝ }
     ensures wires { λ r. ⌜ now (wires .exit) ≡ workRoom (followedNumber r) (now (wires .entry)) ⌝ }
     ensures sources { λ r. ⌜ now (sources .exit) ≡ workRoom (followedNumber r) (now (sources .entry)) ⌝ }
     ensures marks { λ r. ⌜ now (marks .exit) ≡ workRoom (followedNumber r) (now (marks .entry)) ⌝ }
-    ensures says { λ r. ⌜ FollowSays b (now (table .entry)) (now (settings .entry)) tile port (followLent (now (table .entry)) (now (settings .entry)) (now (wires .entry)) (now (sources .entry)) (now (marks .entry))) r ⌝ }
+    ensures says { λ r. ⌜ FollowSays b (now (table .entry)) (now (settings .entry)) tile port
+        (followLent (now (table .entry)) (now (settings .entry)) (now (wires .entry)) (now (sources .entry)) (now (marks .entry)))
+        r ⌝ }
 {
     if !ports::size::is_sized(b) {
         return Followed::Refused(Refusal::WrongSize);

@@ -34,7 +34,8 @@ fn list_rows(
     marks: &mut [u16],
     queue: &mut [u16],
 ) -> Built
-    requires { ⌜ Routed b (now table) (now st) × (ports b ≤ contendedWire b (now table) (now st)) × (ports b ≤ carryReadWire b (now table) (now st)) ⌝ }
+    requires { ⌜ Routed b (now table) (now st) × (ports b ≤ contendedWire b (now table) (now st)) ×
+        (ports b ≤ carryReadWire b (now table) (now st)) ⌝ }
     requires { ⌜ (now wires ≡ wiresOf b) × (now sources ≡ sourcesOf b (now table) (now st)) × (now rows ≡ wireRows b (now table) (now st)) ⌝ }
     requires { ⌜ RoomLong b (roomLent (now list) (now wires) (now sources) (now rows) (now marks) (now queue)) ⌝ }
     ensures answer { λ r. ⌜ r ≡ listAnswer b (now (table .entry)) (now (st .entry)) ⌝ }
@@ -123,9 +124,11 @@ pub fn list_bits(
     queue: &mut [u16],
 ) -> Built
     requires { ⌜ Sized b ⌝ }
-    requires { ⌜ BuildLong b (buildLent (now table) (now bits) (now settings) (roomLent (now list) (now wires) (now sources) (now rows) (now marks) (now queue))) ⌝ }
+    requires { ⌜ BuildLong b (buildLent (now table) (now bits) (now settings)
+        (roomLent (now list) (now wires) (now sources) (now rows) (now marks) (now queue))) ⌝ }
     ensures answer { λ r. ⌜ r ≡ bitsAnswer b (now (table .entry)) (tilesOf (now (bits .entry))) ⌝ }
-    ensures list { λ r. ⌜ now (list .exit) ≡ output (builtNumber r) (now (list .entry)) (blockList b (now (table .entry)) (decoded (now (table .entry)) (tilesOf (now (bits .entry))) (tiles b))) ⌝ }
+    ensures list { λ r. ⌜ now (list .exit) ≡ output (builtNumber r) (now (list .entry))
+        (blockList b (now (table .entry)) (decoded (now (table .entry)) (tilesOf (now (bits .entry))) (tiles b))) ⌝ }
 {
     let n = (b.h * b.w) as usize;
     let mut own = [0u16; POSITIONS];

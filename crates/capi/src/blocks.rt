@@ -20,8 +20,11 @@ pub extern "C" fn ice40_read(
     bits: &[u8],
     settings: &mut [u16],
 ) -> u64
-    ensures answer { λ r. ⌜ r ≡ packed (answerNumber (readAnswer (size w h) (now (table .entry)) (now (bits .entry)) (length (now (settings .entry))))) (answerValue (readAnswer (size w h) (now (table .entry)) (now (bits .entry)) (length (now (settings .entry))))) ⌝ }
-    ensures settings { λ r. ⌜ now (settings .exit) ≡ output (groundIn r) (now (settings .entry)) (decoded (now (table .entry)) (tilesOf (now (bits .entry))) (tileCount (size w h))) ⌝ }
+    ensures answer { λ r. ⌜ r ≡ packed
+        (answerNumber (readAnswer (size w h) (now (table .entry)) (now (bits .entry)) (length (now (settings .entry)))))
+        (answerValue (readAnswer (size w h) (now (table .entry)) (now (bits .entry)) (length (now (settings .entry))))) ⌝ }
+    ensures settings { λ r. ⌜ now (settings .exit) ≡ output (groundIn r) (now (settings .entry))
+        (decoded (now (table .entry)) (tilesOf (now (bits .entry))) (tileCount (size w h))) ⌝ }
 {
     let a = config::read(Size { w, h }, table, bits, settings);
     pack::pack_answer(a)
@@ -36,8 +39,11 @@ pub extern "C" fn ice40_write(
     settings: &[u16],
     bits: &mut [u8],
 ) -> u64
-    ensures answer { λ r. ⌜ r ≡ packed (answerNumber (writeAnswer (size w h) (now (table .entry)) (now (settings .entry)) (length (now (bits .entry))))) (answerValue (writeAnswer (size w h) (now (table .entry)) (now (settings .entry)) (length (now (bits .entry))))) ⌝ }
-    ensures bits { λ r. ⌜ now (bits .exit) ≡ output (groundIn r) (now (bits .entry)) (encoded (now (table .entry)) (now (settings .entry)) (tileCount (size w h))) ⌝ }
+    ensures answer { λ r. ⌜ r ≡ packed
+        (answerNumber (writeAnswer (size w h) (now (table .entry)) (now (settings .entry)) (length (now (bits .entry)))))
+        (answerValue (writeAnswer (size w h) (now (table .entry)) (now (settings .entry)) (length (now (bits .entry))))) ⌝ }
+    ensures bits { λ r. ⌜ now (bits .exit) ≡ output (groundIn r) (now (bits .entry))
+        (encoded (now (table .entry)) (now (settings .entry)) (tileCount (size w h))) ⌝ }
 {
     let a = config::write(Size { w, h }, table, settings, bits);
     pack::pack_answer(a)
@@ -46,7 +52,8 @@ pub extern "C" fn ice40_write(
 // How many of a tile's bits are set. Grounds 1, 2, 20.
 #[no_mangle]
 pub extern "C" fn ice40_bit_count(w: u32, h: u32, bits: &[u8], tile: u32) -> u64
-    ensures { λ r. ⌜ r ≡ packed (bitCountNumber (bitCountAnswer (size w h) (now (bits .entry)) tile)) (bitCountValue (bitCountAnswer (size w h) (now (bits .entry)) tile)) ⌝ }
+    ensures { λ r. ⌜ r ≡ packed (bitCountNumber (bitCountAnswer (size w h) (now (bits .entry)) tile))
+        (bitCountValue (bitCountAnswer (size w h) (now (bits .entry)) tile)) ⌝ }
 {
     match config::bit_count(Size { w, h }, bits, tile) {
         BitCount::Set(n) => pack::pack(0, n),

@@ -49,7 +49,8 @@ pub fn is_carry_pair(table: &[u16], bits: &[u8]) -> bool
 // Whether position p is at fault; `own` says which slot claims it.
 // Rules out: a set bit that nothing claims let through; a fault reported at a group's second position.
 pub fn is_fault_at(table: &[u16], own: &[u16], bits: &[u8], p: usize) -> bool
-    requires { ⌜ (TableRules logicTile (now table)) × (Owned 864 (slotsOf logicTile (now table)) (slotCount logicTile) (now own)) × (length (now bits) ≡ tileNumbers) × (p < 864) ⌝ }
+    requires { ⌜ (TableRules logicTile (now table)) × (Owned 864 (slotsOf logicTile (now table)) (slotCount logicTile) (now own)) ×
+        (length (now bits) ≡ tileNumbers) × (p < 864) ⌝ }
     ensures { λ r. ⌜ r ≡ faultAt (now (table .entry)) (tileOf (now (bits .entry))) p ⌝ }
 {
     let code = own[p] as usize;

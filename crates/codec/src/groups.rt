@@ -61,8 +61,10 @@ pub fn read_group(table: &[u16], g: usize, bits: &[u8]) -> GroupRead
 
 // A pattern written to a group's positions, which are clear, the first with weight 1.
 pub fn write_pattern(table: &[u16], g: usize, bits: &mut [u8], pattern: u16)
-    requires { ⌜ (TableRules logicTile (now table)) × (g < groupCount logicTile (now table)) × (length (now bits) ≡ tileNumbers) × ((k : ℕ) → k < widthOf logicTile (now table) g → groupBit logicTile (now table) (bitAt (now bits)) g k ≡ 0) ⌝ }
-    ensures { λ r. ⌜ now (bits .exit) ≡ setBits (now (bits .entry)) (positionAt logicTile (now (table .entry)) g) pattern (widthOf logicTile (now (table .entry)) g) ⌝ }
+    requires { ⌜ (TableRules logicTile (now table)) × (g < groupCount logicTile (now table)) × (length (now bits) ≡ tileNumbers) ×
+        ((k : ℕ) → k < widthOf logicTile (now table) g → groupBit logicTile (now table) (bitAt (now bits)) g k ≡ 0) ⌝ }
+    ensures { λ r. ⌜ now (bits .exit) ≡ setBits (now (bits .entry)) (positionAt logicTile (now (table .entry)) g) pattern
+        (widthOf logicTile (now (table .entry)) g) ⌝ }
 {
     let n = routing::table::width(table, g);
     let mut k = 0;
@@ -75,8 +77,11 @@ pub fn write_pattern(table: &[u16], g: usize, bits: &mut [u8], pattern: u16)
 
 // A group's setting written where all its bits are clear, so that a group that is off takes no time.
 pub fn write_group(table: &[u16], g: usize, bits: &mut [u8], setting: u16)
-    requires { ⌜ (TableRules logicTile (now table)) × (g < groupCount logicTile (now table)) × (length (now bits) ≡ tileNumbers) × (setting ≤ entryCount logicTile (now table) g) × ((k : ℕ) → k < widthOf logicTile (now table) g → groupBit logicTile (now table) (bitAt (now bits)) g k ≡ 0) ⌝ }
-    ensures { λ r. ⌜ now (bits .exit) ≡ setBits (now (bits .entry)) (positionAt logicTile (now (table .entry)) g) (patternOf logicTile (now (table .entry)) g setting) (widthOf logicTile (now (table .entry)) g) ⌝ }
+    requires { ⌜ (TableRules logicTile (now table)) × (g < groupCount logicTile (now table)) × (length (now bits) ≡ tileNumbers) ×
+        (setting ≤ entryCount logicTile (now table) g) × ((k : ℕ) → k < widthOf logicTile (now table) g → groupBit logicTile
+        (now table) (bitAt (now bits)) g k ≡ 0) ⌝ }
+    ensures { λ r. ⌜ now (bits .exit) ≡ setBits (now (bits .entry)) (positionAt logicTile (now (table .entry)) g)
+        (patternOf logicTile (now (table .entry)) g setting) (widthOf logicTile (now (table .entry)) g) ⌝ }
 {
     if setting == 0 {
         return;

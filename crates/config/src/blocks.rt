@@ -16,7 +16,8 @@ use routing::table::POSITIONS;
 
 // The lowest tile that cannot be decoded; where all n can, n with their settings.
 pub fn read_block(table: &[u16], own: &[u16], bits: &[u8], settings: &mut [u16], n: usize) -> usize
-    requires { ⌜ (n ≤ 64) × TableRules logicTile (now table) × TableOwned logicTile (now table) (slotCount logicTile) (now own) × (length (now bits) ≡ tileNumbers * n) × (length (now settings) ≡ settingsLength * n) ⌝ }
+    requires { ⌜ (n ≤ 64) × TableRules logicTile (now table) × TableOwned logicTile (now table) (slotCount logicTile) (now own) ×
+        (length (now bits) ≡ tileNumbers * n) × (length (now settings) ≡ settingsLength * n) ⌝ }
     ensures tile { λ r. ⌜ r ≡ undecodableTile (now (table .entry)) (tilesOf (now (bits .entry))) n ⌝ }
     ensures settings { λ r. ⌜ (r ≡ n → now (settings .exit) ≡ decoded (now (table .entry)) (tilesOf (now (bits .entry))) n) ⌝ }
 {
@@ -37,7 +38,8 @@ pub fn read_block(table: &[u16], own: &[u16], bits: &[u8], settings: &mut [u16],
 
 // The settings of n tiles that can be decoded.
 pub fn decode_block(table: &[u16], bits: &[u8], settings: &mut [u16], n: usize)
-    requires { ⌜ (n ≤ 64) × TableRules logicTile (now table) × (length (now bits) ≡ tileNumbers * n) × (length (now settings) ≡ settingsLength * n) ⌝ }
+    requires { ⌜ (n ≤ 64) × TableRules logicTile (now table) × (length (now bits) ≡ tileNumbers * n) ×
+        (length (now settings) ≡ settingsLength * n) ⌝ }
     ensures { λ r. ⌜ now (settings .exit) ≡ decoded (now (table .entry)) (tilesOf (now (bits .entry))) n ⌝ }
 {
     let mut t = 0;
@@ -71,7 +73,8 @@ pub fn bitless_tile(table: &[u16], settings: &[u16], n: usize) -> usize
 
 // The bits of n tiles whose settings some bits have.
 pub fn encode_block(table: &[u16], settings: &[u16], bits: &mut [u8], n: usize)
-    requires { ⌜ (n ≤ 64) × TableRules logicTile (now table) × (length (now settings) ≡ settingsLength * n) × (length (now bits) ≡ tileNumbers * n) × ((t : ℕ) → t < n → settingsFit (now table) (settingsAt (now settings) t) ≡ true) ⌝ }
+    requires { ⌜ (n ≤ 64) × TableRules logicTile (now table) × (length (now settings) ≡ settingsLength * n) ×
+        (length (now bits) ≡ tileNumbers * n) × ((t : ℕ) → t < n → settingsFit (now table) (settingsAt (now settings) t) ≡ true) ⌝ }
     ensures { λ r. ⌜ now (bits .exit) ≡ encoded (now (table .entry)) (now (settings .entry)) n ⌝ }
 {
     let mut t = 0;

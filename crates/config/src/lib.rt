@@ -33,7 +33,8 @@ pub enum BitCount {
 // Rules out: refusing every block; settings written on a no; the same settings for all bits.
 pub fn read(s: Size, table: &[u16], bits: &[u8], settings: &mut [u16]) -> Answer
     ensures answer { λ r. ⌜ r ≡ readAnswer s (now (table .entry)) (now (bits .entry)) (length (now (settings .entry))) ⌝ }
-    ensures settings { λ r. ⌜ now (settings .exit) ≡ output (answerNumber r) (now (settings .entry)) (decoded (now (table .entry)) (tilesOf (now (bits .entry))) (tileCount s)) ⌝ }
+    ensures settings { λ r. ⌜ now (settings .exit) ≡ output (answerNumber r) (now (settings .entry))
+        (decoded (now (table .entry)) (tilesOf (now (bits .entry))) (tileCount s)) ⌝ }
     ensures says { λ r. ⌜ ReadSays s (now (table .entry)) (now (bits .entry)) (now (settings .entry)) (now (settings .exit)) r ⌝ }
 {
     let len = settings.len();
@@ -50,7 +51,8 @@ pub fn read(s: Size, table: &[u16], bits: &[u8], settings: &mut [u16]) -> Answer
 // Rules out: writing nothing; bits of settings that no bits have; bits written on a no.
 pub fn write(s: Size, table: &[u16], settings: &[u16], bits: &mut [u8]) -> Answer
     ensures answer { λ r. ⌜ r ≡ writeAnswer s (now (table .entry)) (now (settings .entry)) (length (now (bits .entry))) ⌝ }
-    ensures bits { λ r. ⌜ now (bits .exit) ≡ output (answerNumber r) (now (bits .entry)) (encoded (now (table .entry)) (now (settings .entry)) (tileCount s)) ⌝ }
+    ensures bits { λ r. ⌜ now (bits .exit) ≡ output (answerNumber r) (now (bits .entry))
+        (encoded (now (table .entry)) (now (settings .entry)) (tileCount s)) ⌝ }
     ensures says { λ r. ⌜ WriteSays s (now (table .entry)) (now (settings .entry)) (now (bits .entry)) (now (bits .exit)) r ⌝ }
 {
     let len = bits.len();

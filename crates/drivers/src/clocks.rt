@@ -72,7 +72,8 @@ fn is_from_cell(
     asked: bool,
     marks: &mut [u16],
 ) -> bool
-    requires { ⌜ Mapped b (now st) (now wires) × (length (now sources) ≡ ports b) × Bounded (now sources) × (tile < tiles b) × (q < portsPerTile) × (length (now marks) ≡ ports b) ⌝ }
+    requires { ⌜ Mapped b (now st) (now wires) × (length (now sources) ≡ ports b) × Bounded (now sources) × (tile < tiles b) ×
+        (q < portsPerTile) × (length (now marks) ≡ ports b) ⌝ }
     ensures { λ r. ⌜ r ≡ asked && not (drivenOutside b (now (st .entry)) (now (sources .entry)) tile q) ⌝ }
 {
     if !asked {
@@ -92,7 +93,8 @@ fn is_clocked(
     tile: usize,
     marks: &mut [u16],
 ) -> bool
-    requires { ⌜ Mapped b (now st) (now wires) × (length (now sources) ≡ ports b) × Bounded (now sources) × (tile < tiles b) × (length (now marks) ≡ ports b) ⌝ }
+    requires { ⌜ Mapped b (now st) (now wires) × (length (now sources) ≡ ports b) × Bounded (now sources) × (tile < tiles b) ×
+        (length (now marks) ≡ ports b) ⌝ }
     ensures { λ r. ⌜ r ≡ clockedAt b (now (st .entry)) (now (sources .entry)) tile ⌝ }
 {
     let flop = has_flop(st, tile);

@@ -33,9 +33,11 @@ pub enum Trace {
 
 // The walk from a wire. It leaves the wires where it was marked.
 fn walk(sources: &[u16], start: usize, marks: &mut [u16]) -> Trace
-    requires { ⌜ (start < length (now sources)) × (length (now sources) ≤ 65536) × Bounded (now sources) × (length (now marks) ≡ length (now sources)) ⌝ }
+    requires { ⌜ (start < length (now sources)) × (length (now sources) ≤ 65536) × Bounded (now sources) ×
+        (length (now marks) ≡ length (now sources)) ⌝ }
     ensures answer { λ r. ⌜ r ≡ traced (now (sources .entry)) (suc (length (now (sources .entry)))) (zeros (length (now (sources .entry)))) start ⌝ }
-    ensures marks { λ r. ⌜ now (marks .exit) ≡ tracedMarks (now (sources .entry)) (suc (length (now (sources .entry)))) (zeros (length (now (sources .entry)))) start ⌝ }
+    ensures marks { λ r. ⌜ now (marks .exit) ≡ tracedMarks (now (sources .entry)) (suc (length (now (sources .entry))))
+        (zeros (length (now (sources .entry)))) start ⌝ }
 {
     lists::clear(marks);
     let mut u = start;
@@ -95,7 +97,8 @@ fn end_driver(u: u16, d: Drive) -> Driver
 fn short_walk(sources: &[u16], start: usize) -> usize
     requires { ⌜ (start < length (now sources)) × Bounded (now sources) ⌝ }
     ensures within { λ r. ⌜ r < length (now (sources .entry)) ⌝ }
-    ensures end { λ r. ⌜ (getD (now (sources .entry)) r 0 ≡ 0 → traced (now (sources .entry)) (suc (length (now (sources .entry)))) (zeros (length (now (sources .entry)))) start ≡ End r) ⌝ }
+    ensures end { λ r. ⌜ (getD (now (sources .entry)) r 0 ≡ 0 → traced (now (sources .entry)) (suc (length (now (sources .entry))))
+        (zeros (length (now (sources .entry)))) start ≡ End r) ⌝ }
 {
     let mut u = start;
     let mut k = 0;

@@ -97,7 +97,8 @@ pub fn first_bad_row(
     wires: &[u16],
     marks: &mut [u16],
 ) -> usize
-    requires { ⌜ (length (now list) ≡ rowLength * length (now wires)) × (length (now marks) ≡ length (now wires)) × (count ≡ wireCount (now wires)) ⌝ }
+    requires { ⌜ (length (now list) ≡ rowLength * length (now wires)) × (length (now marks) ≡ length (now wires)) ×
+        (count ≡ wireCount (now wires)) ⌝ }
     ensures answer { λ r. ⌜ r ≡ firstBadRow (now (list .entry)) cells (now (wires .entry)) ⌝ }
     ensures marks { λ r. ⌜ now (marks .exit) ≡ zeros (length (now (marks .entry))) ⌝ }
 {

@@ -81,10 +81,15 @@ fn put_accepted(
     sources: &mut [u16],
     out: &mut [u8],
 ) -> usize
-    requires { ⌜ Sized b × (tiles b ≤ 9) × TableRules logicTile (now table) × (tiles b ≤ undecodableTile (now table) (tilesOf (now bits)) (tiles b)) ⌝ }
-    requires { ⌜ (length (now bits) ≡ tileNumbers * tiles b) × (length (now settings) ≡ settingsLength * tiles b) × (length (now wires) ≡ ports b) × (length (now sources) ≡ ports b) × (length (now out) ≡ outLength) ⌝ }
-    ensures next { λ r. ⌜ r ≡ 0 + length (acceptedLines b (now (table .entry)) (decoded (now (table .entry)) (tilesOf (now (bits .entry))) (tiles b))) ⌝ }
-    ensures out { λ r. ⌜ now (out .exit) ≡ placed 0 (acceptedLines b (now (table .entry)) (decoded (now (table .entry)) (tilesOf (now (bits .entry))) (tiles b))) (now (out .entry)) ⌝ }
+    requires { ⌜ Sized b × (tiles b ≤ 9) × TableRules logicTile (now table) ×
+        (tiles b ≤ undecodableTile (now table) (tilesOf (now bits)) (tiles b)) ⌝ }
+    requires { ⌜ (length (now bits) ≡ tileNumbers * tiles b) × (length (now settings) ≡ settingsLength * tiles b) ×
+        (length (now wires) ≡ ports b) × (length (now sources) ≡ ports b) × (length (now out) ≡ outLength) ⌝ }
+    ensures next { λ r. ⌜ r ≡ 0 + length
+        (acceptedLines b (now (table .entry)) (decoded (now (table .entry)) (tilesOf (now (bits .entry))) (tiles b))) ⌝ }
+    ensures out { λ r. ⌜ now (out .exit) ≡ placed 0
+        (acceptedLines b (now (table .entry)) (decoded (now (table .entry)) (tilesOf (now (bits .entry))) (tiles b)))
+        (now (out .entry)) ⌝ }
 {
     let n = (b.h * b.w) as usize;
     config::blocks::decode_block(table, bits, settings, n);
@@ -108,7 +113,8 @@ fn put_built(
     out: &mut [u8],
 ) -> usize
     requires { ⌜ Small (b .w) (b .h) × (length (now out) ≡ outLength) ⌝ }
-    requires { ⌜ BuildLong b (buildLent (now table) (now bits) (now settings) (roomLent (now list) (now wires) (now sources) (now rows) (now marks) (now queue))) ⌝ }
+    requires { ⌜ BuildLong b (buildLent (now table) (now bits) (now settings)
+        (roomLent (now list) (now wires) (now sources) (now rows) (now marks) (now queue))) ⌝ }
     ensures next { λ r. ⌜ r ≡ 0 + length (blockLines b (now (table .entry)) (now (bits .entry))) ⌝ }
     ensures out { λ r. ⌜ now (out .exit) ≡ placed 0 (blockLines b (now (table .entry)) (now (bits .entry))) (now (out .entry)) ⌝ }
 {
@@ -134,7 +140,8 @@ fn put_built(
 
 // The report of a block's bits.
 pub fn put_block(b: Block, table: &[u16], bits: &[u8], out: &mut [u8]) -> usize
-    requires { ⌜ Small (b .w) (b .h) × (length (now bits) ≡ bitsLength (sizeOf b)) × (length (now table) ≡ tableLength) × (length (now out) ≡ outLength) ⌝ }
+    requires { ⌜ Small (b .w) (b .h) × (length (now bits) ≡ bitsLength (sizeOf b)) × (length (now table) ≡ tableLength) ×
+        (length (now out) ≡ outLength) ⌝ }
     ensures next { λ r. ⌜ r ≡ 0 + length (blockLines b (now (table .entry)) (now (bits .entry))) ⌝ }
     ensures out { λ r. ⌜ now (out .exit) ≡ placed 0 (blockLines b (now (table .entry)) (now (bits .entry))) (now (out .entry)) ⌝ }
 {

@@ -56,9 +56,11 @@ fn bits_room() -> [u8; BITS]
 
 // The report of an input whose frames are in order, in room of the exact lengths.
 fn put_frames(s: &[u8], b: Block, table: &mut [u16], bits: &mut [u8], out: &mut [u8]) -> usize
-    requires { ⌜ Small (b .w) (b .h) × (length (now table) ≡ tableLength) × (length (now bits) ≡ bitsLength (sizeOf b)) × (length (now out) ≡ outLength) ⌝ }
+    requires { ⌜ Small (b .w) (b .h) × (length (now table) ≡ tableLength) × (length (now bits) ≡ bitsLength (sizeOf b)) ×
+        (length (now out) ≡ outLength) ⌝ }
     ensures next { λ r. ⌜ r ≡ 0 + length (blockLines b (tableOf (now (s .entry))) (bitsOf (now (s .entry)) (tiles b))) ⌝ }
-    ensures out { λ r. ⌜ now (out .exit) ≡ placed 0 (blockLines b (tableOf (now (s .entry))) (bitsOf (now (s .entry)) (tiles b))) (now (out .entry)) ⌝ }
+    ensures out { λ r. ⌜ now (out .exit) ≡ placed 0 (blockLines b (tableOf (now (s .entry))) (bitsOf (now (s .entry)) (tiles b)))
+        (now (out .entry)) ⌝ }
 {
     frames::contents::fill_table(s, table);
     frames::contents::fill_bits(s, (b.h * b.w) as usize, bits);
@@ -69,7 +71,8 @@ fn put_frames(s: &[u8], b: Block, table: &mut [u16], bits: &mut [u8], out: &mut 
 fn put_input(s: &[u8], b: Block, out: &mut [u8]) -> usize
     requires { ⌜ Small (b .w) (b .h) × (length (now out) ≡ outLength) ⌝ }
     ensures next { λ r. ⌜ r ≡ 0 + length (blockLines b (tableOf (now (s .entry))) (bitsOf (now (s .entry)) (tiles b))) ⌝ }
-    ensures out { λ r. ⌜ now (out .exit) ≡ placed 0 (blockLines b (tableOf (now (s .entry))) (bitsOf (now (s .entry)) (tiles b))) (now (out .entry)) ⌝ }
+    ensures out { λ r. ⌜ now (out .exit) ≡ placed 0 (blockLines b (tableOf (now (s .entry))) (bitsOf (now (s .entry)) (tiles b)))
+        (now (out .entry)) ⌝ }
 {
     let end = TILE_NUMBERS * (b.h * b.w) as usize;
     let mut table = table_room();

@@ -29,7 +29,8 @@ use ports::lengths::MAX_POSITIONS;
 
 // Group g by itself and with all that was claimed before it.
 fn check_group(table: &[u16], g: usize, own: &mut [u16]) -> bool
-    requires { ⌜ (length (now table) ≡ tableLength) × (g < maxGroups) × (g < groupCount logicTile (now table)) × (TableOwned logicTile (now table) (groupSlot logicTile g) (now own)) ⌝ }
+    requires { ⌜ (length (now table) ≡ tableLength) × (g < maxGroups) × (g < groupCount logicTile (now table)) ×
+        (TableOwned logicTile (now table) (groupSlot logicTile g) (now own)) ⌝ }
     ensures answer { λ r. ⌜ r ≡ groupOk logicTile (now (table .entry)) g ⌝ }
     ensures map { λ r. ⌜ (r ≡ true → TableOwned logicTile (now (table .entry)) (groupSlot logicTile (g + 1)) (now (own .exit))) ⌝ }
 {
@@ -43,9 +44,11 @@ fn check_group(table: &[u16], g: usize, own: &mut [u16]) -> bool
 
 // The groups, after fields and passive list.
 fn check_groups(table: &[u16], own: &mut [u16]) -> usize
-    requires { ⌜ (length (now table) ≡ tableLength) × (fieldsOk logicTile (now table) ≡ true) × (passivesOk logicTile (now table) ≡ true) × (TableOwned logicTile (now table) (groupSlots logicTile) (now own)) ⌝ }
+    requires { ⌜ (length (now table) ≡ tableLength) × (fieldsOk logicTile (now table) ≡ true) ×
+        (passivesOk logicTile (now table) ≡ true) × (TableOwned logicTile (now table) (groupSlots logicTile) (now own)) ⌝ }
     ensures part { λ r. ⌜ r ≡ faultyPart logicTile (now (table .entry)) ⌝ }
-    ensures map { λ r. ⌜ (tableOk logicTile (now (table .entry)) ≡ true → TableOwned logicTile (now (table .entry)) (slotCount logicTile) (now (own .exit))) ⌝ }
+    ensures map { λ r. ⌜ (tableOk logicTile (now (table .entry)) ≡ true → TableOwned logicTile (now (table .entry))
+        (slotCount logicTile) (now (own .exit))) ⌝ }
 {
     let n = group_count(table);
     let mut g = 0;
@@ -65,7 +68,8 @@ fn check_groups(table: &[u16], own: &mut [u16]) -> usize
 fn check_parts(table: &[u16], own: &mut [u16]) -> usize
     requires { ⌜ (length (now table) ≡ tableLength) × (now own ≡ zeros (logicTile .positions)) ⌝ }
     ensures part { λ r. ⌜ r ≡ faultyPart logicTile (now (table .entry)) ⌝ }
-    ensures map { λ r. ⌜ (tableOk logicTile (now (table .entry)) ≡ true → TableOwned logicTile (now (table .entry)) (slotCount logicTile) (now (own .exit))) ⌝ }
+    ensures map { λ r. ⌜ (tableOk logicTile (now (table .entry)) ≡ true → TableOwned logicTile (now (table .entry))
+        (slotCount logicTile) (now (own .exit))) ⌝ }
 {
     claim_cells(own);
     if !claim(table, 0, FIELDS, FIELD_SLOTS, own) {
@@ -87,7 +91,8 @@ fn check_parts(table: &[u16], own: &mut [u16]) -> usize
 pub fn check_table(table: &[u16], own: &mut [u16]) -> usize
     requires { ⌜ (length (now table) ≡ tableLength) × (length (now own) ≡ logicTile .positions) ⌝ }
     ensures part { λ r. ⌜ r ≡ faultyPart logicTile (now (table .entry)) ⌝ }
-    ensures map { λ r. ⌜ (tableOk logicTile (now (table .entry)) ≡ true → TableOwned logicTile (now (table .entry)) (slotCount logicTile) (now (own .exit))) ⌝ }
+    ensures map { λ r. ⌜ (tableOk logicTile (now (table .entry)) ≡ true → TableOwned logicTile (now (table .entry))
+        (slotCount logicTile) (now (own .exit))) ⌝ }
 {
     lists::clear(own);
     check_parts(table, own)

@@ -58,7 +58,8 @@ fn next_ready(
     requires { ⌜ length (now rows) ≡ rowLength * length (now marks) ⌝ }
     requires { ⌜ Closed (graphOf (now rows)) (length (now marks)) × (length (now marks) ≤ maxWires) ⌝ }
     requires { ⌜ Resting (graphOf (now rows)) (length (now marks)) (now marks) (now links) (now woken) from ⌝ }
-    ensures { λ r. ⌜ Found (graphOf (now (rows .entry))) (length (now (marks .entry))) (now (marks .entry)) (now (marks .exit)) (now (links .exit)) (now (woken .exit)) r ⌝ }
+    ensures { λ r. ⌜ Found (graphOf (now (rows .entry))) (length (now (marks .entry))) (now (marks .entry)) (now (marks .exit))
+        (now (links .exit)) (now (woken .exit)) r ⌝ }
 {
     let n = marks.len();
     let mut look = take(woken, from, n);

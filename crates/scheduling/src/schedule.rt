@@ -25,7 +25,8 @@ pub enum Scheduled {
 // The lowest wire that is not listed, or the number of indices.
 fn first_unlisted(rows: &[u16], marks: &[u16]) -> usize
     requires { ⌜ length (now rows) ≡ rowLength * length (now marks) ⌝ }
-    ensures { λ r. ⌜ r ≡ first (λ w. graphOf (now (rows .entry)) .wire w && not (listed (onlyListed (now (marks .entry))) w)) 0 (length (now (marks .entry))) ⌝ }
+    ensures { λ r. ⌜ r ≡ first (λ w. graphOf (now (rows .entry)) .wire w && not (listed (onlyListed (now (marks .entry))) w)) 0
+        (length (now (marks .entry))) ⌝ }
 {
     let mut w = 0;
     while w < marks.len() {

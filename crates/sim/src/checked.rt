@@ -32,9 +32,13 @@ pub fn step_checked(
     requires { ⌜ Sized b ⌝ }
     requires { ⌜ InputsLong b (inputsLent (now table) (now settings) (now list) (now state) (now before) (now after)) ⌝ }
     requires { ⌜ StepRoomLong b (stepRoomLent (now values) (now next) (now wires) (now own) (now marks) (now first) (now second)) ⌝ }
-    ensures answer { λ r. ⌜ r ≡ inputsAnswer b (now (table .entry)) (now (settings .entry)) (now (list .entry)) (now (state .entry)) (now (before .entry)) (now (after .entry)) ⌝ }
-    ensures values { λ r. ⌜ now (values .exit) ≡ output (answerNumber r) (now (values .entry)) (portValues b (settledBy b (now (list .entry)) (now (state .entry)) (now (before .entry)))) ⌝ }
-    ensures next { λ r. ⌜ now (next .exit) ≡ output (answerNumber r) (now (next .entry)) (nextStates b (now (settings .entry)) (settledBy b (now (list .entry)) (now (state .entry)) (now (before .entry))) (settledBy b (now (list .entry)) (now (state .entry)) (now (after .entry))) (now (state .entry))) ⌝ }
+    ensures answer { λ r. ⌜ r ≡ inputsAnswer b (now (table .entry)) (now (settings .entry)) (now (list .entry))
+        (now (state .entry)) (now (before .entry)) (now (after .entry)) ⌝ }
+    ensures values { λ r. ⌜ now (values .exit) ≡ output (answerNumber r) (now (values .entry))
+        (portValues b (settledBy b (now (list .entry)) (now (state .entry)) (now (before .entry)))) ⌝ }
+    ensures next { λ r. ⌜ now (next .exit) ≡ output (answerNumber r) (now (next .entry))
+        (nextStates b (now (settings .entry)) (settledBy b (now (list .entry)) (now (state .entry)) (now (before .entry)))
+        (settledBy b (now (list .entry)) (now (state .entry)) (now (after .entry))) (now (state .entry))) ⌝ }
 {
     let r = check_inputs(
         b,

@@ -102,7 +102,9 @@ pub fn check_run(
     own: &mut [u16],
     marks: &mut [u16],
 ) -> Answer
-    requires { ⌜ Sized b × (length (now list) ≡ listLength b) × (length (now state) ≡ stateLength (sizeOf b)) × (length (now before) ≡ ports b) × (length (now after) ≡ ports b) × (length (now wires) ≡ ports b) × (length (now own) ≡ ports b) × (length (now marks) ≡ ports b) ⌝ }
+    requires { ⌜ Sized b × (length (now list) ≡ listLength b) × (length (now state) ≡ stateLength (sizeOf b)) ×
+        (length (now before) ≡ ports b) × (length (now after) ≡ ports b) × (length (now wires) ≡ ports b) ×
+        (length (now own) ≡ ports b) × (length (now marks) ≡ ports b) ⌝ }
     ensures answer { λ r. ⌜ r ≡ runAnswer b (now (list .entry)) (now (state .entry)) (now (before .entry)) (now (after .entry)) ⌝ }
     ensures wires { λ r. ⌜ now (wires .exit) ≡ wiresOf b ⌝ }
     ensures own { λ r. ⌜ now (own .exit) ≡ wireMarks b ⌝ }
@@ -138,7 +140,8 @@ pub fn check_inputs(
 ) -> Answer
     requires { ⌜ Sized b × InputsLong b (inputsLent (now table) (now settings) (now list) (now state) (now before) (now after)) ⌝ }
     requires { ⌜ (length (now wires) ≡ ports b) × (length (now own) ≡ ports b) × (length (now marks) ≡ ports b) ⌝ }
-    ensures answer { λ r. ⌜ r ≡ inputsAnswer b (now (table .entry)) (now (settings .entry)) (now (list .entry)) (now (state .entry)) (now (before .entry)) (now (after .entry)) ⌝ }
+    ensures answer { λ r. ⌜ r ≡ inputsAnswer b (now (table .entry)) (now (settings .entry)) (now (list .entry))
+        (now (state .entry)) (now (before .entry)) (now (after .entry)) ⌝ }
     ensures wires { λ r. ⌜ (r ≡ Done → now (wires .exit) ≡ wiresOf b) ⌝ }
     ensures own { λ r. ⌜ (r ≡ Done → now (own .exit) ≡ wireMarks b) ⌝ }
 {

@@ -42,15 +42,26 @@ pub fn step(
     first: &mut [u8],
     second: &mut [u8],
 ) -> Answer
-    ensures answer { λ r. ⌜ r ≡ stepAnswer b (now (table .entry)) (now (settings .entry)) (now (list .entry)) (now (state .entry)) (now (before .entry)) (now (after .entry)) (stepExact b (stepLent (inputsLent (now (table .entry)) (now (settings .entry)) (now (list .entry)) (now (state .entry)) (now (before .entry)) (now (after .entry))) (stepRoomLent (now (values .entry)) (now (next .entry)) (now (wires .entry)) (now (own .entry)) (now (marks .entry)) (now (first .entry)) (now (second .entry))))) ⌝ }
-    ensures values { λ r. ⌜ now (values .exit) ≡ output (answerNumber r) (now (values .entry)) (portValues b (settledBy b (now (list .entry)) (now (state .entry)) (now (before .entry)))) ⌝ }
-    ensures next { λ r. ⌜ now (next .exit) ≡ output (answerNumber r) (now (next .entry)) (nextStates b (now (settings .entry)) (settledBy b (now (list .entry)) (now (state .entry)) (now (before .entry))) (settledBy b (now (list .entry)) (now (state .entry)) (now (after .entry))) (now (state .entry))) ⌝ }
+    ensures answer { λ r. ⌜ r ≡ stepAnswer b (now (table .entry)) (now (settings .entry)) (now (list .entry)) (now (state .entry))
+        (now (before .entry)) (now (after .entry))
+        (stepExact b (stepLent (inputsLent (now (table .entry)) (now (settings .entry)) (now (list .entry)) (now (state .entry))
+        (now (before .entry)) (now (after .entry))) (stepRoomLent (now (values .entry)) (now (next .entry)) (now (wires .entry))
+        (now (own .entry)) (now (marks .entry)) (now (first .entry)) (now (second .entry))))) ⌝ }
+    ensures values { λ r. ⌜ now (values .exit) ≡ output (answerNumber r) (now (values .entry))
+        (portValues b (settledBy b (now (list .entry)) (now (state .entry)) (now (before .entry)))) ⌝ }
+    ensures next { λ r. ⌜ now (next .exit) ≡ output (answerNumber r) (now (next .entry))
+        (nextStates b (now (settings .entry)) (settledBy b (now (list .entry)) (now (state .entry)) (now (before .entry)))
+        (settledBy b (now (list .entry)) (now (state .entry)) (now (after .entry))) (now (state .entry))) ⌝ }
     ensures wires { λ r. ⌜ now (wires .exit) ≡ workRoom (answerNumber r) (now (wires .entry)) ⌝ }
     ensures own { λ r. ⌜ now (own .exit) ≡ workRoom (answerNumber r) (now (own .entry)) ⌝ }
     ensures marks { λ r. ⌜ now (marks .exit) ≡ workRoom (answerNumber r) (now (marks .entry)) ⌝ }
     ensures first { λ r. ⌜ now (first .exit) ≡ workRoom (answerNumber r) (now (first .entry)) ⌝ }
     ensures second { λ r. ⌜ now (second .exit) ≡ workRoom (answerNumber r) (now (second .entry)) ⌝ }
-    ensures says { λ r. ⌜ StepSays b (now (table .entry)) (now (settings .entry)) (now (list .entry)) (now (state .entry)) (now (before .entry)) (now (after .entry)) (stepLent (inputsLent (now (table .entry)) (now (settings .entry)) (now (list .entry)) (now (state .entry)) (now (before .entry)) (now (after .entry))) (stepRoomLent (now (values .entry)) (now (next .entry)) (now (wires .entry)) (now (own .entry)) (now (marks .entry)) (now (first .entry)) (now (second .entry)))) r ⌝ }
+    ensures says { λ r. ⌜ StepSays b (now (table .entry)) (now (settings .entry)) (now (list .entry)) (now (state .entry))
+        (now (before .entry)) (now (after .entry))
+        (stepLent (inputsLent (now (table .entry)) (now (settings .entry)) (now (list .entry)) (now (state .entry))
+        (now (before .entry)) (now (after .entry))) (stepRoomLent (now (values .entry)) (now (next .entry)) (now (wires .entry))
+        (now (own .entry)) (now (marks .entry)) (now (first .entry)) (now (second .entry)))) r ⌝ }
 {
     if !ports::size::is_sized(b) {
         return Answer::Refused(Refusal::WrongSize);

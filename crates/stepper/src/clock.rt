@@ -83,7 +83,8 @@ fn next_cell(
     state: &[u8],
     c: usize,
 ) -> u8
-    requires { ⌜ Mapped b (now st) (now wires) × (c < 8 * tiles b) × (length (now before) ≡ ports b) × PortBits b (now before) × (length (now after) ≡ ports b) × (length (now state) ≡ 8 * tiles b) ⌝ }
+    requires { ⌜ Mapped b (now st) (now wires) × (c < 8 * tiles b) × (length (now before) ≡ ports b) × PortBits b (now before) ×
+        (length (now after) ≡ ports b) × (length (now state) ≡ 8 * tiles b) ⌝ }
     ensures { λ r. ⌜ r ≡ nextCell b (now (st .entry)) (now (before .entry)) (now (after .entry)) (now (state .entry)) c ⌝ }
 {
     let tile = c / CELLS;
@@ -107,7 +108,8 @@ pub fn clock(
     state: &[u8],
     next: &mut [u8],
 )
-    requires { ⌜ Mapped b (now st) (now wires) × (length (now before) ≡ ports b) × PortBits b (now before) × (length (now after) ≡ ports b) × (length (now state) ≡ 8 * tiles b) × (length (now next) ≡ 8 * tiles b) ⌝ }
+    requires { ⌜ Mapped b (now st) (now wires) × (length (now before) ≡ ports b) × PortBits b (now before) ×
+        (length (now after) ≡ ports b) × (length (now state) ≡ 8 * tiles b) × (length (now next) ≡ 8 * tiles b) ⌝ }
     ensures { λ r. ⌜ now (next .exit) ≡ nextStates b (now (st .entry)) (now (before .entry)) (now (after .entry)) (now (state .entry)) ⌝ }
 {
     let n = next.len();

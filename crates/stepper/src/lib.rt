@@ -33,9 +33,13 @@ pub fn write_step(
     first: &mut [u8],
     second: &mut [u8],
 )
-    requires { ⌜ Mapped b (now settings) (now wires) × (now own ≡ wireMarks b) × Runnable b (now list) (now state) (now before) × Runnable b (now list) (now state) (now after) × (length (now values) ≡ ports b) × (length (now next) ≡ 8 * tiles b) × (length (now first) ≡ ports b) × (length (now second) ≡ ports b) ⌝ }
+    requires { ⌜ Mapped b (now settings) (now wires) × (now own ≡ wireMarks b) × Runnable b (now list) (now state) (now before) ×
+        Runnable b (now list) (now state) (now after) × (length (now values) ≡ ports b) × (length (now next) ≡ 8 * tiles b) ×
+        (length (now first) ≡ ports b) × (length (now second) ≡ ports b) ⌝ }
     ensures values { λ r. ⌜ now (values .exit) ≡ portValues b (settledBy b (now (list .entry)) (now (state .entry)) (now (before .entry))) ⌝ }
-    ensures next { λ r. ⌜ now (next .exit) ≡ nextStates b (now (settings .entry)) (settledBy b (now (list .entry)) (now (state .entry)) (now (before .entry))) (settledBy b (now (list .entry)) (now (state .entry)) (now (after .entry))) (now (state .entry)) ⌝ }
+    ensures next { λ r. ⌜ now (next .exit) ≡ nextStates b (now (settings .entry))
+        (settledBy b (now (list .entry)) (now (state .entry)) (now (before .entry)))
+        (settledBy b (now (list .entry)) (now (state .entry)) (now (after .entry))) (now (state .entry)) ⌝ }
 {
     let count = count_wires(own);
     settle(b, list, count, state, before, first);

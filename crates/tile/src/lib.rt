@@ -38,7 +38,8 @@ const POSITIONS: usize = 864;
 
 // The lowest position at fault; 864 where the tile can be decoded. `own` is the ownership map of the table.
 pub fn tile_fault(table: &[u16], own: &[u16], bits: &[u8]) -> usize
-    requires { ⌜ (TableRules logicTile (now table)) × (Owned 864 (slotsOf logicTile (now table)) (slotCount logicTile) (now own)) × (length (now bits) ≡ tileNumbers) ⌝ }
+    requires { ⌜ (TableRules logicTile (now table)) × (Owned 864 (slotsOf logicTile (now table)) (slotCount logicTile) (now own)) ×
+        (length (now bits) ≡ tileNumbers) ⌝ }
     ensures { λ r. ⌜ r ≡ tileFault (now (table .entry)) (tileOf (now (bits .entry))) ⌝ }
 {
     let mut p = 0;
@@ -84,7 +85,8 @@ pub fn decode_tile(table: &[u16], bits: &[u8], settings: &mut [u16])
 // The lowest position at fault; where there is none, 864 with the settings read. Most tiles are read in one pass (`try_decode`), and only where
 // that fails are all positions looked at.
 pub fn read_tile(table: &[u16], own: &[u16], bits: &[u8], settings: &mut [u16]) -> usize
-    requires { ⌜ (TableRules logicTile (now table)) × (Owned 864 (slotsOf logicTile (now table)) (slotCount logicTile) (now own)) × (length (now bits) ≡ tileNumbers) × (length (now settings) ≡ settingsLength) ⌝ }
+    requires { ⌜ (TableRules logicTile (now table)) × (Owned 864 (slotsOf logicTile (now table)) (slotCount logicTile) (now own)) ×
+        (length (now bits) ≡ tileNumbers) × (length (now settings) ≡ settingsLength) ⌝ }
     ensures fault { λ r. ⌜ r ≡ tileFault (now (table .entry)) (tileOf (now (bits .entry))) ⌝ }
     ensures settings { λ r. ⌜ (r ≡ 864 → now (settings .exit) ≡ decode (now (table .entry)) (bitAt (now (bits .entry)))) ⌝ }
 {
@@ -141,7 +143,8 @@ fn write_groups(table: &[u16], settings: &[u16], bits: &mut [u8])
 
 // A tile's settings written to its bits; the cells go through the array by value.
 pub fn encode_tile(table: &[u16], settings: &[u16], bits: &mut [u8])
-    requires { ⌜ (TableRules logicTile (now table)) × (length (now settings) ≡ settingsLength) × (settingsFit (now table) (now settings) ≡ true) × (length (now bits) ≡ tileNumbers) ⌝ }
+    requires { ⌜ (TableRules logicTile (now table)) × (length (now settings) ≡ settingsLength) ×
+        (settingsFit (now table) (now settings) ≡ true) × (length (now bits) ≡ tileNumbers) ⌝ }
     ensures { λ r. ⌜ now (bits .exit) ≡ encode (now (table .entry)) (now (settings .entry)) ⌝ }
 {
     lists::clear_bytes(bits);

@@ -32,8 +32,10 @@ const MAX_POSITIONS: usize = 8;
 
 // The set bit at p; whether it is in order. A group is read at its first set bit that is met. The cells are read as a whole, elsewhere.
 fn take_bit(table: &[u16], own: &[u16], bits: &[u8], p: usize, settings: &mut [u16]) -> bool
-    requires { ⌜ (TableRules logicTile (now table)) × (Owned 864 (slotsOf logicTile (now table)) (slotCount logicTile) (now own)) × (length (now bits) ≡ tileNumbers) × (p < 864) × (bitAt (now bits) p ≡ 1) × Known (now table) (now bits) (now settings) ⌝ }
-    ensures { λ r. ⌜ (r ≡ true → Learned (now (table .entry)) (now (bits .entry)) (now (settings .entry)) (now (settings .exit)) × Taken (now (table .entry)) (now (settings .exit)) p) ⌝ }
+    requires { ⌜ (TableRules logicTile (now table)) × (Owned 864 (slotsOf logicTile (now table)) (slotCount logicTile) (now own)) ×
+        (length (now bits) ≡ tileNumbers) × (p < 864) × (bitAt (now bits) p ≡ 1) × Known (now table) (now bits) (now settings) ⌝ }
+    ensures { λ r. ⌜ (r ≡ true → Learned (now (table .entry)) (now (bits .entry)) (now (settings .entry)) (now (settings .exit)) ×
+        Taken (now (table .entry)) (now (settings .exit)) p) ⌝ }
 {
     let code = own[p] as usize;
     if code < FIELDS {
@@ -57,8 +59,11 @@ fn take_bit(table: &[u16], own: &[u16], bits: &[u8], p: usize, settings: &mut [u
 
 // The set bits of byte i.
 fn take_byte(table: &[u16], own: &[u16], bits: &[u8], i: usize, settings: &mut [u16]) -> bool
-    requires { ⌜ (TableRules logicTile (now table)) × (Owned 864 (slotsOf logicTile (now table)) (slotCount logicTile) (now own)) × (length (now bits) ≡ tileNumbers) × (i < tileNumbers) × Known (now table) (now bits) (now settings) ⌝ }
-    ensures { λ r. ⌜ (r ≡ true → Learned (now (table .entry)) (now (bits .entry)) (now (settings .entry)) (now (settings .exit)) × ((k : ℕ) → k < unit → digit (getD (now (bits .entry)) i 0) k ≡ 1 → Taken (now (table .entry)) (now (settings .exit)) (unit * i + k))) ⌝ }
+    requires { ⌜ (TableRules logicTile (now table)) × (Owned 864 (slotsOf logicTile (now table)) (slotCount logicTile) (now own)) ×
+        (length (now bits) ≡ tileNumbers) × (i < tileNumbers) × Known (now table) (now bits) (now settings) ⌝ }
+    ensures { λ r. ⌜ (r ≡ true → Learned (now (table .entry)) (now (bits .entry)) (now (settings .entry)) (now (settings .exit)) ×
+        ((k : ℕ) → k < unit → digit (getD (now (bits .entry)) i 0) k ≡ 1 → Taken (now (table .entry)) (now (settings .exit))
+        (unit * i + k))) ⌝ }
 {
     let mut left = bits[i];
     while 0 < left {
@@ -75,8 +80,10 @@ fn take_byte(table: &[u16], own: &[u16], bits: &[u8], i: usize, settings: &mut [
 // tile with no bit set takes no time.
 // Rules out: settings kept from another tile; a yes for a bit that nothing claims, an unlisted group or the carry pair.
 pub fn try_decode(table: &[u16], own: &[u16], bits: &[u8], settings: &mut [u16]) -> bool
-    requires { ⌜ (TableRules logicTile (now table)) × (Owned 864 (slotsOf logicTile (now table)) (slotCount logicTile) (now own)) × (length (now bits) ≡ tileNumbers) × (length (now settings) ≡ settingsLength) ⌝ }
-    ensures { λ r. ⌜ (r ≡ true → (tileFault (now (table .entry)) (tileOf (now (bits .entry))) ≡ 864) × (now (settings .exit) ≡ decode (now (table .entry)) (bitAt (now (bits .entry))))) ⌝ }
+    requires { ⌜ (TableRules logicTile (now table)) × (Owned 864 (slotsOf logicTile (now table)) (slotCount logicTile) (now own)) ×
+        (length (now bits) ≡ tileNumbers) × (length (now settings) ≡ settingsLength) ⌝ }
+    ensures { λ r. ⌜ (r ≡ true → (tileFault (now (table .entry)) (tileOf (now (bits .entry))) ≡ 864) ×
+        (now (settings .exit) ≡ decode (now (table .entry)) (bitAt (now (bits .entry))))) ⌝ }
 {
     lists::clear(settings);
     if is_empty(bits) {

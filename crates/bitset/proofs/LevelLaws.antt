@@ -7,7 +7,7 @@ use native.Mathlib.Omega.{arith}
 use lib.ListN.{length}
 use Rattle.lists.proofs.CaseLaws.{eq-or-ne}
 use Rattle.digits.specs.Digits.{digit}
-use Rattle.bitset.specs.Bitset.{Bitset, Tells, Written, word, wordBelow, wordCount, wordDigits, tellers, leaves}
+use Rattle.bitset.specs.Bitset.{Bitset, Tells, DigitWritten, word, wordBelow, wordCount, wordDigits, tellers, leaves}
 use Rattle.bitset.proofs.WordLaws.{written-length, word-written-other, digit-written-same, digit-written-other, ne-zero-before}
 
 -- the words of a set, but for the digit that stands for word e
@@ -28,7 +28,7 @@ tells-same : (words after : List ℕ) (i k : ℕ) → digit (word after i) k ≡
     → word after (wordBelow i k) ≡ word words (wordBelow i k) → Tells words i k → Tells after i k
 tells-same words after i k d w t = (λ x z. t .0 (sym d ∙ x) (sym w ∙ z), λ ne. d ∙ t .1 (λ z. ne (w ∙ z)))
 
-module _ {words after : List ℕ} {i k v : ℕ} (e : Written words after i k v) (long : length words ≡ wordCount) (l : i < wordCount) where
+module _ {words after : List ℕ} {i k v : ℕ} (e : DigitWritten words after i k v) (long : length words ≡ wordCount) (l : i < wordCount) where
   tells-kept : (j m : ℕ) → wordBelow j m ≢ i → (j ≡ i → m ≢ k) → Tells words j m → Tells after j m
   tells-kept j m out ne t = tells-same words after j m (digit-written-other e (omega arith) j m ne) (word-written-other e (wordBelow j m) out) t
 
@@ -38,7 +38,7 @@ module _ {words after : List ℕ} {i k v : ℕ} (e : Written words after i k v) 
       let w : word after (wordBelow i k) ≡ word words (wordBelow i k) = word-written-other e (wordBelow i k) (λ z. absurd (omega arith)) in
       (λ a b. agrees .0 (sym d ∙ a) (sym w ∙ b), λ ne. d ∙ agrees .1 (λ b. ne (w ∙ b)))
 
-module _ {words after : List ℕ} {i k v : ℕ} (e : Written words after i k v) where
+module _ {words after : List ℕ} {i k v : ℕ} (e : DigitWritten words after i k v) where
   -- a digit of a leaf
   pub pending-start : Bitset words → leaves ≤ i → i < wordCount → Pending after i
   pending-start s h l = record {
@@ -70,7 +70,7 @@ module _ {words after : List ℕ} {i k v : ℕ} (e : Written words after i k v) 
           (eq-or-ne (wordBelow j m) x)
 
 -- word x, of which a digit was written 0, is not 0 still: nothing is pending
-pub pending-kept : {words after : List ℕ} {x y m : ℕ} → Written words after x m 0 → Pending words y → x < wordCount → Pending after x
+pub pending-kept : {words after : List ℕ} {x y m : ℕ} → DigitWritten words after x m 0 → Pending words y → x < wordCount → Pending after x
     → (i k : ℕ) → i < tellers → k < wordDigits → x ≡ wordBelow i k → x ≢ y → word after x ≢ 0 → Bitset after
 pending-kept {words} {after} {x} {y} {m} e before l p i k li lk here ne full = record { long = p .long; spare = p .spare; tells = all }
   where

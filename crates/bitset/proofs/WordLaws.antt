@@ -16,7 +16,7 @@ use Rattle.lists.proofs.CaseLaws.{eq-or-ne}
 use Rattle.lists.proofs.TableLaws.{zeros-length, zeros-at}
 use Rattle.digits.specs.Digits.{digit, setDigit}
 use Rattle.digits.proofs.DigitLaws.{digit-set-same, digit-set-other, digit-past}
-use Rattle.bitset.specs.Bitset.{Bitset, Written, has, word, wordBelow, wordCount, wordDigits, leaves}
+use Rattle.bitset.specs.Bitset.{Bitset, DigitWritten, has, word, wordBelow, wordCount, wordDigits, leaves}
 
 -- the digits of 0
 pub digit-zero : {n : ℕ} (k : ℕ) → n ≡ 0 → digit n k ≡ 0
@@ -33,14 +33,14 @@ set-zero k = let q : 0 / 2 ^ (1 + k) ≡ 0 = omega (arith, shr-le 0 (1 + k)) in 
 
 -- ---- digit k of word i is written
 
-module _ {words after : List ℕ} {i k v : ℕ} (e : Written words after i k v) where
+module _ {words after : List ℕ} {i k v : ℕ} (e : DigitWritten words after i k v) where
   pub written-length : length after ≡ length words
   written-length = ap length (e .made) ∙ length-set words i (setDigit (word words i) k v)
 
   pub word-written-other : (j : ℕ) → j ≢ i → word after j ≡ word words j
   word-written-other j ne = ap (λ (x : List ℕ). word x j) (e .made) ∙ getD-set-other words i j (setDigit (word words i) k v) 0 ne
 
-module _ {words after : List ℕ} {i k v : ℕ} (e : Written words after i k v) (l : i < length words) where
+module _ {words after : List ℕ} {i k v : ℕ} (e : DigitWritten words after i k v) (l : i < length words) where
   word-written-same : word after i ≡ setDigit (word words i) k v
   word-written-same = ap (λ (x : List ℕ). word x i) (e .made) ∙ getD-set-same words i (setDigit (word words i) k v) 0 l
 
@@ -65,7 +65,7 @@ module _ {words after : List ℕ} {i k v : ℕ} (e : Written words after i k v) 
   has-written-other m ne = ap (λ (x : ℕ). eqb x 1) (digit-written-other (leaves + m / wordDigits) (m % wordDigits) ne)
 
 -- a word that is not 0 after a digit was written 0 was not 0 before
-pub ne-zero-before : {words after : List ℕ} {i k : ℕ} → Written words after i k 0 → i < length words → word after i ≢ 0 → word words i ≢ 0
+pub ne-zero-before : {words after : List ℕ} {i k : ℕ} → DigitWritten words after i k 0 → i < length words → word after i ≢ 0 → word words i ≢ 0
 ne-zero-before {words} {after} {i} {k} e l ne z = ne (word-written-same e l ∙ ap (λ (x : ℕ). setDigit x k 0) z ∙ set-zero k)
 
 -- ---- the words of no member

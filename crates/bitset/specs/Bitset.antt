@@ -38,7 +38,7 @@ unfoldable pub has : List ℕ → ℕ → Bool
 has words n = isSet (word words (leaves + n / wordDigits)) (n % wordDigits)
 
 -- `after` is `words` with v, which is 0 or 1, for digit k of word i
-pub record Written (words after : List ℕ) (i k v : ℕ) : Type 0 where
+pub record DigitWritten (words after : List ℕ) (i k v : ℕ) : Type 0 where
   pub bit : v < 2
   pub made : after ≡ set words i (setDigit (word words i) k v)
 

@@ -6,7 +6,7 @@ ghost use mathlib.Core.Logic.{_≢_};
 ghost use Prim.Native.Nat.{ℕ, _<_};
 ghost use Rattle.lists.specs.Search.{first};
 ghost use Rattle.digits.specs.Digits.{LowestDigit, setDigit};
-ghost use Rattle.bitset.specs.Bitset.{Bitset, Written, has, wordDigits, wordCount, numbers};
+ghost use Rattle.bitset.specs.Bitset.{Bitset, DigitWritten, has, wordDigits, wordCount, numbers};
 
 // How many words a set has.
 pub const WORDS: usize = 1089;
@@ -31,7 +31,7 @@ pub fn empty() -> [u64; WORDS]
 // Digit k of word i becomes 1.
 fn raise(words: &mut [u64; WORDS], i: usize, k: usize)
     requires { ⌜ (i < wordCount) × (k < wordDigits) ⌝ }
-    ensures { λ r. ⌜ Written (now (words .entry)) (now (words .exit)) i k 1 ⌝ }
+    ensures { λ r. ⌜ DigitWritten (now (words .entry)) (now (words .exit)) i k 1 ⌝ }
 {
     words[i] = words[i] | (1 << k);
 }
@@ -47,7 +47,7 @@ fn without_digit(word: u64, k: usize) -> u64
 // Digit k of word i becomes 0.
 fn lower(words: &mut [u64; WORDS], i: usize, k: usize)
     requires { ⌜ (i < wordCount) × (k < wordDigits) ⌝ }
-    ensures { λ r. ⌜ Written (now (words .entry)) (now (words .exit)) i k 0 ⌝ }
+    ensures { λ r. ⌜ DigitWritten (now (words .entry)) (now (words .exit)) i k 0 ⌝ }
 {
     words[i] = without_digit(words[i], k);
 }

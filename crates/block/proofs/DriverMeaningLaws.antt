@@ -27,7 +27,7 @@ use Rattle.block.specs.Lengths.{followLent, followExact, FollowLong}
 use Rattle.block.specs.declared.lengths.FollowLent.{FollowLent}
 use Rattle.block.specs.Building.{none}
 use Rattle.block.specs.Drivers.{portAnswer, settingsAnswer, followAnswer}
-use Rattle.block.specs.DriverMeaning.{Prepared, FollowSays, wrong-size, wrong-length, broken, bitless, contention, out-of-range}
+use Rattle.block.specs.DriverMeaning.{Followable, FollowSays, wrong-size, wrong-length, broken, bitless, contention, out-of-range}
 use Rattle.refusal.proofs.GroundsLaws.{unless-cases}
 use Rattle.block.proofs.LengthLaws.{follow-long-exact}
 use Rattle.block.proofs.RoutedLaws.{routed-of-fit}
@@ -41,7 +41,7 @@ module _ (B : Block) (t st : List ℕ) (tile port : ℕ) (wires sources marks : 
   Says = FollowSays B t st tile port lent
 
   -- grounds 5 and 20, and where following ends
-  port-means : Prepared B t st tile port lent → Routed B t st → Says (portAnswer B t st tile port)
+  port-means : Followable B t st tile port lent → Routed B t st → Says (portAnswer B t st tile port)
   unfolding portAnswer
   port-means can ok =
       unless-cases Says (none (ports B) (contendedWire B t st)) _ _

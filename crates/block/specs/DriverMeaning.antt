@@ -36,7 +36,7 @@ module _ (B : Block) (t st : List ℕ) (tile port : ℕ) where
 
 module _ (B : Block) (t st : List ℕ) (tile port : ℕ) (lent : FollowLent) where
   -- none of grounds 1, 2, 3 and 9
-  pub record Prepared : Type 0 where
+  pub record Followable : Type 0 where
     pub size : Sized B
     pub lengths : FollowLong B lent
     pub rules : TableRules logicTile t
@@ -48,9 +48,9 @@ module _ (B : Block) (t st : List ℕ) (tile port : ℕ) (lent : FollowLent) whe
     wrong-length : Sized B → (FollowLong B lent → ⊥) → FollowNo WrongLength
     broken : (part : ℕ) → Sized B → FollowLong B lent → FirstBroken logicTile t part → FollowNo (Table part)
     bitless : (T : ℕ) → Sized B → FollowLong B lent → TableRules logicTile t → LowestBitless t st (tiles B) T → FollowNo (NoSuchSettings T)
-    contention : (x : ℕ) → Prepared → LowestContention B t st x → FollowNo (Contention x)
-    out-of-range : (number : ℕ) → Prepared → NoContention B t st → OutOfBlock B t st tile port number → FollowNo (OutOfRange number)
+    contention : (x : ℕ) → Followable → LowestContention B t st x → FollowNo (Contention x)
+    out-of-range : (number : ℕ) → Followable → NoContention B t st → OutOfBlock B t st tile port number → FollowNo (OutOfRange number)
 
   abbrev pub FollowSays : Followed → Type 0
-  FollowSays (Driven driver) = Prepared × FollowedTo B t st tile port driver
+  FollowSays (Driven driver) = Followable × FollowedTo B t st tile port driver
   FollowSays (Refused refusal) = FollowNo refusal

@@ -5,7 +5,7 @@
 // What a call does is the contract of the function that it wraps. The answer's ground, `groundIn`, says what lent memory holds afterwards.
 ghost use mathlib.Core.Path.{_≡_};
 ghost use Rattle.ports.specs.Block.{block};
-ghost use Rattle.fabric.specs.WireNumber.{wireNumber, answerNumber, answerValue};
+ghost use Rattle.fabric.specs.WireNumber.{wireNumber, wireAnswerNumber, wireAnswerValue};
 ghost use Rattle.cell.specs.Lookup.{lookedUp, lookedNumber, lookedValue};
 ghost use Rattle.capi.specs.Packed.{packed};
 use cell::logic::Looked;
@@ -19,7 +19,7 @@ pub mod pack;
 // The number of the wire that a port of a tile is on, in a block of w by h tiles. Grounds 1 and 20.
 #[no_mangle]
 pub extern "C" fn ice40_wire_number(w: u32, h: u32, tile: u32, port: u32) -> u64
-    ensures { λ r. ⌜ r ≡ packed (answerNumber (wireNumber (block w h) tile port)) (answerValue (wireNumber (block w h) tile port)) ⌝ }
+    ensures { λ r. ⌜ r ≡ packed (wireAnswerNumber (wireNumber (block w h) tile port)) (wireAnswerValue (wireNumber (block w h) tile port)) ⌝ }
 {
     match fabric::wire_number(Block { w, h }, tile, port) {
         WireNumber::Wire(n) => pack::pack(0, n as u32),

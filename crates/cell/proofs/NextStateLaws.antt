@@ -1,4 +1,4 @@
--- Each way of `nextSync`, `nextAsync` and `nextState`, and that a bit stays a bit. Main laws: `next-sync-disabled`, `next-state-lt`.
+-- Each way of `nextSync`, `nextAsync` and `nextState`. Main law: `next-sync-disabled`.
 use mathlib.Core.Path.{_≡_, refl}
 use mathlib.Core.Bool.{Bool, true, false, cond, _&&_, _||_, and-comm}
 use mathlib.Core.Logic.{_≢_}
@@ -89,13 +89,3 @@ cond-lt false x y hx hy = hy
 
 pub bit-of-lt : (on : Bool) → bitOf on < 2
 bit-of-lt on = cond-lt on 1 0 (omega arith) (omega arith)
-
-pub next-state-lt : (c : Cell) (control : Control) (lookup state : ℕ) → lookup < 2 → state < 2 → nextState c control lookup state < 2
-unfolding nextState nextSync nextAsync
-next-state-lt c control lookup state l s =
-    cond-lt (c .flipflop) _ _
-    (cond-lt (c .asynchronous) _ _
-    (cond-lt (control .tick || rose (control .before) (control .after)) _ _
-    (cond-lt (eqb (control .after) 1) _ _ (bit-of-lt (c .set)) (cond-lt (control .tick && eqb (control .enable) 1) _ _ l s)) s)
-    (cond-lt (control .tick && eqb (control .enable) 1) _ _ (cond-lt (eqb (control .before) 1) _ _ (bit-of-lt (c .set)) l) s))
-    s

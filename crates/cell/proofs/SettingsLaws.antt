@@ -13,9 +13,6 @@ pub flag-le : (on : Bool) (w : ℕ) → cond on w 0 ≤ w
 flag-le true w = omega arith
 flag-le false w = omega arith
 
-pub flags-lt : (c : Cell) → flagsOf c < 16
-flags-lt c = omega (arith, flag-le (c .carry) 1, flag-le (c .flipflop) 2, flag-le (c .set) 4, flag-le (c .asynchronous) 8)
-
 -- a digit as a flag's weight
 digit-weight : (d w : ℕ) → d < 2 → cond (eqb d 1) w 0 ≡ d * w
 digit-weight zero w h = omega arith

@@ -16,13 +16,6 @@ pub struct Control {
 }
 
 impl FlipFlop {
-    // "0 at the start".
-    pub fn start() -> FlipFlop
-        ensures { λ r. ⌜ r .value ≡ 0 ⌝ }
-    {
-        FlipFlop { value: 0 }
-    }
-
     // The clock enable beats the synchronous set or reset.
     // Rules out: a reset without the enable; a lookup taken under a reset.
     pub fn synchronous(self, tick: bool, enable: u8, reset: u8, set: u8, lookup: u8) -> FlipFlop

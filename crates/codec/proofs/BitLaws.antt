@@ -13,7 +13,7 @@ use lib.Count.{ones}
 use lib.Dec.{eqb}
 use lib.ListN.{length, getD, set, length-set}
 use lib.Seq.{getD-set-same, getD-set-other, set-getD, set-out, ext-getD}
-use Rattle.lists.specs.Search.{count}
+use Rattle.lists.specs.Search.{countBelow}
 use Rattle.lists.specs.Tables.{zeros}
 use Rattle.lists.proofs.TableLaws.{zeros-length, zeros-at}
 use Rattle.lists.proofs.SearchLaws.{all-at}
@@ -103,10 +103,10 @@ module _ (u : ℕ) (some : 0 < u) where
 
   -- one number more: its ones more
   ones-in-step : (bits : List ℕ) (i : ℕ) → getD bits i 0 < 2 ^ u
-      → count (λ (p : ℕ). eqb (bitIn u bits p) 1) (i * u + u) ≡ count (λ (p : ℕ). eqb (bitIn u bits p) 1) (i * u) + ones (getD bits i 0)
+      → countBelow (λ (p : ℕ). eqb (bitIn u bits p) 1) (i * u + u) ≡ countBelow (λ (p : ℕ). eqb (bitIn u bits p) 1) (i * u) + ones (getD bits i 0)
   ones-in-step bits i h =
       count-add (λ (p : ℕ). eqb (bitIn u bits p) 1) (i * u) u
-      ∙ ap (λ (x : ℕ). count (λ (p : ℕ). eqb (bitIn u bits p) 1) (i * u) + x)
+      ∙ ap (λ (x : ℕ). countBelow (λ (p : ℕ). eqb (bitIn u bits p) 1) (i * u) + x)
       (count-ext (λ (j : ℕ). eqb (bitIn u bits (i * u + j)) 1) (isSet (getD bits i 0)) u (λ k l. ap (λ (x : ℕ). eqb x 1) (bit-in-number bits i k l))
       ∙ sym (ones-count u (getD bits i 0) h))
 
@@ -171,8 +171,8 @@ bits-ext xs ys n bx by h = bits-in-ext unit (omega arith) xs ys n bx by h
 
 -- one byte more: its ones more
 pub bit-count-step : (bits : List ℕ) (i : ℕ) → getD bits i 0 < 2 ^ unit
-    → count (isSetAt (bitAt bits)) (unit * (i + 1)) ≡ count (isSetAt (bitAt bits)) (unit * i) + ones (getD bits i 0)
+    → countBelow (isSetAt (bitAt bits)) (unit * (i + 1)) ≡ countBelow (isSetAt (bitAt bits)) (unit * i) + ones (getD bits i 0)
 bit-count-step bits i h =
-    ap (count (isSetAt (bitAt bits))) (let e : unit * (i + 1) ≡ i * unit + unit = omega arith in e)
+    ap (countBelow (isSetAt (bitAt bits))) (let e : unit * (i + 1) ≡ i * unit + unit = omega arith in e)
     ∙ ones-in-step unit (omega arith) bits i h
-    ∙ ap (λ (x : ℕ). count (isSetAt (bitAt bits)) x + ones (getD bits i 0)) (let e : i * unit ≡ unit * i = omega arith in e)
+    ∙ ap (λ (x : ℕ). countBelow (isSetAt (bitAt bits)) x + ones (getD bits i 0)) (let e : i * unit ≡ unit * i = omega arith in e)

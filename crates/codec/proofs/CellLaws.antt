@@ -1,4 +1,4 @@
--- The eight cells by value. Main laws: `value-lt`; `cell-back`: the round trip of one cell; `put-cells-table`, `-flags`, `-kept`: settings
+-- The eight cells by value. Main laws: `value-lt`; `put-cells-table`, `-flags`, `-kept`: settings
 -- that cells were put into; `table-digit`, `flags-digit`: their digits are the tile's bits; `same-cell-table`, `-flags`: how two compare. Assumes nothing.
 use mathlib.Core.Path.{_≡_, refl, sym, ap, _∙_}
 use mathlib.Core.Logic.{⊎-elim, _≢_}
@@ -45,12 +45,6 @@ module _ (bits : List ℕ) (i j : ℕ) where
 module _ (bits : List ℕ) (i j : ℕ) where
   pub flags-digit : j < 4 → digit (valueIn (bitAt bits) i / 2 ^ 16) j ≡ bitAt bits (lcPosition i (getD lcBits (16 + j) 0))
   flags-digit h = ap (λ (x : ℕ). x % 2) (shr-shr (valueIn (bitAt bits) i) 16 j) ∙ value-digit bits i (16 + j) (omega arith)
-
--- the round trip of one cell
-pub cell-back : (bits : List ℕ) (i v : ℕ) → length bits ≡ tileNumbers → i < 8 → v < 2 ^ bitsPerCell → valueIn (bitAt (setBits bits (cellPosition i) v bitsPerCell)) i ≡ v
-cell-back bits i v n h hv =
-    set-bits-back bits (cellPosition i) v bitsPerCell hv (λ j l a b e. cell-position-once i j i l a b e .1)
-    (λ j a. position-within (cell-position-lt i j h a) n)
 
 -- the cells that bits hold
 module _ (bits : List ℕ) (i : ℕ) (h : i < 8) where

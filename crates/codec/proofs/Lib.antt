@@ -7,7 +7,7 @@ pub mod EncodeLaws  -- encode-slot: written, then read; encode-is: read, then wr
 pub mod LimitLaws  -- limit-..: the largest value of each setting; fit-..: settings that fit keep to it
 pub mod RunLaws  -- run-written, run-back: a run of slots that holds a number
 pub mod TileRunLaws  -- cell-run, field-run, passive-run, group-run: the runs of a tile
-pub mod CellLaws  -- cell-back: the round trip of one cell; put-cells-..: cells put into settings
+pub mod CellLaws  -- put-cells-..: cells put into settings
 pub mod SettingAtLaws  -- setting-..: what is read to each setting, one law for each way
 pub mod DecodeLaws  -- decode-field, .. decode-flags: the decoding, kind by kind; setting-kinds; decode-filled
 pub mod FaultLaws  -- fault-..: a position at fault, by what claims it; map-..: by the ownership map

@@ -10,7 +10,7 @@ use native.Mathlib.Omega.{arith}
 use borrow.Author.Tests.{eq-eqb, ne-eqb, lt-ltb, le-ltb, leb-true}
 use lib.Dec.{leb}
 use lib.ListN.{getD}
-use Rattle.lists.specs.Search.{all}
+use Rattle.lists.specs.Search.{allFrom}
 use Rattle.lists.proofs.CaseLaws.{and-left, and-right}
 use Rattle.lists.proofs.TableLaws.{tabulate-zero}
 use Rattle.lists.proofs.SearchLaws.{all-at, all-ext}
@@ -84,7 +84,7 @@ module _ (table settings : List ℕ) where
   fit-carry-pair e = rw e
 
   pub fit-within : (limits : List ℕ) → limits ≡ limitsOf table → bothCarries settings ≡ false
-      → all (withinAt limits settings) 0 settingsLength ≡ settingsFit table settings
+      → allFrom (withinAt limits settings) 0 settingsLength ≡ settingsFit table settings
   unfolding settingsFit
   fit-within limits e b =
       rw b

@@ -5,7 +5,7 @@ use mathlib.Core.Bool.{Bool}
 use mathlib.Core.List.{List}
 use lib.Dec.{eqb}
 use lib.ListN.{getD, set}
-use Rattle.lists.specs.Search.{all, count}
+use Rattle.lists.specs.Search.{allFrom, countBelow}
 use Rattle.digits.specs.Digits.{digit, setDigit, fromDigits}
 use Rattle.ports.specs.Lengths.{tileNumbers}
 
@@ -55,8 +55,8 @@ abbrev pub isZeroAt : List ℕ → ℕ → Bool
 isZeroAt bits i = eqb (getD bits i 0) 0
 
 abbrev pub isEmpty : List ℕ → Bool
-isEmpty bits = all (isZeroAt bits) 0 tileNumbers
+isEmpty bits = allFrom (isZeroAt bits) 0 tileNumbers
 
 -- "how many of its 864 bits are set"
 abbrev pub bitCount : (ℕ → ℕ) → ℕ
-bitCount bit = count (isSetAt bit) 864
+bitCount bit = countBelow (isSetAt bit) 864

@@ -4,7 +4,7 @@ use mathlib.Core.Bool.{Bool, cond, not, _&&_}
 use mathlib.Core.List.{List}
 use lib.Dec.{eqb, ltb, leb}
 use lib.ListN.{getD}
-use Rattle.lists.specs.Search.{all}
+use Rattle.lists.specs.Search.{allFrom}
 use Rattle.lists.specs.Tables.{tabulate}
 use Rattle.routing.specs.LogicTile.{logicTile, carryInSet, carryChain}
 use Rattle.routing.specs.Table.{passiveCount, groupCount, entryCount}
@@ -35,4 +35,4 @@ abbrev pub withinLimit : List ℕ → List ℕ → ℕ → Bool
 withinLimit table settings n = leb (getD settings n 0) (limitAt table n)
 
 unfoldable pub settingsFit : List ℕ → List ℕ → Bool
-settingsFit table settings = not (bothCarries settings) && all (withinLimit table settings) 0 settingsLength
+settingsFit table settings = not (bothCarries settings) && allFrom (withinLimit table settings) 0 settingsLength

@@ -7,7 +7,7 @@ ghost use Rattle.routing.specs.TileKind.{bitsPerCell};
 ghost use Rattle.routing.specs.LogicTile.{logicTile, cellPosition};
 ghost use Rattle.ports.specs.Lengths.{tileNumbers, settingsLength};
 ghost use Rattle.codec.specs.Bits.{setBits, bitAt};
-ghost use Rattle.codec.specs.Cells.{cellBitIn, valueIn, cellsIn, cellSettings, writeCells, putCells, sameCell, firstDifference};
+ghost use Rattle.codec.specs.Cells.{cellBitIn, valueIn, cellsIn, cellSettings, writeCells, putCells, sameCell};
 use crate::bits::PAST_TEN;
 use crate::bits::read_ten;
 use crate::bits::write_clear_bit;
@@ -147,20 +147,4 @@ pub fn is_same_cell(a: Cell, b: Cell) -> bool
     let here = a.flags();
     let there = b.flags();
     here == there
-}
-
-// The first of eight cells in which two tiles differ; 8 where none does.
-pub fn first_difference(a: [Cell; 8], b: [Cell; 8]) -> usize
-    ensures { λ r. ⌜ r ≡ firstDifference a b ⌝ }
-{
-    let mut i = 0;
-    while i < 8 {
-        let c = a[i];
-        let d = b[i];
-        if !is_same_cell(c, d) {
-            return i;
-        }
-        i += 1;
-    }
-    i
 }

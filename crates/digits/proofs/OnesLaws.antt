@@ -7,7 +7,7 @@ use native.Mathlib.Nat.{mod-lt}
 use lib.Dec.{eqb}
 use lib.Count.{ones, ones-cat}
 use lib.Pow.{split, pow-pos, shr-lt}
-use Rattle.lists.specs.Search.{count}
+use Rattle.lists.specs.Search.{countBelow}
 use Rattle.lists.proofs.CountLaws.{count-ext}
 use Rattle.digits.specs.Digits.{isSet}
 use Rattle.digits.proofs.DigitLaws.{digit-mod}
@@ -19,8 +19,8 @@ ones-bit zero h = refl
 ones-bit (suc zero) h = refl
 ones-bit (suc (suc d)) h = absurd (omega arith)
 
-pub ones-count : (k b : ℕ) → b < 2 ^ k → ones b ≡ count (isSet b) k
-unfolding count ones
+pub ones-count : (k b : ℕ) → b < 2 ^ k → ones b ≡ countBelow (isSet b) k
+unfolding countBelow ones
 ones-count zero b h = ap ones (let e : b ≡ 0 = omega arith in e)
 ones-count (suc k) b h =
     let top : b / 2 ^ k < 2 = shr-lt 1 k (subst (λ (x : ℕ). b < 2 ^ x) (let e : suc k ≡ 1 + k = omega arith in e) h) in

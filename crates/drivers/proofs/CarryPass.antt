@@ -10,7 +10,7 @@ use types.Run.{OneOf, miss}
 use denote.Enum.Declared.{tagOf}
 use lib.Dec.{eqb, ltb}
 use borrow.Author.Tests.{eqb-true, lt-ltb, le-ltb}
-use Rattle.lists.specs.Search.{first, all}
+use Rattle.lists.specs.Search.{first, allFrom}
 use Rattle.lists.proofs.CaseLaws.{cases, lt-or-le, and-false-right}
 use Rattle.lists.proofs.SearchLaws.{first-none, first-ext}
 use Rattle.ports.specs.declared.size.Block.{Block}
@@ -70,18 +70,18 @@ module _ (B : Block) (st : List ℕ) where
   -- the m first operands of a row more
   lowers-first : (p : ℕ → Bool) (low : ℕ) (row : Row) (m : ℕ) → ((j : ℕ) → j < m → operandOf row j < ports B) → low ≡ first p 0 (ports B)
       → lowerCarries B st row low m ≡ first (λ w. p w || (disabled w && rowReadsIn row m w)) 0 (ports B)
-  unfolding lowerCarries rowReadsIn all
+  unfolding lowerCarries rowReadsIn allFrom
   lowers-first p low row zero fits e =
       e ∙ first-ext p (λ w. p w || (disabled w && false)) (ports B) (λ w lw. sym (rw (and-false-right (disabled w) false refl) (or-false (p w))))
   lowers-first p low row (suc m) fits e =
       let so-far = lowers-first p low row m (λ j l. fits j (omega arith)) e in
       lower-first (λ w. p w || (disabled w && rowReadsIn row m w)) _ (operandOf row m) (fits m (omega arith)) so-far
-      ∙ first-ext _ (λ w. p w || (disabled w && not (all (λ j. not (eqb (operandOf row j) w)) 0 (suc m)))) (ports B)
+      ∙ first-ext _ (λ w. p w || (disabled w && not (allFrom (λ j. not (eqb (operandOf row j) w)) 0 (suc m)))) (ports B)
       (λ w lw. join-and (p w) (disabled w) _ (eqb (operandOf row m) w) ∙ sym (ap (λ (b : Bool). p w || (disabled w && b)) (some-last (λ j. eqb (operandOf row j) w) m)))
 
 module _ (B : Block) (t st : List ℕ) where
   pub carry-pass-start : ports B ≡ first (carryReadIn B t st 0) 0 (ports B)
-  unfolding carryReadIn readIn all
+  unfolding carryReadIn readIn allFrom
   carry-pass-start = sym (first-none (carryReadIn B t st 0) (ports B) (λ w l. and-false-right (isDisabledCarry st (driveOf B w)) false refl))
 
   module _ (ok : Routed B t st) (u : ℕ) (l : u < ports B) where

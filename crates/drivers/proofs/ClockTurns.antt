@@ -5,7 +5,7 @@ use mathlib.Core.Bool.{Bool, true, false, not, _&&_, _||_}
 use mathlib.Core.List.{List, [], _∷_}
 use types.Run.{OneOf, miss}
 use denote.Enum.Declared.{tagOf}
-use Rattle.lists.specs.Search.{all}
+use Rattle.lists.specs.Search.{allFrom}
 use Rattle.lists.proofs.SearchLaws.{all-turn-hit, all-turn-skip, all-turn-end}
 use Rattle.ports.specs.declared.size.Block.{Block}
 use Rattle.ports.specs.PortIndex.{clk, sR}
@@ -32,7 +32,7 @@ clock-no (Ring u) h = refl
 
 -- none of the cells before i passes
 abbrev pub NoneBefore : (ℕ → Bool) → ℕ → Type 0
-NoneBefore p i = all (λ j. not (p j)) i (8 - i) ≡ all (λ j. not (p j)) 0 8
+NoneBefore p i = allFrom (λ j. not (p j)) i (8 - i) ≡ allFrom (λ j. not (p j)) 0 8
 
 module _ (p : ℕ → Bool) (i : ℕ) (inv : NoneBefore p i) where
   pub any-turn-hit : i < 8 → p i ≡ true → true ≡ anyCell p

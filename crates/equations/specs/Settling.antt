@@ -46,6 +46,3 @@ pub record Settles (B : Block) (t st : List ℕ) : Type 0 where
   -- "Every other choice of 0 or 1 for the wires breaks at least one of these."
   pub others-break : (state lent room v : List ℕ) → ports B ≤ length room
       → (p : ℕ) → p < ports B → getD v (wireOf B p) 0 ≢ getD (runOf B t st state lent room) (wireOf B p) 0 → Meets B t st state lent v → ⊥
-  -- what stood in the room before does not matter
-  pub room-free : (state lent room room′ : List ℕ) → ports B ≤ length room → ports B ≤ length room′
-      → (p : ℕ) → p < ports B → getD (runOf B t st state lent room) (wireOf B p) 0 ≡ getD (runOf B t st state lent room′) (wireOf B p) 0

@@ -8,8 +8,8 @@ ghost use Rattle.equations.specs.Equations.{carryPort};
 ghost use Rattle.equations.specs.Routed.{Mapped};
 ghost use Rattle.equations.specs.WireRows.{plainRow, lookupRow, majorityRow, driveRow};
 use crate::tiles::cell_at;
-use crate::tiles::setting_at;
-use crate::tiles::wire_at;
+use crate::tiles::tile_setting;
+use crate::tiles::tile_wire;
 use netlist::row;
 use netlist::row::Row;
 use ports::size::Block;
@@ -43,10 +43,10 @@ pub fn lookup_row(b: Block, st: &[u16], wires: &[u16], w: u16, tile: usize, i: u
     ensures { λ r. ⌜ r ≡ lookupRow b (now (st .entry)) w tile i ⌝ }
 {
     let q = ports::IN + 4 * i;
-    let in0 = wire_at(b, wires, tile, q);
-    let in1 = wire_at(b, wires, tile, q + 1);
-    let in2 = wire_at(b, wires, tile, q + 2);
-    let in3 = wire_at(b, wires, tile, q + 3);
+    let in0 = tile_wire(b, wires, tile, q);
+    let in1 = tile_wire(b, wires, tile, q + 1);
+    let in2 = tile_wire(b, wires, tile, q + 2);
+    let in3 = tile_wire(b, wires, tile, q + 3);
     let cell = cell_at(st, tile, i as usize);
     Row {
         kind: row::LOOKUP,
@@ -76,9 +76,9 @@ fn majority_row(b: Block, st: &[u16], wires: &[u16], w: u16, tile: usize, i: u32
     ensures { λ r. ⌜ r ≡ majorityRow b w tile i ⌝ }
 {
     let q = ports::IN + 4 * i;
-    let in1 = wire_at(b, wires, tile, q + 1);
-    let in2 = wire_at(b, wires, tile, q + 2);
-    let carry = wire_at(b, wires, tile, carry_port(i));
+    let in1 = tile_wire(b, wires, tile, q + 1);
+    let in2 = tile_wire(b, wires, tile, q + 2);
+    let carry = tile_wire(b, wires, tile, carry_port(i));
     Row {
         kind: row::MAJORITY,
         wire: w,
@@ -119,11 +119,11 @@ pub fn mux_row(b: Block, st: &[u16], wires: &[u16], w: u16, tile: usize) -> Row
     requires { ⌜ Mapped b (now st) (now wires) × (tile < tiles b) ⌝ }
     ensures { λ r. ⌜ r ≡ driveRow b (now (st .entry)) w (CarryMux tile) ⌝ }
 {
-    if setting_at(st, tile, CARRY_IN_SET) == 1 {
+    if tile_setting(st, tile, CARRY_IN_SET) == 1 {
         return plain_row(row::ONE, w, 0);
     }
-    if setting_at(st, tile, CARRY_CHAIN) == 1 {
-        return plain_row(row::COPY, w, wire_at(b, wires, tile, ports::CARRY_IN));
+    if tile_setting(st, tile, CARRY_CHAIN) == 1 {
+        return plain_row(row::COPY, w, tile_wire(b, wires, tile, ports::CARRY_IN));
     }
     plain_row(row::ZERO, w, 0)
 }

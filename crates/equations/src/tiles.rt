@@ -17,7 +17,7 @@ use ports::size::Block;
 pub const PORTS_PER_TILE: usize = ports::lengths::PORTS_PER_TILE as usize;
 
 // Number n of the settings of a tile.
-pub fn setting_at(st: &[u16], tile: usize, n: usize) -> u16
+pub fn tile_setting(st: &[u16], tile: usize, n: usize) -> u16
     requires { ⌜ TileInside (now st) tile × (n < settingsLength) ⌝ }
     ensures { λ r. ⌜ r ≡ settingOf (now (st .entry)) tile n ⌝ }
 {
@@ -29,7 +29,7 @@ pub fn group_at(st: &[u16], tile: usize, g: usize) -> usize
     requires { ⌜ (g < maxGroups) × TileInside (now st) tile ⌝ }
     ensures { λ r. ⌜ r ≡ groupOf (now (st .entry)) tile g ⌝ }
 {
-    wide(setting_at(st, tile, GROUPS_FROM + g))
+    wide(tile_setting(st, tile, GROUPS_FROM + g))
 }
 
 // A cell's settings.
@@ -45,7 +45,7 @@ pub fn cell_at(st: &[u16], tile: usize, i: usize) -> Cell
 }
 
 // The wire of port q of a tile.
-pub fn wire_at(b: Block, wires: &[u16], tile: usize, q: u32) -> u16
+pub fn tile_wire(b: Block, wires: &[u16], tile: usize, q: u32) -> u16
     requires { ⌜ (now wires ≡ wiresOf b) × (portOf tile q < ports b) ⌝ }
     ensures { λ r. ⌜ r ≡ wireOf b (portOf tile q) ⌝ }
 {

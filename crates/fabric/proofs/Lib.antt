@@ -1,5 +1,5 @@
 -- The laws of `fabric` that its callers cite, and below them what they rest on.
-pub mod WireLaws  -- wire-exact: one wire exactly if linked by joins. wire-low, -within, -fits, -linked, -lowest, -idempotent, -own-exact; wires-le; wires-at: the list of all wires
+pub mod WireLaws  -- wire-exact: one wire exactly if linked by joins. wire-low, -within, -fits, -linked, -lowest, -idempotent, -own-exact; wires-at: the list of all wires
 pub mod PlaceLaws  -- wire-port, wire-name: the wire of a port from its place and from its name
 pub mod WireNumberLaws  -- the cases of `wireNumber`
 pub mod FlipLaws  -- flip-flip, flip-lt, xor-flip

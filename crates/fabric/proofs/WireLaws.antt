@@ -65,10 +65,6 @@ module _ (B : Block) where
   unfolding ownWire
   wire-own p h = eq-eqb _ _ (wire-idempotent p h)
 
-  pub wires-le : wires B ≤ ports B
-  unfolding wires
-  wires-le = count-le (ownWire B) (ports B)
-
 -- ---- the list of all of them
 
 module _ (B : Block) (wires : List ℕ) (is : wires ≡ wiresOf B) where

@@ -2,7 +2,7 @@
 use Prim.Native.Nat.{ℕ}
 use mathlib.Core.Bool.{Bool}
 use lib.Dec.{eqb}
-use Rattle.lists.specs.Search.{count}
+use Rattle.lists.specs.Search.{countBelow}
 use Rattle.ports.specs.declared.size.Block.{Block}
 use Rattle.ports.specs.Lengths.{ports}
 use Rattle.fabric.specs.Wire.{wireOf}
@@ -13,4 +13,4 @@ ownWire B p = eqb (wireOf B p) p
 
 -- every wire has one lowest port, so they are counted by these
 unfoldable pub wires : Block → ℕ
-wires B = count (ownWire B) (ports B)
+wires B = countBelow (ownWire B) (ports B)

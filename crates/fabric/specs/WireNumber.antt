@@ -21,15 +21,15 @@ wireNumber B t q =
     (Wire (wireOf B (tilePort B t q)))))
 
 -- the paper's number of an answer: that of the ground, and 0 for a yes, as in the last line of a report
-abbrev pub answerNumber : WireNumber → ℕ
-answerNumber (Wire n) = 0
-answerNumber (Refused refusal) = numberOf refusal
+abbrev pub wireAnswerNumber : WireNumber → ℕ
+wireAnswerNumber (Wire n) = 0
+wireAnswerNumber (Refused refusal) = numberOf refusal
 
 -- what comes with it: the wire's number, or the place
-abbrev pub answerValue : WireNumber → ℕ
-answerValue (Wire n) = n
-answerValue (Refused refusal) = placeOf refusal
+abbrev pub wireAnswerValue : WireNumber → ℕ
+wireAnswerValue (Wire n) = n
+wireAnswerValue (Refused refusal) = placeOf refusal
 
 -- what an answer for port p says of the joins themselves
 abbrev pub IsWire : Block → ℕ → WireNumber → Type 0
-IsWire B p r = answerNumber r ≡ 0 → Lowest B p (answerValue r)
+IsWire B p r = wireAnswerNumber r ≡ 0 → Lowest B p (wireAnswerValue r)

@@ -7,7 +7,7 @@ use native.Mathlib.Omega.{arith}
 use borrow.Author.Tests.{leb-true}
 use lib.Dec.{eqb, leb}
 use lib.ListN.{getD}
-use Rattle.lists.specs.Search.{all}
+use Rattle.lists.specs.Search.{allFrom}
 use Rattle.lists.proofs.CaseLaws.{and-left, and-right}
 use Rattle.texts.specs.Hex.{isDigit, pairAt}
 use Rattle.frames.specs.Lines.{digitsAt, isLine, passiveCount, passiveLine, positionCount, entryCount, groupDigits, groupLine}
@@ -16,8 +16,8 @@ use Rattle.texts.proofs.HexLaws.{pair-lt}
 abbrev pub Agree : List ℕ → List ℕ → ℕ → Type 0
 Agree s t n = (i : ℕ) → i < n → getD s i 0 ≡ getD t i 0
 
-all-same : (p q : ℕ → Bool) (i m : ℕ) → ((k : ℕ) → k < i + m → p k ≡ q k) → all p i m ≡ all q i m
-unfolding all
+all-same : (p q : ℕ → Bool) (i m : ℕ) → ((k : ℕ) → k < i + m → p k ≡ q k) → allFrom p i m ≡ allFrom q i m
+unfolding allFrom
 all-same p q i zero h = refl
 all-same p q i (suc m) h = ap₂ (λ (b c : Bool). cond b c false) (h i (omega arith)) (all-same p q (suc i) m (λ k l. h k (omega arith)))
 

@@ -5,12 +5,12 @@ use mathlib.Core.Bool.{Bool, _&&_}
 use mathlib.Core.List.{List}
 use lib.Dec.{eqb, leb}
 use lib.ListN.{getD}
-use Rattle.lists.specs.Search.{all}
+use Rattle.lists.specs.Search.{allFrom}
 use Rattle.texts.specs.Hex.{isDigit, pairAt}
 
 -- n digits from position `at` on; a byte past the end counts as 0, which is no digit
 abbrev pub digitsAt : List ℕ → ℕ → ℕ → Bool
-digitsAt s at n = all (λ k. isDigit (getD s (at + k) 0)) 0 n
+digitsAt s at n = allFrom (λ k. isDigit (getD s (at + k) 0)) 0 n
 
 -- "one frame a line, every line ended": the frame's number, n digits with it, and a line feed
 unfoldable pub isLine : List ℕ → ℕ → ℕ → ℕ → Bool

@@ -5,11 +5,11 @@ use mathlib.Core.Logic.{⊎-elim, _≢_}
 use Prim.Native.Nat.{ℕ, zero, suc, _+_, _<_, _≤_}
 use native.Mathlib.Nat.{eq-or-lt-of-le, le-of-suc-le-suc, add-zero, add-suc}
 use native.Mathlib.Omega.{arith}
-use Rattle.lists.specs.Search.{count}
+use Rattle.lists.specs.Search.{countBelow}
 
 -- tests that agree below n
-pub count-ext : (p q : ℕ → Bool) (n : ℕ) → ((i : ℕ) → i < n → p i ≡ q i) → count p n ≡ count q n
-unfolding count
+pub count-ext : (p q : ℕ → Bool) (n : ℕ) → ((i : ℕ) → i < n → p i ≡ q i) → countBelow p n ≡ countBelow q n
+unfolding countBelow
 count-ext p q zero h = refl
 count-ext p q (suc n) h =
     let a = count-ext p q n (λ i l. h i (omega arith)) in
@@ -17,8 +17,8 @@ count-ext p q (suc n) h =
     omega arith
 
 -- a test that passes one number more, w
-pub count-one-more : (p q : ℕ → Bool) (w n : ℕ) → w < n → p w ≡ false → q w ≡ true → ((i : ℕ) → i ≢ w → p i ≡ q i) → suc (count p n) ≡ count q n
-unfolding count
+pub count-one-more : (p q : ℕ → Bool) (w n : ℕ) → w < n → p w ≡ false → q w ≡ true → ((i : ℕ) → i ≢ w → p i ≡ q i) → suc (countBelow p n) ≡ countBelow q n
+unfolding countBelow
 count-one-more p q w zero l a b h = absurd (omega arith)
 count-one-more p q w (suc n) l a b h =
     ⊎-elim
@@ -33,24 +33,24 @@ count-one-more p q w (suc n) l a b h =
     omega arith)
     (eq-or-lt-of-le (le-of-suc-le-suc l))
 
-pub count-none : (p : ℕ → Bool) (n : ℕ) → ((i : ℕ) → i < n → p i ≡ false) → count p n ≡ 0
-unfolding count
+pub count-none : (p : ℕ → Bool) (n : ℕ) → ((i : ℕ) → i < n → p i ≡ false) → countBelow p n ≡ 0
+unfolding countBelow
 count-none p zero h = refl
 count-none p (suc n) h = rw (h n (omega arith)) (let a = count-none p n (λ i l. h i (omega arith)) in omega arith)
 
-pub count-le : (p : ℕ → Bool) (n : ℕ) → count p n ≤ n
-unfolding count
+pub count-le : (p : ℕ → Bool) (n : ℕ) → countBelow p n ≤ n
+unfolding countBelow
 count-le p zero = omega arith
 count-le p (suc n) = go (p n) (count-le p n)
   where
-    go : (b : Bool) → count p n ≤ n → cond b 1 0 + count p n ≤ suc n
+    go : (b : Bool) → countBelow p n ≤ n → cond b 1 0 + countBelow p n ≤ suc n
     go true r = omega arith
     go false r = omega arith
 
 -- the numbers below n, and the m after them
-pub count-add : (p : ℕ → Bool) (n m : ℕ) → count p (n + m) ≡ count p n + count (λ (j : ℕ). p (n + j)) m
-unfolding count
-count-add p n zero = ap (count p) (add-zero n) ∙ sym (add-zero (count p n))
+pub count-add : (p : ℕ → Bool) (n m : ℕ) → countBelow p (n + m) ≡ countBelow p n + countBelow (λ (j : ℕ). p (n + j)) m
+unfolding countBelow
+count-add p n zero = ap (countBelow p) (add-zero n) ∙ sym (add-zero (countBelow p n))
 count-add p n (suc m) = rw (add-suc n m) (let r = count-add p n m in omega arith)
 
 -- a test that passes whatever another does
@@ -58,14 +58,14 @@ weigh : (x y : Bool) → (x ≡ true → y ≡ true) → cond {A = ℕ} x 1 0 �
 weigh true y h = rw (h refl) (omega arith)
 weigh false y h = omega arith
 
-pub count-sub : (p q : ℕ → Bool) (n : ℕ) → ((i : ℕ) → p i ≡ true → q i ≡ true) → count p n ≤ count q n
-unfolding count
+pub count-sub : (p q : ℕ → Bool) (n : ℕ) → ((i : ℕ) → p i ≡ true → q i ≡ true) → countBelow p n ≤ countBelow q n
+unfolding countBelow
 count-sub p q zero sub = omega arith
 count-sub p q (suc n) sub = let c = count-sub p q n sub in let d = weigh (p n) (q n) (sub n) in omega arith
 
 -- and one number more
-pub count-lt : (p q : ℕ → Bool) (n w : ℕ) → ((i : ℕ) → p i ≡ true → q i ≡ true) → w < n → p w ≡ false → q w ≡ true → count p n < count q n
-unfolding count
+pub count-lt : (p q : ℕ → Bool) (n w : ℕ) → ((i : ℕ) → p i ≡ true → q i ≡ true) → w < n → p w ≡ false → q w ≡ true → countBelow p n < countBelow q n
+unfolding countBelow
 count-lt p q zero w sub l a b = absurd (omega arith)
 count-lt p q (suc n) w sub l a b =
     ⊎-elim

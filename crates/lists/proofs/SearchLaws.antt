@@ -8,7 +8,7 @@ use native.Mathlib.Omega.{arith}
 use native.Mathlib.Numerals.{add-one}
 use native.Mathlib.Nat.{sub-zero, eq-or-lt-of-le}
 use native.Mathlib.Decide.{decLt}
-use Rattle.lists.specs.Search.{first, all}
+use Rattle.lists.specs.Search.{first, allFrom}
 use Rattle.lists.proofs.CaseLaws.{clash}
 
 module _ (p : ℕ → Bool) (i n : ℕ) where
@@ -24,16 +24,16 @@ module _ (p : ℕ → Bool) (i n : ℕ) where
   unfolding first
   first-end h = let e : n - i ≡ 0 = omega arith in rw e
 
-  pub all-hit : i < n → p i ≡ false → all p i (n - i) ≡ false
-  unfolding all
-  all-hit h e = ap (all p i) (let q : n - i ≡ suc (n - (i + 1)) = omega arith in q) ∙ simp e
+  pub all-hit : i < n → p i ≡ false → allFrom p i (n - i) ≡ false
+  unfolding allFrom
+  all-hit h e = ap (allFrom p i) (let q : n - i ≡ suc (n - (i + 1)) = omega arith in q) ∙ simp e
 
-  pub all-skip : i < n → p i ≡ true → all p i (n - i) ≡ all p (i + 1) (n - (i + 1))
-  unfolding all
-  all-skip h e = ap (all p i) (let q : n - i ≡ suc (n - (i + 1)) = omega arith in q) ∙ simp (e, add-one)
+  pub all-skip : i < n → p i ≡ true → allFrom p i (n - i) ≡ allFrom p (i + 1) (n - (i + 1))
+  unfolding allFrom
+  all-skip h e = ap (allFrom p i) (let q : n - i ≡ suc (n - (i + 1)) = omega arith in q) ∙ simp (e, add-one)
 
-  pub all-end : n ≤ i → all p i (n - i) ≡ true
-  unfolding all
+  pub all-end : n ≤ i → allFrom p i (n - i) ≡ true
+  unfolding allFrom
   all-end h = let e : n - i ≡ 0 = omega arith in rw e
 
 -- the turns of a search; the invariant comes first, so that p, i, n and x can be left to antt
@@ -47,11 +47,11 @@ module _ (p : ℕ → Bool) (i n x : ℕ) (inv : first p i (n - i) ≡ x) where
   pub first-turn-end : n ≤ i → i ≡ x
   first-turn-end h = sym (first-end p i n h) ∙ inv
 
-module _ (p : ℕ → Bool) (i n : ℕ) (x : Bool) (inv : all p i (n - i) ≡ x) where
+module _ (p : ℕ → Bool) (i n : ℕ) (x : Bool) (inv : allFrom p i (n - i) ≡ x) where
   pub all-turn-hit : i < n → p i ≡ false → false ≡ x
   all-turn-hit h e = sym (all-hit p i n h e) ∙ inv
 
-  pub all-turn-skip : i < n → p i ≡ true → all p (i + 1) (n - (i + 1)) ≡ x
+  pub all-turn-skip : i < n → p i ≡ true → allFrom p (i + 1) (n - (i + 1)) ≡ x
   all-turn-skip h e = sym (all-skip p i n h e) ∙ inv
 
   pub all-turn-end : n ≤ i → true ≡ x
@@ -118,36 +118,36 @@ first-ext p q n h =
 
 -- ---- all: each passes, and the other way
 
-pub all-at : (p : ℕ → Bool) (i m k : ℕ) → all p i m ≡ true → i ≤ k → k < i + m → p k ≡ true
-unfolding all
+pub all-at : (p : ℕ → Bool) (i m k : ℕ) → allFrom p i m ≡ true → i ≤ k → k < i + m → p k ≡ true
+unfolding allFrom
 all-at p i zero k e h l = absurd (omega arith)
 all-at p i (suc m) k e h l = go (p i) refl e (λ r. all-at p (suc i) m k r)
   where
-    go : (b : Bool) → p i ≡ b → cond b (all p (suc i) m) false ≡ true → (all p (suc i) m ≡ true → suc i ≤ k → k < suc i + m → p k ≡ true) → p k ≡ true
+    go : (b : Bool) → p i ≡ b → cond b (allFrom p (suc i) m) false ≡ true → (allFrom p (suc i) m ≡ true → suc i ≤ k → k < suc i + m → p k ≡ true) → p k ≡ true
     go true q e r = ⊎-elim (λ (d : i ≡ k). subst (λ (x : ℕ). p x ≡ true) d q) (λ (lt : i < k). r e lt (omega arith)) (eq-or-lt-of-le h)
     go false q e r = clash refl (sym e)
 
-pub all-of : (p : ℕ → Bool) (i m : ℕ) → ((k : ℕ) → i ≤ k → k < i + m → p k ≡ true) → all p i m ≡ true
-unfolding all
+pub all-of : (p : ℕ → Bool) (i m : ℕ) → ((k : ℕ) → i ≤ k → k < i + m → p k ≡ true) → allFrom p i m ≡ true
+unfolding allFrom
 all-of p i zero h = refl
 all-of p i (suc m) h = rw (h i (omega arith) (omega arith)) (all-of p (suc i) m (λ k a b. h k (omega arith) (omega arith)))
 
 -- two tests that agree
-pub all-ext : (p q : ℕ → Bool) (i m : ℕ) → ((k : ℕ) → i ≤ k → k < i + m → p k ≡ q k) → all p i m ≡ all q i m
-unfolding all
+pub all-ext : (p q : ℕ → Bool) (i m : ℕ) → ((k : ℕ) → i ≤ k → k < i + m → p k ≡ q k) → allFrom p i m ≡ allFrom q i m
+unfolding allFrom
 all-ext p q i zero h = refl
 all-ext p q i (suc m) h =
     let e : p i ≡ q i = h i (omega arith) (omega arith) in
-    let r : all p (suc i) m ≡ all q (suc i) m = all-ext p q (suc i) m (λ k a b. h k (omega arith) (omega arith)) in
+    let r : allFrom p (suc i) m ≡ allFrom q (suc i) m = all-ext p q (suc i) m (λ k a b. h k (omega arith) (omega arith)) in
     rw (e, r)
 
 -- where not all pass, one does not
-pub all-not : (p : ℕ → Bool) (i m : ℕ) → all p i m ≡ false → (k : ℕ) × (i ≤ k) × (k < i + m) × (p k ≡ false)
-unfolding all
+pub all-not : (p : ℕ → Bool) (i m : ℕ) → allFrom p i m ≡ false → (k : ℕ) × (i ≤ k) × (k < i + m) × (p k ≡ false)
+unfolding allFrom
 all-not p i zero e = clash refl e
 all-not p i (suc m) e = go (p i) refl e (all-not p (suc i) m)
   where
-    go : (b : Bool) → p i ≡ b → cond b (all p (suc i) m) false ≡ false
-        → (all p (suc i) m ≡ false → (k : ℕ) × (suc i ≤ k) × (k < suc i + m) × (p k ≡ false)) → (k : ℕ) × (i ≤ k) × (k < i + suc m) × (p k ≡ false)
+    go : (b : Bool) → p i ≡ b → cond b (allFrom p (suc i) m) false ≡ false
+        → (allFrom p (suc i) m ≡ false → (k : ℕ) × (suc i ≤ k) × (k < suc i + m) × (p k ≡ false)) → (k : ℕ) × (i ≤ k) × (k < i + suc m) × (p k ≡ false)
     go true q e r = let s = r e in (s .0, omega arith, omega arith, s .3)
     go false q e r = (i, omega arith, omega arith, q)

@@ -8,15 +8,15 @@ first p i zero = i
 first p i (suc n) = cond (p i) i (first p (suc i) n)
 
 -- whether all of the n numbers from i on pass
-unfoldable pub all : (ℕ → Bool) → ℕ → ℕ → Bool
-all p i zero = true
-all p i (suc n) = cond (p i) (all p (suc i) n) false
+unfoldable pub allFrom : (ℕ → Bool) → ℕ → ℕ → Bool
+allFrom p i zero = true
+allFrom p i (suc n) = cond (p i) (allFrom p (suc i) n) false
 
 -- whether one of the numbers below n passes: not all fail
-abbrev pub some : (ℕ → Bool) → ℕ → Bool
-some p n = not (all (λ i. not (p i)) 0 n)
+abbrev pub someBelow : (ℕ → Bool) → ℕ → Bool
+someBelow p n = not (allFrom (λ i. not (p i)) 0 n)
 
 -- how many of the numbers below n pass
-unfoldable pub count : (ℕ → Bool) → ℕ → ℕ
-count p zero = 0
-count p (suc n) = cond (p n) 1 0 + count p n
+unfoldable pub countBelow : (ℕ → Bool) → ℕ → ℕ
+countBelow p zero = 0
+countBelow p (suc n) = cond (p n) 1 0 + countBelow p n

@@ -8,7 +8,7 @@ use native.Mathlib.Omega.{arith}
 use native.Mathlib.Nat.{eq-or-lt-of-le}
 use borrow.Author.Tests.{eq-eqb, eqb-true}
 use lib.Dec.{eqb}
-use Rattle.lists.specs.Search.{first, some, count}
+use Rattle.lists.specs.Search.{first, someBelow, countBelow}
 use Rattle.lists.proofs.CaseLaws.{cases, clash, and-left, and-right, and-true, or-left, or-right, or-is, all-or-one}
 use Rattle.lists.proofs.SearchLaws.{first-at, first-none, first-true, first-before, first-le}
 use Rattle.lists.proofs.SomeLaws.{some-is, some-true}
@@ -35,7 +35,7 @@ module _ (g : Graph) (n : ℕ) where
       ⊎-elim (λ h. reached-sound k w d h)
       (λ h. let r = some-is (λ m. reached g n k w m && readsTest g m d) n h in
       then-reads (reached-sound k w (r .0) (and-left (reached g n k w (r .0)) (readsTest g (r .0) d) (r .2))) (reads-test-exact (r .0) d .0 (and-right (reached g n k w (r .0)) (readsTest g (r .0) d) (r .2))))
-      (or-is (reached g n k w d) (some (λ m. reached g n k w m && readsTest g m d) n) e)
+      (or-is (reached g n k w d) (someBelow (λ m. reached g n k w m && readsTest g m d) n) e)
 
   reached-more : (k w d : ℕ) → reached g n k w d ≡ true → reached g n (suc k) w d ≡ true
   unfolding reached
@@ -44,7 +44,7 @@ module _ (g : Graph) (n : ℕ) where
   reached-next : (k w m d : ℕ) → m < n → reached g n k w m ≡ true → Reads g m d → reached g n (suc k) w d ≡ true
   unfolding reached
   reached-next k w m d h e r =
-      or-right (reached g n k w d) (some (λ x. reached g n k w x && readsTest g x d) n) (some-true (λ x. reached g n k w x && readsTest g x d) n m h (and-true e (reads-test-exact m d .1 r)))
+      or-right (reached g n k w d) (someBelow (λ x. reached g n k w x && readsTest g x d) n) (some-true (λ x. reached g n k w x && readsTest g x d) n m h (and-true e (reads-test-exact m d .1 r)))
 
   reached-start : (k w d : ℕ) → Reads g w d → reached g n k w d ≡ true
   unfolding reached
@@ -62,7 +62,7 @@ module _ (g : Graph) (n : ℕ) where
       (λ t. let r = some-is (λ m. reached g n (suc k) w m && readsTest g m d) n t in
       reached-next k w (r .0) d (r .1) (full (r .0) (r .1) (and-left (reached g n (suc k) w (r .0)) (readsTest g (r .0) d) (r .2)))
       (reads-test-exact (r .0) d .0 (and-right (reached g n (suc k) w (r .0)) (readsTest g (r .0) d) (r .2))))
-      (or-is (reached g n (suc k) w d) (some (λ m. reached g n (suc k) w m && readsTest g m d) n) e)
+      (or-is (reached g n (suc k) w d) (someBelow (λ m. reached g n (suc k) w m && readsTest g m d) n) e)
 
   -- a round reaches nothing new, or one wire more
   abbrev Old : ℕ → ℕ → ℕ → Type 0
@@ -82,12 +82,12 @@ module _ (g : Graph) (n : ℕ) where
       (cases (reached g n k w d))
 
   -- after k rounds all is reached, or k wires are
-  full-or-many : (k w : ℕ) → Full k w ⊎ (k ≤ count (reached g n k w) n)
+  full-or-many : (k w : ℕ) → Full k w ⊎ (k ≤ countBelow (reached g n k w) n)
   full-or-many zero w = inr (omega arith)
   full-or-many (suc k) w =
       ⊎-elim
       (λ (f : Full k w). inl (full-step k w f))
-      (λ (m : k ≤ count (reached g n k w) n). ⊎-elim
+      (λ (m : k ≤ countBelow (reached g n k w) n). ⊎-elim
       (λ (f : Full k w). inl (full-step k w f))
       (λ r. inr (let c = count-lt (reached g n k w) (reached g n (suc k) w) n (r .0) (λ i e. reached-more k w i e) (r .1) (r .2 .0) (r .2 .1) in omega arith))
       (all-or-one (Old k w) (New k w) n (λ d l. old-or-new k w d)))
@@ -96,7 +96,7 @@ module _ (g : Graph) (n : ℕ) where
   full : (w : ℕ) → Full (suc n) w
   full w =
       ⊎-elim (λ (f : Full (suc n) w). f)
-      (λ (m : suc n ≤ count (reached g n (suc n) w) n). absurd (let c = count-le (reached g n (suc n) w) n in omega arith))
+      (λ (m : suc n ≤ countBelow (reached g n (suc n) w) n). absurd (let c = count-le (reached g n (suc n) w) n in omega arith))
       (full-or-many (suc n) w)
 
   module _ (closed : Closed g n) where

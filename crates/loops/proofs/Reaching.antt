@@ -120,9 +120,6 @@ module _ (g : Graph) (n s : ℕ) (old : List ℕ) where
   taking-start m q head tail v h lt e = record { base = h; more = lt; here = sym e; upto = λ k l. absurd (omega arith) }
 
   module _ (m q : List ℕ) (head tail v j : ℕ) (h : Taking m q head tail v j) where
-    pub taking-below : v < n
-    taking-below = rw (← h .here) (h .base .below head (h .more))
-
     pub taking-reach : j < g .arity v → DependsOn g s (g .operand v j)
     taking-reach l = reach-then g s v _ (rw (h .here) at (h .base .reach head (h .more))) (j, l, refl)
 

@@ -5,7 +5,7 @@ use mathlib.Core.Logic.{_≢_}
 use mathlib.Core.Bool.{false}
 use lib.Dec.{eqb, lit<}
 use borrow.Author.Tests.{eq-eqb, eqb-true}
-use Rattle.lists.specs.Search.{count}
+use Rattle.lists.specs.Search.{countBelow}
 use Rattle.lists.specs.Tables.{tabulate}
 use Rattle.ports.specs.declared.size.Block.{Block}
 use Rattle.ports.specs.Block.{block}
@@ -44,5 +44,5 @@ alone-1x1 q l =
     ∙ eq-eqb (wireOf (block 1 1) q) 262 (sym (linked-same (block 1 1) l)))
 
 pub count-1x1 : wires (block 1 1) ≡ 390
-unfolding wires count ownWire wireOf wireAt portAt walk flip
+unfolding wires countBelow ownWire wireOf wireAt portAt walk flip
 count-1x1 = refl

@@ -9,7 +9,7 @@ use native.Mathlib.Omega.{arith}
 use borrow.Author.Tests.{ltb-true}
 use lib.Dec.{ltb}
 use lib.ListN.{length, List·getD-eq-default}
-use Rattle.lists.specs.Search.{first, all}
+use Rattle.lists.specs.Search.{first, allFrom}
 use Rattle.lists.specs.Parts.{joined}
 use Rattle.lists.proofs.CaseLaws.{and-left, and-right, lt-or-le}
 use Rattle.lists.proofs.SearchLaws.{all-at}
@@ -21,7 +21,7 @@ use Rattle.netlist.specs.Running.{rowValue, runFrom}
 use Rattle.netlist.specs.OrderedRows.{rowInOrder, listOf}
 
 abbrev pub closedTest : Graph → ℕ → Bool
-closedTest g n = all (λ w. all (λ j. ltb (g .operand w j) n && g .wire (g .operand w j)) 0 (g .arity w)) 0 n
+closedTest g n = allFrom (λ w. allFrom (λ j. ltb (g .operand w j) n && g .wire (g .operand w j)) 0 (g .arity w)) 0 n
 
 -- past the rows nothing is read
 past : (rows : List ℕ) (w : ℕ) → length rows ≤ rowLength * w → arityOf (rowAt rows w) ≡ 0
@@ -37,7 +37,7 @@ module _ (rows : List ℕ) (n : ℕ) (t : closedTest (graphOf rows) n ≡ true) 
   good-at w d l r =
       subst (λ (x : ℕ). ltb x n && graphOf rows .wire x ≡ true) (r .2)
       (all-at (good w) 0 (graphOf rows .arity w) (r .0)
-      (all-at (λ v. all (good v) 0 (graphOf rows .arity v)) 0 n w t (omega arith) (omega arith)) (omega arith) (let q = r .1 in omega arith))
+      (all-at (λ v. allFrom (good v) 0 (graphOf rows .arity v)) 0 n w t (omega arith) (omega arith)) (omega arith) (let q = r .1 in omega arith))
 
   reads-at : length rows ≡ rowLength * n → (w d : ℕ) → Reads (graphOf rows) w d → ltb d n && graphOf rows .wire d ≡ true
   reads-at len w d r =
@@ -54,21 +54,21 @@ three : List ℕ
 three = 5 ∷ 0 ∷ 2 ∷ 0 ∷ 0 ∷ 0 ∷ 0 ∷ 1 ∷ 1 ∷ 0 ∷ 0 ∷ 0 ∷ 0 ∷ 0 ∷ 7 ∷ 2 ∷ 1 ∷ 1 ∷ 1 ∷ 0 ∷ 0 ∷ []
 
 three-closed : Closed (graphOf three) 3
-unfolding three arityOf operandOf rowAt all
+unfolding three arityOf operandOf rowAt allFrom
 three-closed = closed-test three 3 refl refl
 
 -- 1 first, which 2 reads, then 2, which 0 reads
 three-order : order (graphOf three) 3 ≡ 1 ∷ 2 ∷ 0 ∷ []
-unfolding three arityOf operandOf rowAt all first order orderFrom next ready
+unfolding three arityOf operandOf rowAt allFrom first order orderFrom next ready
 three-order = refl
 
 three-list : listOf three 3 ≡ 1 ∷ 1 ∷ 0 ∷ 0 ∷ 0 ∷ 0 ∷ 0 ∷ 7 ∷ 2 ∷ 1 ∷ 1 ∷ 1 ∷ 0 ∷ 0 ∷ 5 ∷ 0 ∷ 2 ∷ 0 ∷ 0 ∷ 0 ∷ 0 ∷ []
-unfolding three arityOf operandOf rowAt all first order orderFrom next ready rowInOrder joined
+unfolding three arityOf operandOf rowAt allFrom first order orderFrom next ready rowInOrder joined
 three-list = refl
 
 -- with 1 lent as 1, all are 1, whatever stood there
 three-run : runFrom (listOf three 3) [] (0 ∷ 1 ∷ 0 ∷ []) 0 3 (9 ∷ 9 ∷ 9 ∷ []) ≡ 1 ∷ 1 ∷ 1 ∷ []
-unfolding three arityOf operandOf rowAt all first order orderFrom next ready rowInOrder joined runFrom rowValue majority
+unfolding three arityOf operandOf rowAt allFrom first order orderFrom next ready rowInOrder joined runFrom rowValue majority
 three-run = refl
 
 -- 2 reads 0 instead: 0 and 2 depend on themselves, and only 1 is listed
@@ -76,7 +76,7 @@ looped : List ℕ
 looped = 5 ∷ 0 ∷ 2 ∷ 0 ∷ 0 ∷ 0 ∷ 0 ∷ 1 ∷ 1 ∷ 0 ∷ 0 ∷ 0 ∷ 0 ∷ 0 ∷ 7 ∷ 2 ∷ 1 ∷ 0 ∷ 1 ∷ 0 ∷ 0 ∷ []
 
 looped-order : order (graphOf looped) 3 ≡ 1 ∷ []
-unfolding looped arityOf operandOf rowAt all first order orderFrom next ready
+unfolding looped arityOf operandOf rowAt allFrom first order orderFrom next ready
 looped-order = refl
 
 looped-self : DependsOn (graphOf looped) 0 0

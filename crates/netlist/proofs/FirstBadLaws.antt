@@ -8,7 +8,7 @@ use native.Mathlib.Nat.{sub-zero}
 use native.Mathlib.Numerals.{add-one}
 use native.Mathlib.Omega.{arith}
 use lib.ListN.{length, set, length-set}
-use Rattle.lists.specs.Search.{first, count}
+use Rattle.lists.specs.Search.{first, countBelow}
 use Rattle.lists.specs.Tables.{zeros}
 use Rattle.lists.proofs.CaseLaws.{cases, eq-or-ne}
 use Rattle.lists.proofs.CountLaws.{count-le}
@@ -32,19 +32,19 @@ test-ext false false f g = refl
 -- ---- the count of wires
 
 abbrev pub markedBelow : List ℕ → ℕ → ℕ
-markedBelow wires w = count (listed wires) w
+markedBelow wires w = countBelow (listed wires) w
 
 module _ (wires : List ℕ) (w : ℕ) where
   pub marked-more : listed wires w ≡ true → markedBelow wires w + 1 ≡ markedBelow wires (w + 1)
-  unfolding count
+  unfolding countBelow
   marked-more t = rw (add-one w, t) (omega arith)
 
   pub marked-same : listed wires w ≡ false → markedBelow wires w ≡ markedBelow wires (w + 1)
-  unfolding count
+  unfolding countBelow
   marked-same f = rw (add-one w, f) (omega arith)
 
 pub marked-none : (wires : List ℕ) → markedBelow wires 0 ≡ 0
-unfolding count
+unfolding countBelow
 marked-none wires = refl
 
 -- ---- the marks are those of the rows before i

@@ -6,7 +6,7 @@ use Prim.Native.Nat.{ℕ, _<_, _≤_}
 use native.Mathlib.Omega.{arith}
 use borrow.Author.Tests.{leb-true, le-leb, eqb-true, eqb-false, eq-eqb, ne-eqb, not-true}
 use lib.Dec.{eqb, leb}
-use Rattle.lists.specs.Search.{all}
+use Rattle.lists.specs.Search.{allFrom}
 use Rattle.lists.proofs.CaseLaws.{cases, eq-or-ne, and-left, and-right, and-true, or-is}
 use Rattle.lists.proofs.SearchLaws.{all-at, all-of}
 use Rattle.netlist.specs.Kinds.{lookupKind, majorityKind}
@@ -29,7 +29,7 @@ module _ (row : Row) (cells : ℕ) (block came : ℕ → Bool) where
   none = not (eqb (row .kind) 0)
 
   abbrev operandsTest : Bool
-  operandsTest = all (operandGood row cells came) 0 4
+  operandsTest = allFrom (operandGood row cells came) 0 4
 
   abbrev tableTest : Bool
   tableTest = eqb (row .kind) lookupKind || eqb (row .table) 0

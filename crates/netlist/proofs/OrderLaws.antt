@@ -10,7 +10,7 @@ use mathlib.Core.List.{List}
 use Prim.Native.Nat.{ℕ, _+_, _<_, _≤_}
 use native.Mathlib.Omega.{arith}
 use lib.ListN.{length, getD, set, length-set}
-use Rattle.lists.specs.Search.{count}
+use Rattle.lists.specs.Search.{countBelow}
 use Rattle.lists.specs.Tables.{zeros}
 use Rattle.lists.proofs.CaseLaws.{cases, clash, eq-or-ne, lt-or-le, all-or-one, and-false-right}
 use Rattle.lists.proofs.CountLaws.{count-ext, count-none}
@@ -67,7 +67,7 @@ module _ (g : Graph) (n : ℕ) where
   Counted m l = length l + waiting g n (marksAfter m l) ≡ waiting g n m
 
   -- "the row count, which is the number of wires"
-  pub order-length : AllListed g n → length (order g n) ≡ count (g .wire) n
+  pub order-length : AllListed g n → length (order g n) ≡ countBelow (g .wire) n
   unfolding Counted orderMarks
   order-length all =
       let c = order-induction g n Counted (λ m e h. omega arith) (λ m l w e lt r ih. let s = waiting-step g n m w e lt r in omega arith) in

@@ -11,7 +11,7 @@ use native.Mathlib.Omega.{arith}
 use borrow.Author.Tests.{not-false}
 use lib.ListN.{length, getD, set, length-set}
 use lib.Seq.{getD-set-same, getD-set-other}
-use Rattle.lists.specs.Search.{count}
+use Rattle.lists.specs.Search.{countBelow}
 use Rattle.lists.proofs.CaseLaws.{cases, eq-or-ne, lt-or-le, and-true, and-false-right}
 use Rattle.lists.proofs.CountLaws.{count-ext, count-one-more}
 use Rattle.netlist.specs.Marks.{listed}
@@ -53,7 +53,7 @@ module _ (list : List ℕ) (cells : ℕ) (wires : List ℕ) (passed : firstBadRo
   abbrev left : ℕ → ℕ → Bool
   left i w = listed wires w && not (earlier list i w)
 
-  left-step : (i : ℕ) → i < wireCount wires → suc (count (left (i + 1)) (length wires)) ≡ count (left i) (length wires)
+  left-step : (i : ℕ) → i < wireCount wires → suc (countBelow (left (i + 1)) (length wires)) ≡ countBelow (left i) (length wires)
   left-step i l =
       count-one-more (left (i + 1)) (left i) (rowAt list i .wire) (length wires) (passed-wire-lt i l)
       (and-false-right (listed wires (rowAt list i .wire)) _ (ap not (earlier-exact list (i + 1) _ .1 (earlier-here list i _ refl))))
@@ -65,7 +65,7 @@ module _ (list : List ℕ) (cells : ℕ) (wires : List ℕ) (passed : firstBadRo
           test-ext (earlier list i v) (earlier list (i + 1) v) (λ t. earlier-exact list (i + 1) v .1 (earlier-more list i v (earlier-exact list i v .0 t)))
           (λ t. earlier-exact list i v .1 (earlier-split list i v (earlier-exact list (i + 1) v .0 t) ne))
 
-  left-all : (i : ℕ) → i ≤ wireCount wires → i + count (left i) (length wires) ≡ wireCount wires
+  left-all : (i : ℕ) → i ≤ wireCount wires → i + countBelow (left i) (length wires) ≡ wireCount wires
   left-all zero l =
       let e = count-ext (left 0) (listed wires) (length wires) (λ w lw. ap (λ (b : Bool). listed wires w && not b) (none w) ∙ and-one (listed wires w)) in
       omega arith
@@ -79,15 +79,15 @@ module _ (list : List ℕ) (cells : ℕ) (wires : List ℕ) (passed : firstBadRo
   left-all (suc i) l =
       let h = left-all i (omega arith) in
       let s = left-step i l in
-      let e = ap (λ (k : ℕ). count (left k) (length wires)) (add-one i) in
+      let e = ap (λ (k : ℕ). countBelow (left k) (length wires)) (add-one i) in
       omega arith
 
-  count-zero : (p : ℕ → Bool) (n w : ℕ) → count p n ≡ 0 → w < n → p w ≡ false
-  unfolding count
+  count-zero : (p : ℕ → Bool) (n w : ℕ) → countBelow p n ≡ 0 → w < n → p w ≡ false
+  unfolding countBelow
   count-zero p zero w e l = absurd (omega arith)
   count-zero p (suc n) w e l = go (p n) refl e (λ z lw. count-zero p n w z lw)
     where
-      go : (b : Bool) → p n ≡ b → cond b 1 0 + count p n ≡ 0 → (count p n ≡ 0 → w < n → p w ≡ false) → p w ≡ false
+      go : (b : Bool) → p n ≡ b → cond b 1 0 + countBelow p n ≡ 0 → (countBelow p n ≡ 0 → w < n → p w ≡ false) → p w ≡ false
       go true q e r = absurd (omega arith)
       go false q e r = ⊎-elim (λ (d : w ≡ n). rw d q) (λ ne. r (omega arith) (omega arith)) (eq-or-ne w n)
 
@@ -137,11 +137,6 @@ module _ (list : List ℕ) (cells : ℕ) (wires : List ℕ) (passed : firstBadRo
             rw (q, getD-set-same x at vx 0 (omega arith), getD-set-same y at vy 0 (omega arith))
             (row-value-local (rowAt list i) state lent x y (λ j lj. h _ (passed-good i l .operands j lj))))
             (λ (ne : v ≢ at). getD-set-other x at v vx 0 ne ∙ h v (earlier-split list i v ev ne) ∙ sym (getD-set-other y at v vy 0 ne)) (eq-or-ne v at)
-
-    pub passed-local : (x y : List ℕ) → length wires ≤ length x → length wires ≤ length y → (w : ℕ) → listed wires w ≡ true
-        → getD (runFrom list state lent 0 (wireCount wires) x) w 0 ≡ getD (runFrom list state lent 0 (wireCount wires) y) w 0
-    passed-local x y lx ly w t =
-        rw (sub-zero (wireCount wires)) at (agree (wireCount wires) 0 x y (omega arith) lx ly (λ v e. absurd (earlier-none list v e)) w (passed-every w t))
 
     pub passed-bits : Bits state → Bits lent → length state ≡ cells → length list ≡ rowLength * length wires → length wires ≤ length lent
         → (x : List ℕ) → length x ≡ length wires → (w : ℕ) → listed wires w ≡ true → getD (runFrom list state lent 0 (wireCount wires) x) w 0 < 2

@@ -7,7 +7,7 @@ use Prim.Native.Nat.{ℕ, zero, suc, _<_}
 use native.Mathlib.Nat.{le-of-suc-le-suc}
 use native.Mathlib.Omega.{arith}
 use lib.ListN.{length, getD, set}
-use Rattle.lists.specs.Search.{count}
+use Rattle.lists.specs.Search.{countBelow}
 use Rattle.lists.proofs.CaseLaws.{eq-or-ne, and-true, and-false-right}
 use Rattle.lists.proofs.CountLaws.{count-one-more}
 use Rattle.netlist.specs.Graph.{Graph, Reads}
@@ -18,10 +18,10 @@ use Rattle.netlist.proofs.ReadyLaws.{ready-wire, ready-unlisted, ready-
 
 -- how many wires are not marked
 pub waiting : Graph → ℕ → List ℕ → ℕ
-waiting g n m = count (λ w. g .wire w && not (listed m w)) n
+waiting g n m = countBelow (λ w. g .wire w && not (listed m w)) n
 
 module _ (g : Graph) (n : ℕ) where
-  pub waiting-is : (m : List ℕ) → waiting g n m ≡ count (λ w. g .wire w && not (listed m w)) n
+  pub waiting-is : (m : List ℕ) → waiting g n m ≡ countBelow (λ w. g .wire w && not (listed m w)) n
   unfolding waiting
   waiting-is m = refl
 

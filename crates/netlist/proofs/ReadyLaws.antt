@@ -7,7 +7,7 @@ use Prim.Native.Nat.{ℕ, zero, suc, _<_, _≤_}
 use native.Mathlib.Omega.{arith}
 use borrow.Author.Tests.{lt-ltb, le-ltb, not-true}
 use lib.ListN.{length, set, length-set}
-use Rattle.lists.specs.Search.{all}
+use Rattle.lists.specs.Search.{allFrom}
 use Rattle.lists.specs.Tables.{zeros}
 use Rattle.lists.proofs.CaseLaws.{cases, clash, lt-or-le, and-left, and-right, and-true, and-false-left, and-false-right}
 use Rattle.lists.proofs.SearchLaws.{first-at, first-none, first-le, first-true, first-before, all-at, all-of, all-not}
@@ -21,7 +21,7 @@ use Rattle.netlist.proofs.MarkLaws.{unlisted-zero, unmarked-set, unmark
 
 module _ (g : Graph) (m : List ℕ) (w : ℕ) where
   abbrev dependencies : Bool
-  dependencies = all (λ j. listed m (g .operand w j)) 0 (g .arity w)
+  dependencies = allFrom (λ j. listed m (g .operand w j)) 0 (g .arity w)
 
   pub ready-true : g .wire w ≡ true → listed m w ≡ false → ((j : ℕ) → j < g .arity w → listed m (g .operand w j) ≡ true) → ready g m w ≡ true
   unfolding ready

@@ -118,15 +118,15 @@ module _ (f : ℕ → Row) (n : ℕ) where
       ∙ ap (λ (xs : List ℕ). getD xs j 0) (part-joined rowLength (λ i. numbersOf (f i)) n i l (λ k lk. refl)))
 
   -- a list of n rows, of which the first i are f's
-  pub record Written (i : ℕ) (list : List ℕ) : Type 0 where
+  pub record RowsWritten (i : ℕ) (list : List ℕ) : Type 0 where
     pub upto : i ≤ n
     pub long : length list ≡ rowLength * n
     pub written : (k : ℕ) → k < i → rowAt list k ≡ f k
 
-  pub written-start : (list : List ℕ) → length list ≡ rowLength * n → Written 0 list
+  pub written-start : (list : List ℕ) → length list ≡ rowLength * n → RowsWritten 0 list
   written-start list e = record { upto = omega arith; long = e; written = λ k l. absurd (omega arith) }
 
-  pub written-step : (i : ℕ) (list : List ℕ) (row : Row) → Written i list → i < n → row ≡ f i → Written (i + 1) (setRow list i row)
+  pub written-step : (i : ℕ) (list : List ℕ) (row : Row) → RowsWritten i list → i < n → row ≡ f i → RowsWritten (i + 1) (setRow list i row)
   written-step i list row h l e = record {
     upto = omega arith;
     long = set-row-length list i row ∙ h .long;
@@ -135,7 +135,7 @@ module _ (f : ℕ → Row) (n : ℕ) where
         (row-set-same list i row (let q = h .long in omega arith) ∙ e);
   }
 
-  pub written-end : (i : ℕ) (list : List ℕ) → Written i list → n ≤ i → list ≡ rowsOf f n
+  pub written-end : (i : ℕ) (list : List ℕ) → RowsWritten i list → n ≤ i → list ≡ rowsOf f n
   written-end i list h l =
       sym
       (joined-is rowLength n (λ i. numbersOf (f i)) list (h .long)

@@ -6,7 +6,7 @@ use mathlib.Core.List.{List}
 use Prim.Native.Nat.{ℕ, _<_, _≤_}
 use lib.Dec.{eqb, leb, ltb}
 use lib.ListN.{length}
-use Rattle.lists.specs.Search.{first, all, count}
+use Rattle.lists.specs.Search.{first, allFrom, countBelow}
 use Rattle.netlist.specs.Kinds.{flipFlopKind, lookupKind, majorityKind}
 use Rattle.netlist.specs.Marks.{listed}
 use Rattle.netlist.specs.Rows.{rowAt, operandOf, arityOf, zeroRow}
@@ -34,7 +34,7 @@ pub record RowGood (list : List ℕ) (cells : ℕ) (wires : List ℕ) (i : ℕ) 
 
 -- "the number of wires"
 abbrev pub wireCount : List ℕ → ℕ
-wireCount wires = count (listed wires) (length wires)
+wireCount wires = countBelow (listed wires) (length wires)
 
 -- row i of all may stand where it does; "a row past the number of wires, is not 0": all seven numbers are looked at
 pub record RowStands (list : List ℕ) (cells : ℕ) (wires : List ℕ) (i : ℕ) : Type 0 where
@@ -61,7 +61,7 @@ rowGood row cells block came =
     && (leb (row .kind) majorityKind
     && (block (row .wire)
     && (not (came (row .wire))
-    && (all (operandGood row cells came) 0 4 && (eqb (row .kind) lookupKind || eqb (row .table) 0)))))
+    && (allFrom (operandGood row cells came) 0 4 && (eqb (row .kind) lookupKind || eqb (row .table) 0)))))
 
 unfoldable pub earlier : List ℕ → ℕ → ℕ → Bool
 earlier list i w = ltb (first (λ k. eqb (rowAt list k .wire) w) 0 i) i

@@ -6,14 +6,14 @@ use mathlib.Core.List.{List, [], _∷_}
 use Prim.Native.Nat.{ℕ, zero, suc, _<_}
 use lib.Dec.{ltb}
 use lib.ListN.{set}
-use Rattle.lists.specs.Search.{first, all}
+use Rattle.lists.specs.Search.{first, allFrom}
 use Rattle.lists.specs.Tables.{zeros}
 use Rattle.netlist.specs.Graph.{Graph, Reads, DependsOn}
 use Rattle.netlist.specs.Marks.{listed, marksAfter}
 
 -- a "wire not yet listed whose dependencies all are"
 unfoldable pub ready : Graph → List ℕ → ℕ → Bool
-ready g marks w = g .wire w && (not (listed marks w) && all (λ j. listed marks (g .operand w j)) 0 (g .arity w))
+ready g marks w = g .wire w && (not (listed marks w) && allFrom (λ j. listed marks (g .operand w j)) 0 (g .arity w))
 
 -- "the lowest-numbered" such wire; n where there is none
 unfoldable pub next : Graph → ℕ → List ℕ → ℕ

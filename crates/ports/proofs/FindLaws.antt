@@ -1,4 +1,4 @@
--- What stands in a table of ranges. Main laws: `find-range`, at a place of range j; `find-all`, at every place, from one proof a range.
+-- What stands in a table of ranges. Main laws: `find-range`, at a place of portRange j; `find-all`, at every place, from one proof a portRange.
 use Prim.Native.Nat.{ℕ, zero, suc, _+_, _-_, _≤_, _<_}
 use mathlib.Core.Path.{_≡_, refl, _∙_, ap, subst}
 use mathlib.Core.List.{List, [], _∷_}
@@ -7,18 +7,18 @@ use native.Mathlib.Omega.{arith}
 use native.Mathlib.Nat.{zero-add}
 use lib.Dec.{ltb}
 use borrow.Author.Tests.{lt-ltb, le-ltb, ltb-true, ltb-false}
-use Rattle.ports.specs.Ports.{PortRange, range, find}
+use Rattle.ports.specs.Ports.{PortRange, portRange, find}
 use Rattle.ports.specs.declared.Port.{Port}
 use Rattle.ports.specs.declared.Port.the-variants.{Ltin}
 
--- the first place of range j, and the range
+-- the first place of portRange j, and the portRange
 abbrev pub base : List PortRange → ℕ → ℕ
 base rs zero = 0
 base [] (suc j) = 0
 base (r ∷ rs) (suc j) = r .count + base rs j
 
 abbrev pub nth : List PortRange → ℕ → PortRange
-nth [] j = range 0 (λ k. Ltin)
+nth [] j = portRange 0 (λ k. Ltin)
 nth (r ∷ rs) zero = r
 nth (r ∷ rs) (suc j) = nth rs j
 
@@ -41,7 +41,7 @@ find-past (r ∷ rs) q h = rw (le-ltb q (r .count) (omega arith)) (find-past rs 
 
 -- ---- every place
 
--- a proof of P for each range of a table that starts at place b
+-- a proof of P for each portRange of a table that starts at place b
 infixr 67 _▸_
 pub data Ranges (P : ℕ → Port → Type 0) : ℕ → List PortRange → Type 0 where
   none : {b : ℕ} → Ranges P b []

@@ -113,7 +113,7 @@ index-back Ltin h = find-range portTable 29 0 (omega arith)
 
 -- ---- for the code that decodes
 
--- what port q is, in the range j that holds it
+-- what port q is, in the portRange j that holds it
 pub port-at-range : (j q : ℕ) → base portTable j ≤ q → q < base portTable j + nth portTable j .count
     → nth portTable j .make (q - base portTable j) ≡ portAt q
 unfolding portAt

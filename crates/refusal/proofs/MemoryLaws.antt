@@ -1,4 +1,4 @@
--- An output after an answer. Main laws: `output-refused`, `output-done`. Assumes nothing.
+-- An output after an answer. Main law: `output-refused`. Assumes nothing.
 use mathlib.Core.Path.{_≡_, refl, sym, ap, _∙_}
 use mathlib.Core.List.{List}
 use Prim.Native.Nat.{ℕ}
@@ -33,7 +33,3 @@ module _ (old new : List ℕ) where
   -- the same of an answer that is a no
   pub output-kept : (a : Answer) (r : Refusal) → a ≡ Refused r → old ≡ output (answerNumber a) old new
   output-kept a r e = sym (ap (λ (x : Answer). output (answerNumber x) old new) e ∙ output-refused r)
-
-  -- after a yes it is what the yes writes
-  pub output-done : (a : Answer) (after : List ℕ) → a ≡ Done → after ≡ output (answerNumber a) old new → after ≡ new
-  output-done a after e q = q ∙ ap (λ (x : Answer). output (answerNumber x) old new) e

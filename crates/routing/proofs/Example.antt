@@ -5,7 +5,7 @@ use mathlib.Core.List.{List, [], _∷_, _++_}
 use Prim.Native.Nat.{ℕ}
 use native.Mathlib.Omega.{arith}
 use lib.ListN.{length}
-use Rattle.lists.specs.Search.{first, all}
+use Rattle.lists.specs.Search.{first, allFrom}
 use Rattle.lists.specs.Tables.{zeros}
 use Rattle.lists.proofs.TableLaws.{zeros-length}
 use Rattle.ports.specs.Lengths.{tableLength}
@@ -24,7 +24,7 @@ sampleTable =
     ++ (372 ∷ 5 ∷ 26 ∷ 80 ∷ 81 ∷ 82 ∷ 83 ∷ 0 ∷ 0 ∷ 0 ∷ 1 ∷ 16 ∷ 336 ∷ []) ++ zeros 38312
 
 pub sample-passes : tableOk logicTile sampleTable ≡ true
-unfolding first all slotAt slotUsed cellPosition isDestination isSource positionOk entryOk groupAloneOk fieldsOk passivesOk groupOk partOk
+unfolding first allFrom slotAt slotUsed cellPosition isDestination isSource positionOk entryOk groupAloneOk fieldsOk passivesOk groupOk partOk
 sample-passes = refl
 
 sample-long : length sampleTable ≡ tableLength

@@ -8,7 +8,7 @@ use Prim.Native.Nat.{ℕ, _<_, _≤_}
 use native.Mathlib.Omega.{arith}
 use borrow.Author.Tests.{eq-eqb, ne-eqb, le-leb, lt-leb, leb-true}
 use lib.Dec.{leb}
-use Rattle.lists.specs.Search.{all}
+use Rattle.lists.specs.Search.{allFrom}
 use Rattle.lists.proofs.CaseLaws.{and-left, and-right}
 use Rattle.lists.proofs.SearchLaws.{first-at, all-at, all-of}
 use Rattle.routing.specs.TileKind.{TileKind}
@@ -54,7 +54,7 @@ module _ (K : TileKind) (table : List ℕ) (g : ℕ) where
                 lt-leb (entryCount K table g) maxEntries h,
               )
 
-          pub alone-all : entryCount K table g ≤ maxEntries → all (entryOk K table g) 0 (entryCount K table g) ≡ groupAloneOk K table g
+          pub alone-all : entryCount K table g ≤ maxEntries → allFrom (entryOk K table g) 0 (entryCount K table g) ≡ groupAloneOk K table g
           unfolding groupAloneOk
           alone-all h =
               rw (
@@ -94,7 +94,7 @@ module _ (K : TileKind) (table : List ℕ) (g : ℕ) where
   -- ---- the whole group
 
   abbrev placesOk : Bool
-  placesOk = all (positionOk K table (groupSlot K g)) 0 (widthOf K table g)
+  placesOk = allFrom (positionOk K table (groupSlot K g)) 0 (widthOf K table g)
 
   pub group-alone : groupAloneOk K table g ≡ false → groupOk K table g ≡ false
   unfolding groupOk
@@ -106,8 +106,8 @@ module _ (K : TileKind) (table : List ℕ) (g : ℕ) where
 
   -- the same with what claiming its w positions answered
   pub group-claimed : groupAloneOk K table g ≡ true → (w : ℕ) → w ≡ widthOf K table g → (b : Bool)
-      → b ≡ all (positionOk K table (groupSlot K g)) 0 w → b ≡ groupOk K table g
-  group-claimed h w e b q = q ∙ ap (all (positionOk K table (groupSlot K g)) 0) e ∙ sym (group-with h)
+      → b ≡ allFrom (positionOk K table (groupSlot K g)) 0 w → b ≡ groupOk K table g
+  group-claimed h w e b q = q ∙ ap (allFrom (positionOk K table (groupSlot K g)) 0) e ∙ sym (group-with h)
 
   pub alone-width : groupAloneOk K table g ≡ true → (w : ℕ) → w ≡ widthOf K table g → w ≤ maxPositions
   alone-width h w e = omega (arith, alone-facts h .few-positions)

@@ -6,8 +6,8 @@ pub mod PositionLaws  -- position-exact: the test of one position and its rule; 
 pub mod EntryLaws  -- the ways through the test of an entry
 pub mod MarkLaws  -- mark-again, mark-new: an entry's pattern is new in its group exactly if it is not marked
 pub mod GroupLaws  -- group-exact: the test of one group and its rules
-pub mod TableCheckLaws  -- part-exact, table-exact: the check and the rules; faulty-part-exact: the place of ground 3 is the first broken part
-pub mod TableOnceLaws  -- table-once: a table that keeps the rules claims no position twice; used-below: each is in the tile
+pub mod TableCheckLaws  -- table-exact: the check and the rules; faulty-part-exact: the place of ground 3 is the first broken part
+pub mod TableOnceLaws  -- table-once: a table that keeps the rules claims no position twice
 pub mod ClaimingLaws  -- field-run, passive-run, group-run: each part is a run of slots; the map between the parts
 pub mod PartSearch  -- Seen with its start, step and end: the search for the first broken part
 pub mod Example  -- the paper's sample table passes

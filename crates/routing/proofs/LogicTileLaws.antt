@@ -8,7 +8,7 @@ use borrow.Author.Tests.{eqb-true, ltb-true, lt-ltb, le-ltb}
 use lib.Bits.{bitAnd, and-mask}
 use lib.Dec.{eqb, ltb}
 use lib.ListN.{getD}
-use Rattle.lists.specs.Search.{first, all}
+use Rattle.lists.specs.Search.{first, allFrom}
 use Rattle.lists.proofs.SearchLaws.{all-at}
 use Rattle.routing.specs.TileKind.{CellBitsOnce, bitsPerCell}
 use Rattle.routing.specs.LogicTile.{lcBits, lcPosition, cellPosition, logicTile}
@@ -30,11 +30,11 @@ unfolding isLcBit
 foundFirst j = eqb (first (isLcBit (lcBit j)) 0 20) j
 
 pub lc-bit-lt : (j : ℕ) → j < bitsPerCell → lcBit j < 20
-unfolding small all
+unfolding small allFrom
 lc-bit-lt j h = ltb-true (lcBit j) 20 (all-at small 0 20 j refl (omega arith) (omega arith))
 
 pub lc-bit-once : (j l : ℕ) → j < bitsPerCell → l < bitsPerCell → lcBit j ≡ lcBit l → j ≡ l
-unfolding foundFirst all first isLcBit
+unfolding foundFirst allFrom first isLcBit
 lc-bit-once j l a b e = sym (found j a) ∙ ap (λ (k : ℕ). first (isLcBit k) 0 20) e ∙ found l b
   where
     found : (k : ℕ) → k < bitsPerCell → first (isLcBit (lcBit k)) 0 20 ≡ k
@@ -49,13 +49,13 @@ inLast : ℕ → Bool
 inLast j = eqb (672472770913 / 2 ^ (5 * j) % 32) (lcBit (12 + j))
 
 pub lc-bit-first : (j : ℕ) → j < 12 → bitAnd (86029347607199172 / 2 ^ (5 * j)) 31 ≡ lcBit j
-unfolding inFirst all
+unfolding inFirst allFrom
 lc-bit-first j h =
     and-mask (86029347607199172 / 2 ^ (5 * j)) 5
     ∙ eqb-true (86029347607199172 / 2 ^ (5 * j) % 32) (lcBit j) (all-at inFirst 0 12 j refl (omega arith) (omega arith))
 
 pub lc-bit-last : (j : ℕ) → 12 ≤ j → j < bitsPerCell → bitAnd (672472770913 / 2 ^ (5 * (j - 12))) 31 ≡ lcBit j
-unfolding inLast all
+unfolding inLast allFrom
 lc-bit-last j h l =
     and-mask (672472770913 / 2 ^ (5 * (j - 12))) 5
     ∙ eqb-true (672472770913 / 2 ^ (5 * (j - 12)) % 32) (lcBit (12 + (j - 12))) (all-at inLast 0 8 (j - 12) refl (omega arith) (omega arith))

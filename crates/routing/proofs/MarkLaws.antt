@@ -12,7 +12,7 @@ use borrow.Author.Tests.{eq-eqb, ne-eqb}
 use lib.ListN.{length, getD, set, replicate, length-set, length-replicate, getD-replicate}
 use lib.Pow.{pow-mono}
 use lib.Seq.{getD-set-same, getD-set-other}
-use Rattle.lists.specs.Search.{all, some}
+use Rattle.lists.specs.Search.{allFrom, someBelow}
 use Rattle.lists.proofs.CaseLaws.{cases, clash, eq-or-ne}
 use Rattle.lists.proofs.SearchLaws.{first-at, first-before}
 use Rattle.lists.proofs.SomeLaws.{some-is, some-true, some-last}
@@ -27,7 +27,7 @@ pattern-lt {w} l h = lt-of-lt-of-le h (pow-mono {i = w} {j = 8} l)
 
 -- no entry has passed yet
 pub mark-none : (K : TileKind) (table : List ℕ) (g : ℕ) (seen : List Bool) → seen ≡ replicate 256 false → Marked K table g 0 seen
-unfolding all
+unfolding allFrom
 mark-none K table g seen e = record {
   long = ap length e ∙ length-replicate 256 false;
   marks = λ v l. ap (λ (x : List Bool). getD x v false) e ∙ getD-replicate 256 v false false l;
@@ -56,14 +56,14 @@ module _ (K : TileKind) (table : List ℕ) (g e : ℕ) (seen : List Bool) (S : M
     marks = λ w a. ⊎-elim (here w) (away w a) (eq-or-ne w v);
   }
     where
-      here : (w : ℕ) → w ≡ v → getD (set seen v true) w false ≡ some (hasPattern K table g w) (e + 1)
+      here : (w : ℕ) → w ≡ v → getD (set seen v true) w false ≡ someBelow (hasPattern K table g w) (e + 1)
       here w q =
           rw q (getD-set-same seen v true false (omega (arith, S .long)) ∙ sym (some-true (hasPattern K table g v) (e + 1) e (omega arith) (eq-eqb v v refl)))
 
-      away : (w : ℕ) → w < 256 → w ≢ v → getD (set seen v true) w false ≡ some (hasPattern K table g w) (e + 1)
+      away : (w : ℕ) → w < 256 → w ≢ v → getD (set seen v true) w false ≡ someBelow (hasPattern K table g w) (e + 1)
       away w a n =
-          let old : getD (set seen v true) w false ≡ some (hasPattern K table g w) e = getD-set-other seen v w true false n ∙ S .marks w a in
+          let old : getD (set seen v true) w false ≡ someBelow (hasPattern K table g w) e = getD-set-other seen v w true false n ∙ S .marks w a in
           let not-this : hasPattern K table g w e ≡ false = ne-eqb v w (λ q. n (sym q)) in
-          let more : some (hasPattern K table g w) (e + 1) ≡ some (hasPattern K table g w) e =
-          ap (some (hasPattern K table g w)) (add-one e) ∙ some-last (hasPattern K table g w) e ∙ rw not-this (or-false (some (hasPattern K table g w) e)) in
+          let more : someBelow (hasPattern K table g w) (e + 1) ≡ someBelow (hasPattern K table g w) e =
+          ap (someBelow (hasPattern K table g w)) (add-one e) ∙ some-last (hasPattern K table g w) e ∙ rw not-this (or-false (someBelow (hasPattern K table g w) e)) in
           old ∙ sym more

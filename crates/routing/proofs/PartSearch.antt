@@ -6,7 +6,7 @@ use mathlib.Core.List.{List}
 use Prim.Native.Nat.{ℕ, zero, suc, _+_, _-_, _<_, _≤_}
 use native.Mathlib.Omega.{arith}
 use borrow.Author.Tests.{eqb-true, le-leb, lt-leb}
-use Rattle.lists.specs.Search.{first, all}
+use Rattle.lists.specs.Search.{first, allFrom}
 use Rattle.lists.proofs.SearchLaws.{first-at, first-from, first-turn-hit, first-turn-skip, first-turn-end}
 use Rattle.routing.specs.TileKind.{TileKind}
 use Rattle.ports.specs.Lengths.{maxPassives, maxGroups}
@@ -21,7 +21,7 @@ module _ (K : TileKind) (table : List ℕ) where
   faulty-not-ok i e h ok = absurd (omega (arith, eqb-true (faultyPart K table) (partCount K table) ok))
 
   -- what claiming the fields' positions answered
-  pub fields-claimed : (b : Bool) → b ≡ all (positionOk K table (fieldSlots K)) 0 (K .fields) → fieldsOk K table ≡ b
+  pub fields-claimed : (b : Bool) → b ≡ allFrom (positionOk K table (fieldSlots K)) 0 (K .fields) → fieldsOk K table ≡ b
   unfolding fieldsOk
   fields-claimed b q = sym q
 
@@ -31,9 +31,9 @@ module _ (K : TileKind) (table : List ℕ) where
 
   -- what claiming the list's n positions answered
   pub passives-claimed : (n : ℕ) → n ≡ passiveCount K table → n ≤ maxPassives → (b : Bool)
-      → b ≡ all (positionOk K table (passiveSlots K)) 0 n → passivesOk K table ≡ b
+      → b ≡ allFrom (positionOk K table (passiveSlots K)) 0 n → passivesOk K table ≡ b
   unfolding passivesOk
-  passives-claimed n e h b q = rw (le-leb (passiveCount K table) maxPassives (omega arith)) (ap (all (positionOk K table (passiveSlots K)) 0) (sym e) ∙ sym q)
+  passives-claimed n e h b q = rw (le-leb (passiveCount K table) maxPassives (omega arith)) (ap (allFrom (positionOk K table (passiveSlots K)) 0) (sym e) ∙ sym q)
 
   -- ---- fields and passive list
 

@@ -9,7 +9,7 @@ use native.Mathlib.Omega.{arith}
 use borrow.Author.Tests.{eq-eqb, ne-eqb, lt-ltb, le-ltb, ltb-true, eqb-true}
 use lib.Dec.{eqb, ltb}
 use lib.ListN.{getD, set}
-use Rattle.lists.specs.Search.{all}
+use Rattle.lists.specs.Search.{allFrom}
 use Rattle.lists.proofs.SearchLaws.{all-at, all-of}
 use Rattle.lists.proofs.CaseLaws.{clash, and-left, and-right, and-true, and-false-left, and-false-right}
 use Rattle.routing.specs.TileKind.{TileKind}
@@ -76,7 +76,7 @@ module _ (K : TileKind) (table : List ℕ) (from k : ℕ) where
 
 -- the first n positions of a part
 pub places-exact : (K : TileKind) (table : List ℕ) (from n : ℕ)
-    → (all (positionOk K table from) 0 n ≡ true) ↔ ((k : ℕ) → k < n → PositionRules K table from k)
+    → (allFrom (positionOk K table from) 0 n ≡ true) ↔ ((k : ℕ) → k < n → PositionRules K table from k)
 places-exact K table from n = (
   λ h k l. position-exact K table from k .0 (all-at (positionOk K table from) 0 n k h (omega arith) (omega arith)),
   λ P. all-of (positionOk K table from) 0 n (λ k a b. position-exact K table from k .1 (P k (omega arith))),

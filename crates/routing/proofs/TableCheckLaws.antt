@@ -1,4 +1,4 @@
--- The computed check of a table and the paper's rules, part by part and as a whole. Main laws: `part-exact`, `table-exact`;
+-- The computed check of a table and the paper's rules, part by part and as a whole. Main laws: `table-exact`;
 -- `faulty-part-exact`: the place of ground 3 is the first part that breaks a rule; `faulty-part-over`: 514; `table-broken`. Assumes nothing.
 use mathlib.Core.Path.{_≡_, refl, sym, ap, _∙_, subst}
 use mathlib.Core.Logic.{_↔_, ⊎-elim}
@@ -9,7 +9,7 @@ use native.Mathlib.Omega.{arith}
 use borrow.Author.Tests.{eq-eqb, ne-eqb, lt-ltb, le-ltb, le-leb, leb-true, eqb-true, eqb-false, not-true, not-false}
 use lib.Dec.{leb}
 use lib.ListN.{length}
-use Rattle.lists.specs.Search.{all}
+use Rattle.lists.specs.Search.{allFrom}
 use Rattle.lists.proofs.CaseLaws.{cases, clash, and-left, and-right, and-true, lt-or-le}
 use Rattle.lists.proofs.SearchLaws.{first-le, first-at, first-none, first-true, first-before}
 use Rattle.routing.specs.TileKind.{TileKind}
@@ -31,7 +31,7 @@ module _ (K : TileKind) (table : List ℕ) where
   passives-keep : passivesOk K table ≡ true → PassiveRules K table
   unfolding passivesOk
   passives-keep h =
-      let places = all (positionOk K table (passiveSlots K)) 0 (passiveCount K table) in
+      let places = allFrom (positionOk K table (passiveSlots K)) 0 (passiveCount K table) in
       record {
         few = leb-true (passiveCount K table) maxPassives (and-left (leb (passiveCount K table) maxPassives) places h);
         places = places-exact K table (passiveSlots K) (passiveCount K table) .0 (and-right (leb (passiveCount K table) maxPassives) places h);
@@ -86,9 +86,6 @@ module _ (K : TileKind) (table : List ℕ) where
       let e : suc (suc g) ≡ 2 + g = omega arith in
       ap (partOk K table) e ∙ part-group g (omega (arith, P .there)) ∙ group-exact K table g .1 (P .group g e)
 
-  pub part-exact : (i : ℕ) → (partOk K table i ≡ true) ↔ PartRules K table i
-  part-exact i = (part-keeps i, part-passes i)
-
   -- ---- ground 3's place
 
   -- part i breaks a rule exactly if it does not pass
@@ -120,7 +117,7 @@ module _ (K : TileKind) (table : List ℕ) where
 
   -- "a group count above 512: 514", unless an earlier part breaks a rule
   pub faulty-part-over : maxGroups < groupCount K table → ((i : ℕ) → i < 2 + maxGroups → PartRules K table i) → faultyPart K table ≡ 514
-  faulty-part-over h all = faulty-part-exact 514 .1 (record { counted = omega arith; broken = λ P. omega (arith, P .there); earlier = all }) .0
+  faulty-part-over h every = faulty-part-exact 514 .1 (record { counted = omega arith; broken = λ P. omega (arith, P .there); earlier = every }) .0
 
   -- ---- the whole table
 

@@ -1,4 +1,4 @@
--- A table that keeps the rules: no position is claimed twice, and every claimed one is in the tile. Main laws: `table-once`, `used-below`.
+-- A table that keeps the rules: no position is claimed twice, and every claimed one is in the tile. Main law: `table-once`.
 -- Assumes nothing.
 use mathlib.Core.Path.{_≡_, sym, _∙_}
 use mathlib.Core.Bool.{true}
@@ -28,12 +28,6 @@ module _ (K : TileKind) (table : List ℕ) (C : CellBitsOnce K) where
   cell-below s h = omega (arith, slot-at-bit K table s h, C .within (s / bitsPerCell) (s % bitsPerCell) (omega arith) (omega arith))
 
   module _ (T : TableRules K table) where
-    -- "Positions are below 864"
-    pub used-below : (s : ℕ) → slotUsed K table s ≡ true → slotAt K table s < K .positions
-    used-below =
-        slot-cases K table (λ s. slotAt K table s < K .positions) cell-below
-        (λ f h. T .fields f h .below) (λ j a h. T .passives .places j h .below) (λ g k h a l. T .groups g h .places k l .below)
-
     -- "and none is claimed twice"
     pub table-once : Once (slotsOf K table)
     table-once = once-of-free (slotsOf K table) (λ s h u. free s u)

@@ -4,7 +4,7 @@ use Prim.Native.Nat.{ℕ, _+_, _-_, _^_}
 use mathlib.Core.Bool.{Bool, false, cond, not, _&&_}
 use mathlib.Core.List.{List}
 use lib.Dec.{eqb, ltb, leb}
-use Rattle.lists.specs.Search.{first, all}
+use Rattle.lists.specs.Search.{first, allFrom}
 use Rattle.routing.specs.TileKind.{TileKind}
 use Rattle.ports.specs.Lengths.{maxPassives, maxGroups, maxPositions, maxEntries}
 use Rattle.routing.specs.Table.{passiveCount, groupCount, destinationOf, widthOf, entryCount, patternAt, sourceAt, entryOf}
@@ -27,16 +27,16 @@ module _ (K : TileKind) (table : List ℕ) where
   groupAloneOk g =
       K .isDestination (destinationOf K table g)
       && ((leb 1 (widthOf K table g) && leb (widthOf K table g) maxPositions)
-      && ((leb 1 (entryCount K table g) && leb (entryCount K table g) maxEntries) && all (entryOk g) 0 (entryCount K table g)))
+      && ((leb 1 (entryCount K table g) && leb (entryCount K table g) maxEntries) && allFrom (entryOk g) 0 (entryCount K table g)))
 
   unfoldable pub fieldsOk : Bool
-  fieldsOk = all (positionOk (fieldSlots K)) 0 (K .fields)
+  fieldsOk = allFrom (positionOk (fieldSlots K)) 0 (K .fields)
 
   unfoldable pub passivesOk : Bool
-  passivesOk = leb (passiveCount K table) maxPassives && all (positionOk (passiveSlots K)) 0 (passiveCount K table)
+  passivesOk = leb (passiveCount K table) maxPassives && allFrom (positionOk (passiveSlots K)) 0 (passiveCount K table)
 
   unfoldable pub groupOk : ℕ → Bool
-  groupOk g = groupAloneOk g && all (positionOk (groupSlot K g)) 0 (widthOf K table g)
+  groupOk g = groupAloneOk g && allFrom (positionOk (groupSlot K g)) 0 (widthOf K table g)
 
   -- the parts: 0 the fields, 1 the passive list, 2 + g group g; there is no part 514, so a group count above 512 breaks a rule there
   unfoldable pub partOk : ℕ → Bool

@@ -3,7 +3,7 @@ ghost use mathlib.Core.Path.{_≡_};
 ghost use mathlib.Core.Bool.{true};
 ghost use mathlib.Core.List.{List};
 ghost use Prim.Native.Nat.{ℕ, _+_};
-ghost use Rattle.lists.specs.Search.{all};
+ghost use Rattle.lists.specs.Search.{allFrom};
 ghost use Rattle.lists.specs.Tables.{zeros};
 ghost use Rattle.routing.specs.LogicTile.{logicTile};
 ghost use Rattle.routing.specs.Slots.{fieldSlots};
@@ -37,7 +37,7 @@ pub fn claim_cells(own: &mut [u16])
 // Rules out: letting a position through that a slot before it claims.
 pub fn claim(table: &[u16], start: usize, n: usize, slot: usize, own: &mut [u16]) -> bool
     requires { ⌜ (SlotRun logicTile (now table) start n slot) × (TableOwned logicTile (now table) slot (now own)) ⌝ }
-    ensures answer { λ r. ⌜ r ≡ all (positionOk logicTile (now (table .entry)) slot) 0 n ⌝ }
+    ensures answer { λ r. ⌜ r ≡ allFrom (positionOk logicTile (now (table .entry)) slot) 0 n ⌝ }
     ensures map { λ r. ⌜ (r ≡ true → TableOwned logicTile (now (table .entry)) (slot + n) (now (own .exit))) ⌝ }
 {
     let mut k = 0;

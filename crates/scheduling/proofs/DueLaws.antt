@@ -7,7 +7,7 @@ use Prim.Native.Nat.{ℕ, _+_, _<_, _≤_}
 use native.Mathlib.Omega.{arith}
 use borrow.Author.Tests.{eq-eqb, ne-eqb, lt-ltb, le-ltb}
 use lib.Dec.{eqb, ltb}
-use Rattle.lists.specs.Search.{first, count}
+use Rattle.lists.specs.Search.{first, countBelow}
 use Rattle.lists.proofs.CaseLaws.{cases, clash, eq-or-ne, lt-or-le, or-left, or-right, or-false-left, or-false-right}
 use Rattle.lists.proofs.CountLaws.{count-lt}
 use Rattle.lists.proofs.SearchLaws.{first-true, first-before}
@@ -114,6 +114,6 @@ module _ (n : ℕ) (woken₀ : List ℕ) (from : ℕ) (few : n ≤ maxWires) (h 
 
 -- once a wire was looked at and the next is taken, fewer are due
 pub due-less : (n : ℕ) (woken : List ℕ) (look : Look) (woken' : List ℕ) (look' : Look) → Taken n woken (look .from) woken' look' → look .wire < n
-    → dueFrom woken (look .from) (look .wire) ≡ false → count (λ k. dueWith woken' look' k) n < count (λ k. dueWith woken look k) n
+    → dueFrom woken (look .from) (look .wire) ≡ false → countBelow (λ k. dueWith woken' look' k) n < countBelow (λ k. dueWith woken look k) n
 due-less n woken look woken' look' t l gone =
     count-lt _ _ n (look .wire) (λ k d. or-right (eqb k (look .wire)) _ (t .same k ∙ d)) l (sym (t .same (look .wire)) ∙ gone) (due-here woken look (look .wire) refl)

@@ -8,7 +8,7 @@ use Prim.Native.Nat.{ℕ, _-_, _<_, _≤_}
 use native.Mathlib.Omega.{arith}
 use borrow.Author.Tests.{not-true}
 use lib.ListN.{length, getD}
-use Rattle.lists.specs.Search.{count}
+use Rattle.lists.specs.Search.{countBelow}
 use Rattle.lists.proofs.CaseLaws.{cases, clash, eq-or-ne}
 use Rattle.lists.proofs.CountLaws.{count-lt}
 use Rattle.bitset.specs.Bitset.{Bitset, has, numbers}
@@ -102,7 +102,7 @@ module _ (links : List ℕ) (mark : ℕ) (woken₀ : List ℕ) where
         }
 
         -- those that are not woken are fewer
-        pub waking-less : count (λ k. not (has woken' k)) numbers < count (λ k. not (has woken k)) numbers
+        pub waking-less : countBelow (λ k. not (has woken' k)) numbers < countBelow (λ k. not (has woken k)) numbers
         waking-less =
             count-lt _ _ numbers (at - 2) (λ k t. asleep-before k t (cases (has woken k))) waking-within (rw here) (rw (waking-lt .1))
           where

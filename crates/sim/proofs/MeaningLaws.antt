@@ -29,7 +29,7 @@ use Rattle.sim.specs.Stepping.{aboveOne, badByte, runAnswer, inputsAnswe
 use Rattle.sim.specs.declared.lengths.StepLent.{StepLent}
 use Rattle.sim.specs.declared.lengths.StepRoomLent.{StepRoomLent}
 use Rattle.sim.specs.Lengths.{inputsLent, stepLent, stepExact, StepLong}
-use Rattle.sim.specs.Meaning.{FirstAbove, Prepared, Stands, StepSays, wrong-size, wrong-length, broken, bitless, bad-row, not-a-bit}
+use Rattle.sim.specs.Meaning.{FirstAbove, Steppable, Stands, StepSays, wrong-size, wrong-length, broken, bitless, bad-row, not-a-bit}
 use Rattle.sim.proofs.ByteLaws.{bits-of-joined}
 use Rattle.sim.proofs.LengthLaws.{step-long-exact}
 
@@ -53,7 +53,7 @@ module _ (B : Block) (t st list state before after : List ℕ) (room : StepRoomL
       (first-bad-exact list (8 * tiles B) (wireMarks B))
 
   -- grounds 12 and 10
-  run-means : Prepared B t st list state before after lent
+  run-means : Steppable B t st list state before after lent
       → Says (runAnswer B list state before after)
   unfolding runAnswer
   run-means can =

@@ -28,7 +28,7 @@ pub record FirstAbove (bytes : List ℕ) (index : ℕ) : Type 0 where
 
 module _ (B : Block) (t st list state before after : List ℕ) (lent : StepLent) where
   -- none of grounds 1, 2, 3 and 9
-  pub record Prepared : Type 0 where
+  pub record Steppable : Type 0 where
     pub size : Sized B
     pub lengths : StepLong B lent
     pub rules : TableRules logicTile t
@@ -45,10 +45,10 @@ module _ (B : Block) (t st list state before after : List ℕ) (lent : StepLent)
     wrong-length : Sized B → (StepLong B lent → ⊥) → StepNo WrongLength
     broken : (part : ℕ) → Sized B → StepLong B lent → FirstBroken logicTile t part → StepNo (Table part)
     bitless : (T : ℕ) → Sized B → StepLong B lent → TableRules logicTile t → LowestBitless t st (tiles B) T → StepNo (NoSuchSettings T)
-    bad-row : (row : ℕ) → Prepared → row < ports B → FirstBad list (stateLength (sizeOf B)) (wireMarks B) (ports B) row → StepNo (Row row)
-    not-a-bit : (index : ℕ) → Prepared → Stands → FirstAbove (state ++ before ++ after) index → StepNo (NotABit index)
+    bad-row : (row : ℕ) → Steppable → row < ports B → FirstBad list (stateLength (sizeOf B)) (wireMarks B) (ports B) row → StepNo (Row row)
+    not-a-bit : (index : ℕ) → Steppable → Stands → FirstAbove (state ++ before ++ after) index → StepNo (NotABit index)
 
   -- a yes: none of them holds; what it writes is in the clauses `values` and `next`
   abbrev pub StepSays : Answer → Type 0
-  StepSays Done = Prepared × Stands × Bits state × Bits before × Bits after
+  StepSays Done = Steppable × Stands × Bits state × Bits before × Bits after
   StepSays (Refused refusal) = StepNo refusal

@@ -1,4 +1,4 @@
--- A list that ground 12 lets pass can be run, and what it gives are bits. Main laws: `runnable-fits`, `settled-length`, `settled-bits`.
+-- A list that ground 12 lets pass can be run, and what it gives are bits. Main laws: `runnable-fits`, `settled-bits`.
 use Prim.Native.Nat.{ℕ, _*_, _<_}
 use mathlib.Core.Path.{_≡_, refl, sym, _∙_, ap, subst}
 use mathlib.Core.Bool.{Bool, true, false, cond, not}
@@ -7,7 +7,7 @@ use native.Mathlib.Omega.{arith}
 use lib.Dec.{eqb}
 use lib.ListN.{length, getD}
 use Rattle.lists.specs.Tables.{tabulate, zeros}
-use Rattle.lists.specs.Search.{count}
+use Rattle.lists.specs.Search.{countBelow}
 use Rattle.lists.proofs.CountLaws.{count-ext}
 use Rattle.lists.proofs.TableLaws.{tabulate-length, tabulate-zero, tabulate-ext, zeros-length}
 use Rattle.ports.specs.declared.size.Block.{Block}
@@ -44,7 +44,7 @@ module _ (B : Block) where
   -- "the row count, which is the number of wires"
   pub marks-count : wireCount (wireMarks B) ≡ wires B
   unfolding wires
-  marks-count = ap (count (listed (wireMarks B))) marks-length ∙ count-ext (listed (wireMarks B)) (ownWire B) (ports B) marks-listed
+  marks-count = ap (countBelow (listed (wireMarks B))) marks-length ∙ count-ext (listed (wireMarks B)) (ownWire B) (ports B) marks-listed
 
   -- ---- what is filled in from the wire of each port
 
@@ -73,11 +73,6 @@ module _ (B : Block) where
 
     fits-zeros : (i : ℕ) → i < wires B → RowFits list (length state) (length lent) (length (zeros (ports B))) i
     fits-zeros i l = rw (zeros-length (ports B)) (runnable-fits i l)
-
-    pub settled-length : length (settledBy B list state lent) ≡ ports B
-    unfolding settledBy
-    settled-length =
-        run-length list state lent (zeros (ports B)) (wires B) (h .state-bits) (h .lent-bits) fits-zeros ∙ zeros-length (ports B)
 
     -- "Every wire has a value of 0 or 1"
     pub settled-bits : PortBits B (settledBy B list state lent)

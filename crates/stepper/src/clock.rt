@@ -12,8 +12,8 @@ use cell::flip_flop::FlipFlop;
 use cell::flip_flop::is_tick;
 use cell::logic::lookup_bit;
 use equations::tiles::cell_at;
-use equations::tiles::setting_at;
-use equations::tiles::wire_at;
+use equations::tiles::tile_setting;
+use equations::tiles::tile_wire;
 use netlist::row::wide;
 use ports::size::Block;
 
@@ -27,7 +27,7 @@ fn value_at(b: Block, st: &[u16], wires: &[u16], values: &[u8], tile: usize, q: 
     requires { ⌜ Mapped b (now st) (now wires) × (tile < tiles b) × (q < portsPerTile) × (length (now values) ≡ ports b) ⌝ }
     ensures { λ r. ⌜ r ≡ valueAt b (now (st .entry)) (now (values .entry)) tile q ⌝ }
 {
-    let w = wide(wire_at(b, wires, tile, q));
+    let w = wide(tile_wire(b, wires, tile, q));
     values[w]
 }
 
@@ -58,7 +58,7 @@ fn control_at(
     requires { ⌜ Mapped b (now st) (now wires) × (tile < tiles b) × (length (now before) ≡ ports b) × (length (now after) ≡ ports b) ⌝ }
     ensures { λ r. ⌜ r ≡ controlOf b (now (st .entry)) (now (before .entry)) (now (after .entry)) tile ⌝ }
 {
-    let inverted = setting_at(st, tile, NEG_CLK) == 1;
+    let inverted = tile_setting(st, tile, NEG_CLK) == 1;
     let old = value_at(b, st, wires, before, tile, ports::CLK);
     let new = value_at(b, st, wires, after, tile, ports::CLK);
     let tick = is_tick(inverted, old, new);

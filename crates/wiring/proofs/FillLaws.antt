@@ -1,4 +1,4 @@
--- A range of ports filled after all that come before it. `Written` is the state of the loops that fill one; main laws: `written-start`, `-step`,
+-- A range of ports filled after all that come before it. `WiresWritten` is the state of the loops that fill one; main laws: `written-start`, `-step`,
 -- and `copy-end`, `cross-end`, `number-end`, which say that the ports have their wires.
 use Prim.Native.Nat.{ℕ, _+_, _-_, _≤_, _<_}
 use mathlib.Core.Path.{_≡_, refl, sym, _∙_, ap, subst}
@@ -21,16 +21,16 @@ use Rattle.fabric.proofs.FlipLaws.{flip-lt}
 use Rattle.fabric.proofs.WireLaws.{wire-fits}
 
 -- ys is xs with f 0, f 1, .. in its place `at` and the k - 1 after it; what comes later is not spoken of
-pub record Written (xs : List ℕ) (at : ℕ) (f : ℕ → ℕ) (k : ℕ) (ys : List ℕ) : Type 0 where
+pub record WiresWritten (xs : List ℕ) (at : ℕ) (f : ℕ → ℕ) (k : ℕ) (ys : List ℕ) : Type 0 where
   pub long : length ys ≡ length xs
   pub kept : (i : ℕ) → i < at → getD ys i 0 ≡ getD xs i 0
   pub written : (j : ℕ) → j < k → getD ys (at + j) 0 ≡ f j
 
 module _ (xs : List ℕ) (at : ℕ) (f : ℕ → ℕ) where
-  pub written-start : Written xs at f 0 xs
+  pub written-start : WiresWritten xs at f 0 xs
   written-start = record { long = refl; kept = λ i l. refl; written = λ j l. absurd (omega arith) }
 
-  pub written-step : (k : ℕ) (ys : List ℕ) (v : ℕ) → Written xs at f k ys → at + k < length ys → v ≡ f k → Written xs at f (k + 1) (set ys (at + k) v)
+  pub written-step : (k : ℕ) (ys : List ℕ) (v : ℕ) → WiresWritten xs at f k ys → at + k < length ys → v ≡ f k → WiresWritten xs at f (k + 1) (set ys (at + k) v)
   written-step k ys v h l e = record {
     long = length-set ys (at + k) v ∙ h .long;
     kept = λ i li. getD-set-other ys (at + k) i v 0 (λ q. absurd (omega arith)) ∙ h .kept i li;
@@ -63,7 +63,7 @@ pub record Index (i : ℕ) (ys : List ℕ) : Type 0 where
   pub small : i < 65536
 
 module _ {B : Block} {x y q count to k i : ℕ} {xs ys : List ℕ} {f : ℕ → ℕ} (s : Sized B) (r : Range B x y q count) (is : to ≡ port B x y q)
-    (before : Wired B i xs) (w : Written xs to f k ys) where
+    (before : Wired B i xs) (w : WiresWritten xs to f k ys) where
   -- a place of the range
   pub to-index : (j : ℕ) → j < count → Index (to + j) ys
   to-index j l = record {
@@ -76,7 +76,7 @@ module _ {B : Block} {x y q count to k i : ℕ} {xs ys : List ℕ} {f : ℕ → 
   from-index u v p from j at e l = let g = to-index j l in record { below = omega arith; small = omega arith }
 
 module _ (B : Block) (x y q count to : ℕ) (xs ys : List ℕ) (before : Wired B (port B x y q) xs) (is : to ≡ port B x y q) where
-  fill-end : Range B x y q count → (f : ℕ → ℕ) (n : ℕ) → n ≡ count → Written xs to f n ys
+  fill-end : Range B x y q count → (f : ℕ → ℕ) (n : ℕ) → n ≡ count → WiresWritten xs to f n ys
       → ((j : ℕ) → j < count → f j ≡ wireOf B (port B x y (q + j))) → Wired B (port B x y (q + count)) ys
   fill-end r f n e w s = record {
     upto = omega (arith, range-end B x y q count r);
@@ -89,7 +89,7 @@ module _ (B : Block) (x y q count to : ℕ) (xs ys : List ℕ) (before : Wired B
           subst (λ (m : ℕ). getD ys m 0 ≡ wireOf B m) (let a : to + (i - to) ≡ i = omega arith in a)
           (w .written (i - to) (omega arith) ∙ s (i - to) (omega arith) ∙ ap (wireOf B) (sym (place B x y q (i - to) to is)))
 
-  pub number-end : (first n : ℕ) → Numbers B first x y q count → n ≡ count → Written xs to (λ j. first + j) n ys → Wired B (port B x y (q + count)) ys
+  pub number-end : (first n : ℕ) → Numbers B first x y q count → n ≡ count → WiresWritten xs to (λ j. first + j) n ys → Wired B (port B x y (q + count)) ys
   number-end first n N e w = fill-end (N .to) (λ j. first + j) n e w (λ j l. sym (N .same j l))
 
   module _ (u v p from n : ℕ) (at : from ≡ port B u v p) (e : n ≡ count) where
@@ -97,10 +97,10 @@ module _ (B : Block) (x y q count to : ℕ) (xs ys : List ℕ) (before : Wired B
     read : (j : ℕ) → port B u v p + j < port B x y q → getD xs (from + j) 0 ≡ wireOf B (port B u v (p + j))
     read j l = before .filled (from + j) (omega arith) ∙ ap (wireOf B) (place B u v p j from at)
 
-    pub copy-end : Copies B u v p x y q count → Written xs to (λ j. getD xs (from + j) 0) n ys → Wired B (port B x y (q + count)) ys
+    pub copy-end : Copies B u v p x y q count → WiresWritten xs to (λ j. getD xs (from + j) 0) n ys → Wired B (port B x y (q + count)) ys
     copy-end C w = fill-end (C .to) _ n e w (λ j l. read j (omega (arith, C .before)) ∙ sym (C .same j l))
 
-    pub cross-end : Crosses B u v p x y q count → Written xs to (λ j. getD xs (from + flip j) 0) n ys → Wired B (port B x y (q + count)) ys
+    pub cross-end : Crosses B u v p x y q count → WiresWritten xs to (λ j. getD xs (from + flip j) 0) n ys → Wired B (port B x y (q + count)) ys
     cross-end C w =
         fill-end (C .to) _ n e w (λ j l. read (flip j) (omega (arith, C .before, flip-lt count (C .even) l)) ∙ sym (C .same j l))
 

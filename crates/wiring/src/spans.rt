@@ -54,7 +54,7 @@ pub fn row(s: Span, b: Block, wires: &mut [u16], x: u32, y: u32)
 }
 
 // sp4_v_t and sp4_v_b. On the rim the right-neighbour names of the tile to the west come first.
-pub fn sp4_column(b: Block, wires: &mut [u16], x: u32, y: u32)
+pub fn fill_sp4_column(b: Block, wires: &mut [u16], x: u32, y: u32)
     requires { ⌜ Sized b × (x < b .w) × (y < b .h) × Wired b (port b x y (sp4VT 0)) (now wires) ⌝ }
     ensures { λ r. ⌜ Wired b (port b x y (sp4RVB 0)) (now (wires .exit)) ⌝ }
 {
@@ -96,7 +96,7 @@ pub fn right(b: Block, wires: &mut [u16], x: u32, y: u32)
 }
 
 // sp12_v_t and sp12_v_b.
-pub fn sp12_column(b: Block, wires: &mut [u16], x: u32, y: u32)
+pub fn fill_sp12_column(b: Block, wires: &mut [u16], x: u32, y: u32)
     requires { ⌜ Sized b × (x < b .w) × (y < b .h) × Wired b (port b x y (sp12VT 0)) (now wires) ⌝ }
     ensures { λ r. ⌜ Wired b (port b x y (localPort 0)) (now (wires .exit)) ⌝ }
 {

@@ -7,10 +7,10 @@ ghost use Rattle.ports.specs.PortIndex.{outPort, clk, outputAt};
 ghost use Rattle.wiring.specs.Fill.{Wired};
 use crate::ranges::number;
 use crate::ranges::own;
+use crate::spans::fill_sp4_column;
+use crate::spans::fill_sp12_column;
 use crate::spans::right;
 use crate::spans::row;
-use crate::spans::sp4_column;
-use crate::spans::sp12_column;
 use fabric::output::output_wire;
 use fabric::span_wire::SPAN4_ROW;
 use fabric::span_wire::SPAN12_ROW;
@@ -61,10 +61,10 @@ pub fn tile(b: Block, wires: &mut [u16], x: u32, y: u32)
     ensures { λ r. ⌜ Wired b (port b x y portsPerTile) (now (wires .exit)) ⌝ }
 {
     row(SPAN4_ROW, b, wires, x, y);
-    sp4_column(b, wires, x, y);
+    fill_sp4_column(b, wires, x, y);
     right(b, wires, x, y);
     row(SPAN12_ROW, b, wires, x, y);
-    sp12_column(b, wires, x, y);
+    fill_sp12_column(b, wires, x, y);
     own(b, wires, x, y, ports::LOCAL, 68);
     outputs(b, wires, x, y);
     controls(b, wires, x, y);

@@ -1,6 +1,6 @@
 -- `ice40_wire_number` meets its contract: the answer of `wire_number`, packed. Assumes nothing.
 use Rattle.capi.specs.Packed.{packed}
-use Rattle.fabric.specs.WireNumber.{answerNumber, answerValue}
+use Rattle.fabric.specs.WireNumber.{wireAnswerNumber, wireAnswerValue}
 use Rattle.fabric.specs.declared.WireNumber.{WireNumber}
 use mathlib.Core.Path.{sym, ap, _∙_}
 use borrow.Author.Needs.{needs}
@@ -26,10 +26,10 @@ pack-no-requires : tie.Need-pack-no-requires
 pack-no-requires c κs = search needs
 
 returns : tie.Need-returns
-returns c = c .pack .ensures .0 ∙ ap (λ (x : WireNumber). packed (answerNumber x) (answerValue x)) (sym (c .before .before .n .given .1) ∙ c .before .before .before .before .wire-number .ensures .0)
+returns c = c .pack .ensures .0 ∙ ap (λ (x : WireNumber). packed (wireAnswerNumber x) (wireAnswerValue x)) (sym (c .before .before .n .given .1) ∙ c .before .before .before .before .wire-number .ensures .0)
 
 returns-2 : tie.Need-returns-2
-returns-2 c = c .pack-no .ensures .0 ∙ ap (λ (x : WireNumber). packed (answerNumber x) (answerValue x)) (sym (c .before .before .r .given .1) ∙ c .before .before .before .before .wire-number .ensures .0)
+returns-2 c = c .pack-no .ensures .0 ∙ ap (λ (x : WireNumber). packed (wireAnswerNumber x) (wireAnswerValue x)) (sym (c .before .before .r .given .1) ∙ c .before .before .before .before .wire-number .ensures .0)
 
 pub ice40-wire-number-spec : {M : Type 1} → statement M
 ice40-wire-number-spec =

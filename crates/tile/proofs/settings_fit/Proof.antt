@@ -6,7 +6,7 @@ use Prim.Native.Nat.{_-_, _≤_}
 use native.Mathlib.Omega.{arith}
 use borrow.Author.Tests.{le-leb, lt-leb}
 use borrow.Author.Needs.{needs}
-use Rattle.lists.specs.Search.{all}
+use Rattle.lists.specs.Search.{allFrom}
 use Rattle.lists.proofs.SomeLaws.{all-more-pass, all-more-fail}
 use Rattle.routing.specs.LogicTile.{logicTile}
 use Rattle.codec.specs.Limits.{withinAt}
@@ -16,7 +16,7 @@ use Rattle.tile.proofs.settings_fit.Statement.{statement}
 use Rattle.tile.proofs.settings_fit.Tie as tie
 
 abbrev Inv-loop : tie.InvT-loop
-Inv-loop limits settings fit₀ n₀ fit n = (n ≤ settingsLength) × (fit ≡ all (withinAt limits settings) 0 n)
+Inv-loop limits settings fit₀ n₀ fit n = (n ≤ settingsLength) × (fit ≡ allFrom (withinAt limits settings) 0 n)
 
 abbrev μ-loop : tie.MeasureT-loop
 μ-loop limits settings fit₀ n₀ fit n = settingsLength - n
@@ -32,7 +32,7 @@ returns c =
     λ table e. fit-carry-pair table (at-start .args .settings .now) (sym (at-has-both-carries .has-both-carries .ensures) ∙ c .if1 .taken)
 
 loop-holds : tie.Need-loop-holds Inv-loop μ-loop
-unfolding all
+unfolding allFrom
 loop-holds c = search needs
 
 mul-if2 : tie.Need-mul-if2 Inv-loop μ-loop
@@ -67,7 +67,7 @@ returns-2 c =
     let at-has-both-carries = c .before .before .before in
     let at-if1 = c .before .before in
     let at-loop = c .before in
-    λ table e. at-loop .loop .inv .1 ∙ ap (all (withinAt (at-start .args .limits .now) (at-start .args .settings .now)) 0)
+    λ table e. at-loop .loop .inv .1 ∙ ap (allFrom (withinAt (at-start .args .limits .now) (at-start .args .settings .now)) 0)
     (let q : at-loop .loop .n ≡ settingsLength = omega arith in q) ∙ fit-within table (at-start .args .settings .now)
     (at-start .args .limits .now) e (sym (at-has-both-carries .has-both-carries .ensures) ∙ at-if1 .if1 .left)
 

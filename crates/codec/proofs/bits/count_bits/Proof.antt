@@ -4,7 +4,7 @@ use Prim.Native.Nat.{_*_, _-_, _≤_}
 use native.Mathlib.Omega.{arith}
 use borrow.Author.Needs.{needs}
 use lib.Count.{ones-le}
-use Rattle.lists.specs.Search.{count}
+use Rattle.lists.specs.Search.{countBelow}
 use Rattle.codec.specs.Bits.{unit, isSetAt, bitAt}
 use Rattle.ports.specs.Lengths.{tileNumbers}
 use Rattle.codec.proofs.BitLaws.{bit-count-step}
@@ -12,13 +12,13 @@ use Rattle.codec.proofs.bits.count_bits.Statement.{statement}
 use Rattle.codec.proofs.bits.count_bits.Tie as tie
 
 abbrev Inv-loop : tie.InvT-loop
-Inv-loop bits n₀ i₀ n i = (i ≤ tileNumbers) × (n ≡ count (isSetAt (bitAt bits)) (unit * i)) × (n ≤ unit * i)
+Inv-loop bits n₀ i₀ n i = (i ≤ tileNumbers) × (n ≡ countBelow (isSetAt (bitAt bits)) (unit * i)) × (n ≤ unit * i)
 
 abbrev μ-loop : tie.MeasureT-loop
 μ-loop bits n₀ i₀ n i = tileNumbers - i
 
 loop-holds : tie.Need-loop-holds Inv-loop μ-loop
-unfolding count
+unfolding countBelow
 loop-holds c = search needs
 
 shared-slice-read-n : tie.Need-shared-slice-read-n Inv-loop μ-loop
@@ -50,7 +50,7 @@ returns : tie.Need-returns Inv-loop μ-loop
 returns c =
     let at-start = c .before .before in
     let at-loop = c .before in
-    at-loop .loop .inv .1 ∙ ap (count (isSetAt (bitAt (at-start .args .bits .now)))) (let e : unit * at-loop .loop .i ≡ 864 = omega arith in e)
+    at-loop .loop .inv .1 ∙ ap (countBelow (isSetAt (bitAt (at-start .args .bits .now)))) (let e : unit * at-loop .loop .i ≡ 864 = omega arith in e)
 
 pub count-bits-spec : {M : Type 1} → statement M
 count-bits-spec =

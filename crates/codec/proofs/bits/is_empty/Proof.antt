@@ -4,7 +4,7 @@ use Prim.Native.Nat.{_-_, _≤_}
 use native.Mathlib.Omega.{arith}
 use borrow.Author.Tests.{eq-eqb, ne-eqb}
 use borrow.Author.Needs.{needs}
-use Rattle.lists.specs.Search.{all}
+use Rattle.lists.specs.Search.{allFrom}
 use Rattle.lists.proofs.SearchLaws.{all-turn-hit, all-turn-skip, all-turn-end}
 use Rattle.ports.specs.Lengths.{tileNumbers}
 use Rattle.codec.specs.Bits.{isZeroAt}
@@ -12,7 +12,7 @@ use Rattle.codec.proofs.bits.is_empty.Statement.{statement}
 use Rattle.codec.proofs.bits.is_empty.Tie as tie
 
 abbrev Inv-loop : tie.InvT-loop
-Inv-loop bits i₀ i = (i ≤ tileNumbers) × (all (isZeroAt bits) i (tileNumbers - i) ≡ all (isZeroAt bits) 0 tileNumbers)
+Inv-loop bits i₀ i = (i ≤ tileNumbers) × (allFrom (isZeroAt bits) i (tileNumbers - i) ≡ allFrom (isZeroAt bits) 0 tileNumbers)
 
 abbrev μ-loop : tie.MeasureT-loop
 μ-loop bits i₀ i = tileNumbers - i

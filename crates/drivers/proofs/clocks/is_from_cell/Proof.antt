@@ -20,8 +20,8 @@ returns c =
     let a = c .before .before .before .before .before .args in
     sym (and-false-left (a .asked) (not (drivenOutside (a .b) (a .st .now) (a .sources .now) (a .tile) (a .q))) (not-true (a .asked) (c .if1 .taken)))
 
-wire-at-requires : tie.Need-wire-at-requires
-wire-at-requires c κs =
+tile-wire-requires : tie.Need-tile-wire-requires
+tile-wire-requires c κs =
     let at-start = c .before .before .before .before .before in
     let a = at-start .args in
     let B = a .b in
@@ -39,7 +39,7 @@ driver-of-requires c κs =
     let B = a .b in
     let p = at-start .pre in
     let l : portOf (a .tile) (a .q) < ports B = port-of-lt B (a .tile) (a .q) (p .3) (p .4) in
-    let is : c .before .wide .result ≡ wireOf B (portOf (a .tile) (a .q)) = c .before .wide .ensures ∙ c .before .before .wire-at .ensures in
+    let is : c .before .wide .result ≡ wireOf B (portOf (a .tile) (a .q)) = c .before .wide .ensures ∙ c .before .before .tile-wire .ensures in
     (p .0 .size, p .1, p .2, subst (λ (w : ℕ). w < ports B) (sym is) (wire-within B _ l), p .5)
 
 clock-ok-requires : tie.Need-clock-ok-requires
@@ -53,7 +53,7 @@ returns-2 c =
     let at-start = c .before .before .before .before .before .before .before .before .before .before .before .before in
     let a = at-start .args in
     let B = a .b in
-    let is : c .before .before .before .before .before .wide .result ≡ wireOf B (portOf (a .tile) (a .q)) = c .before .before .before .before .before .wide .ensures ∙ c .before .before .before .before .before .before .wire-at .ensures in
+    let is : c .before .before .before .before .before .wide .result ≡ wireOf B (portOf (a .tile) (a .q)) = c .before .before .before .before .before .wide .ensures ∙ c .before .before .before .before .before .before .tile-wire .ensures in
     ap not (c .clock-ok .ensures ∙ ap isOutside (c .before .before .before .driver-of .ensures ∙ ap (driverOf B (a .sources .now)) is)) ∙ ap (λ (b : Bool). b && not (drivenOutside B (a .st .now) (a .sources .now) (a .tile) (a .q))) (sym (not-false (a .asked) (c .before .before .before .before .before .before .before .if1 .left)))
 
 pub is-from-cell-spec : {M : Type 1} → statement M
@@ -61,7 +61,7 @@ is-from-cell-spec =
     tie.close
     (tie.spec
     returns
-    wire-at-requires
+    tile-wire-requires
     wide-requires
     driver-of-requires
     clock-ok-requires

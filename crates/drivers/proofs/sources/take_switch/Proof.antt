@@ -55,11 +55,11 @@ destination-requires c κs =
     let lg : g < maxGroups = (let f = ok .few-groups in omega arith) in
     (ok .table-long, lg)
 
-cast-wire-at : tie.Need-cast-wire-at
-cast-wire-at c = search needs
+cast-tile-wire : tie.Need-cast-tile-wire
+cast-tile-wire c = search needs
 
-wire-at-requires : tie.Need-wire-at-requires
-wire-at-requires c κs =
+tile-wire-requires : tie.Need-tile-wire-requires
+tile-wire-requires c κs =
     let at-start = c .before .before .before .before .before .before .before in
     let a = at-start .args in
     let B = a .b in
@@ -96,11 +96,11 @@ source-requires c κs =
     let on : enabled B t st (maxGroups * T + g) ≡ true = switch-on T g lg B t st lc (λ z. c .before .before .before .if1 .left (c .before .before .before .before .group-at .ensures ∙ z)) in
     (ok .table-long, lg, let e = c .before .before .before .before .group-at .ensures in let l = switch-entry-lt T g lg B t st ok lT on in omega arith)
 
-cast-wire-at-2 : tie.Need-cast-wire-at-2
-cast-wire-at-2 c = search needs
+cast-tile-wire-2 : tie.Need-cast-tile-wire-2
+cast-tile-wire-2 c = search needs
 
-wire-at-requires-2 : tie.Need-wire-at-requires-2
-wire-at-requires-2 c κs =
+tile-wire-requires-2 : tie.Need-tile-wire-requires-2
+tile-wire-requires-2 c κs =
     let at-start = c .before .before .before .before .before .before .before .before .before .before in
     let a = at-start .args in
     let B = a .b in
@@ -152,7 +152,7 @@ mul-old c =
     let lg : g < maxGroups = (let f = ok .few-groups in omega arith) in
     let on : enabled B t st (maxGroups * T + g) ≡ true = switch-on T g lg B t st lc (λ z. c .before .before .before .before .before .if1 .left (c .before .before .before .before .before .before .group-at .ensures ∙ z)) in
     let u = c .before .before .wide .result in
-    let is : u ≡ target B t (maxGroups * T + g) = c .before .before .wide .ensures ∙ c .before .before .before .wire-at .ensures ∙ ap (λ (q : ℕ). wireOf B (portOf T q)) (c .before .before .before .before .destination .ensures) ∙ switch-target T g lg B t in
+    let is : u ≡ target B t (maxGroups * T + g) = c .before .before .wide .ensures ∙ c .before .before .before .tile-wire .ensures ∙ ap (λ (q : ℕ). wireOf B (portOf T q)) (c .before .before .before .before .destination .ensures) ∙ switch-target T g lg B t in
     let lu : u < ports B = subst (λ (x : ℕ). x < ports B) (sym is) (switch-target-lt T g lg B t st ok lT on) in
     let n = at-start .pre .1 .long in
     let few = ports-le B (ok .size) in
@@ -173,7 +173,7 @@ slice-read-old c =
     let lg : g < maxGroups = (let f = ok .few-groups in omega arith) in
     let on : enabled B t st (maxGroups * T + g) ≡ true = switch-on T g lg B t st lc (λ z. c .before .before .before .before .before .before .if1 .left (c .before .before .before .before .before .before .before .group-at .ensures ∙ z)) in
     let u = c .before .before .before .wide .result in
-    let is : u ≡ target B t (maxGroups * T + g) = c .before .before .before .wide .ensures ∙ c .before .before .before .before .wire-at .ensures ∙ ap (λ (q : ℕ). wireOf B (portOf T q)) (c .before .before .before .before .before .destination .ensures) ∙ switch-target T g lg B t in
+    let is : u ≡ target B t (maxGroups * T + g) = c .before .before .before .wide .ensures ∙ c .before .before .before .before .tile-wire .ensures ∙ ap (λ (q : ℕ). wireOf B (portOf T q)) (c .before .before .before .before .before .destination .ensures) ∙ switch-target T g lg B t in
     let lu : u < ports B = subst (λ (x : ℕ). x < ports B) (sym is) (switch-target-lt T g lg B t st ok lT on) in
     let n = at-start .pre .1 .long in
     let few = ports-le B (ok .size) in
@@ -194,7 +194,7 @@ mul-sources c =
     let lg : g < maxGroups = (let f = ok .few-groups in omega arith) in
     let on : enabled B t st (maxGroups * T + g) ≡ true = switch-on T g lg B t st lc (λ z. c .before .before .before .before .before .before .before .if1 .left (c .before .before .before .before .before .before .before .before .group-at .ensures ∙ z)) in
     let u = c .before .before .before .before .wide .result in
-    let is : u ≡ target B t (maxGroups * T + g) = c .before .before .before .before .wide .ensures ∙ c .before .before .before .before .before .wire-at .ensures ∙ ap (λ (q : ℕ). wireOf B (portOf T q)) (c .before .before .before .before .before .before .destination .ensures) ∙ switch-target T g lg B t in
+    let is : u ≡ target B t (maxGroups * T + g) = c .before .before .before .before .wide .ensures ∙ c .before .before .before .before .before .tile-wire .ensures ∙ ap (λ (q : ℕ). wireOf B (portOf T q)) (c .before .before .before .before .before .before .destination .ensures) ∙ switch-target T g lg B t in
     let lu : u < ports B = subst (λ (x : ℕ). x < ports B) (sym is) (switch-target-lt T g lg B t st ok lT on) in
     let n = at-start .pre .1 .long in
     let few = ports-le B (ok .size) in
@@ -215,7 +215,7 @@ slice-write-sources c =
     let lg : g < maxGroups = (let f = ok .few-groups in omega arith) in
     let on : enabled B t st (maxGroups * T + g) ≡ true = switch-on T g lg B t st lc (λ z. c .before .before .before .before .before .before .before .if1 .left (c .before .before .before .before .before .before .before .before .group-at .ensures ∙ z)) in
     let u = c .before .before .before .before .wide .result in
-    let is : u ≡ target B t (maxGroups * T + g) = c .before .before .before .before .wide .ensures ∙ c .before .before .before .before .before .wire-at .ensures ∙ ap (λ (q : ℕ). wireOf B (portOf T q)) (c .before .before .before .before .before .before .destination .ensures) ∙ switch-target T g lg B t in
+    let is : u ≡ target B t (maxGroups * T + g) = c .before .before .before .before .wide .ensures ∙ c .before .before .before .before .before .tile-wire .ensures ∙ ap (λ (q : ℕ). wireOf B (portOf T q)) (c .before .before .before .before .before .before .destination .ensures) ∙ switch-target T g lg B t in
     let lu : u < ports B = subst (λ (x : ℕ). x < ports B) (sym is) (switch-target-lt T g lg B t st ok lT on) in
     let n = at-start .pre .1 .long in
     let few = ports-le B (ok .size) in
@@ -240,7 +240,7 @@ returns-2 c =
     let s = maxGroups * T + g in
     let on : enabled B t st (maxGroups * T + g) ≡ true = switch-on T g lg B t st lc (λ z. c .before .before .before .before .before .before .before .if1 .left (c .before .before .before .before .before .before .before .before .group-at .ensures ∙ z)) in
     let u = c .before .before .before .before .wide .result in
-    let is : u ≡ target B t (maxGroups * T + g) = c .before .before .before .before .wide .ensures ∙ c .before .before .before .before .before .wire-at .ensures ∙ ap (λ (q : ℕ). wireOf B (portOf T q)) (c .before .before .before .before .before .before .destination .ensures) ∙ switch-target T g lg B t in
+    let is : u ≡ target B t (maxGroups * T + g) = c .before .before .before .before .wide .ensures ∙ c .before .before .before .before .before .tile-wire .ensures ∙ ap (λ (q : ℕ). wireOf B (portOf T q)) (c .before .before .before .before .before .before .destination .ensures) ∙ switch-target T g lg B t in
     let lu : u < ports B = subst (λ (x : ℕ). x < ports B) (sym is) (switch-target-lt T g lg B t st ok lT on) in
     let from : c .before .before .before .source .result ≡ sourceAt logicTile t g (groupOf st T g - 1) = c .before .before .before .source .ensures ∙ ap (λ (e : ℕ). sourceAt logicTile t g (e - 1)) (c .before .before .before .before .before .before .before .before .group-at .ensures) in
     let o : c .before .before .wire-at2 .result ≡ origin B t st (maxGroups * T + g) = c .before .before .wire-at2 .ensures ∙ ap (λ (q : ℕ). wireOf B (portOf T q)) from ∙ switch-origin T g lg B t st in
@@ -262,7 +262,7 @@ returns-3 c =
     let s = maxGroups * T + g in
     let on : enabled B t st (maxGroups * T + g) ≡ true = switch-on T g lg B t st lc (λ z. c .before .before .before .before .before .before .before .before .if1 .left (c .before .before .before .before .before .before .before .before .before .group-at .ensures ∙ z)) in
     let u = c .before .before .before .before .before .wide .result in
-    let is : u ≡ target B t (maxGroups * T + g) = c .before .before .before .before .before .wide .ensures ∙ c .before .before .before .before .before .before .wire-at .ensures ∙ ap (λ (q : ℕ). wireOf B (portOf T q)) (c .before .before .before .before .before .before .before .destination .ensures) ∙ switch-target T g lg B t in
+    let is : u ≡ target B t (maxGroups * T + g) = c .before .before .before .before .before .wide .ensures ∙ c .before .before .before .before .before .before .tile-wire .ensures ∙ ap (λ (q : ℕ). wireOf B (portOf T q)) (c .before .before .before .before .before .before .before .destination .ensures) ∙ switch-target T g lg B t in
     let lu : u < ports B = subst (λ (x : ℕ). x < ports B) (sym is) (switch-target-lt T g lg B t st ok lT on) in
     sourced-next B t st T g (sourced-lower B t st s (a .low) _ (at-start .pre .1) u on is lu (c .before .if2 .left) (c .if3 .taken))
 
@@ -282,7 +282,7 @@ returns-4 c =
     let s = maxGroups * T + g in
     let on : enabled B t st (maxGroups * T + g) ≡ true = switch-on T g lg B t st lc (λ z. c .before .before .before .before .before .before .before .before .if1 .left (c .before .before .before .before .before .before .before .before .before .group-at .ensures ∙ z)) in
     let u = c .before .before .before .before .before .wide .result in
-    let is : u ≡ target B t (maxGroups * T + g) = c .before .before .before .before .before .wide .ensures ∙ c .before .before .before .before .before .before .wire-at .ensures ∙ ap (λ (q : ℕ). wireOf B (portOf T q)) (c .before .before .before .before .before .before .before .destination .ensures) ∙ switch-target T g lg B t in
+    let is : u ≡ target B t (maxGroups * T + g) = c .before .before .before .before .before .wide .ensures ∙ c .before .before .before .before .before .before .tile-wire .ensures ∙ ap (λ (q : ℕ). wireOf B (portOf T q)) (c .before .before .before .before .before .before .before .destination .ensures) ∙ switch-target T g lg B t in
     let lu : u < ports B = subst (λ (x : ℕ). x < ports B) (sym is) (switch-target-lt T g lg B t st ok lT on) in
     sourced-next B t st T g (sourced-higher B t st s (a .low) _ (at-start .pre .1) u on is lu (c .before .if2 .left) (c .if3 .left))
 
@@ -293,13 +293,13 @@ take-switch-spec =
     group-at-requires
     returns
     destination-requires
-    cast-wire-at
-    wire-at-requires
+    cast-tile-wire
+    tile-wire-requires
     wide-requires
     sub-source
     source-requires
-    cast-wire-at-2
-    wire-at-requires-2
+    cast-tile-wire-2
+    tile-wire-requires-2
     add-source
     mul-old
     slice-read-old

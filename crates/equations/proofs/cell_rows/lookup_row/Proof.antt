@@ -12,26 +12,26 @@ mul-q c = search needs
 add-q : tie.Need-add-q
 add-q c = search needs
 
-wire-at-requires : tie.Need-wire-at-requires
-wire-at-requires c κs = search needs
+tile-wire-requires : tie.Need-tile-wire-requires
+tile-wire-requires c κs = search needs
 
-add-wire-at : tie.Need-add-wire-at
-add-wire-at c = search needs
+add-tile-wire : tie.Need-add-tile-wire
+add-tile-wire c = search needs
 
-wire-at-requires-2 : tie.Need-wire-at-requires-2
-wire-at-requires-2 c κs = search needs
+tile-wire-requires-2 : tie.Need-tile-wire-requires-2
+tile-wire-requires-2 c κs = search needs
 
-add-wire-at-2 : tie.Need-add-wire-at-2
-add-wire-at-2 c = search needs
+add-tile-wire-2 : tie.Need-add-tile-wire-2
+add-tile-wire-2 c = search needs
 
-wire-at-requires-3 : tie.Need-wire-at-requires-3
-wire-at-requires-3 c κs = search needs
+tile-wire-requires-3 : tie.Need-tile-wire-requires-3
+tile-wire-requires-3 c κs = search needs
 
-add-wire-at-3 : tie.Need-add-wire-at-3
-add-wire-at-3 c = search needs
+add-tile-wire-3 : tie.Need-add-tile-wire-3
+add-tile-wire-3 c = search needs
 
-wire-at-requires-4 : tie.Need-wire-at-requires-4
-wire-at-requires-4 c κs = search needs
+tile-wire-requires-4 : tie.Need-tile-wire-requires-4
+tile-wire-requires-4 c κs = search needs
 
 cell-at-requires : tie.Need-cell-at-requires
 cell-at-requires c κs = search needs
@@ -41,15 +41,15 @@ returns c =
     let at-wire-at4 = c .before in
     let at-wire-at3 = c .before .before in
     let at-wire-at2 = c .before .before .before in
-    let at-wire-at = c .before .before .before .before in
+    let at-tile-wire = c .before .before .before .before in
     let at-start = c .before .before .before .before .before .before .before in
     let a = at-start .args in
-    let in0 = at-wire-at .wire-at .ensures ∙ in-first (a .b) (a .tile) (a .i) in
+    let in0 = at-tile-wire .tile-wire .ensures ∙ in-first (a .b) (a .tile) (a .i) in
     let table = ap (λ (cell : Cell). cell .table) (c .cell-at .ensures) in
     rw (in0, at-wire-at2 .wire-at2 .ensures, at-wire-at3 .wire-at3 .ensures, at-wire-at4 .wire-at4 .ensures, table)
 
 pub lookup-row-spec : {M : Type 1} → statement M
 lookup-row-spec =
     tie.close
-    (tie.spec mul-q add-q wire-at-requires add-wire-at wire-at-requires-2 add-wire-at-2 wire-at-requires-3 add-wire-at-3
-    wire-at-requires-4 cell-at-requires returns)
+    (tie.spec mul-q add-q tile-wire-requires add-tile-wire tile-wire-requires-2 add-tile-wire-2 tile-wire-requires-3 add-tile-wire-3
+    tile-wire-requires-4 cell-at-requires returns)

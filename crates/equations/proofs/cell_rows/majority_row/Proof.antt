@@ -13,36 +13,36 @@ mul-q c = search needs
 add-q : tie.Need-add-q
 add-q c = search needs
 
-add-wire-at : tie.Need-add-wire-at
-add-wire-at c = search needs
+add-tile-wire : tie.Need-add-tile-wire
+add-tile-wire c = search needs
 
-wire-at-requires : tie.Need-wire-at-requires
-wire-at-requires c κs = search needs
+tile-wire-requires : tie.Need-tile-wire-requires
+tile-wire-requires c κs = search needs
 
-add-wire-at-2 : tie.Need-add-wire-at-2
-add-wire-at-2 c = search needs
+add-tile-wire-2 : tie.Need-add-tile-wire-2
+add-tile-wire-2 c = search needs
 
-wire-at-requires-2 : tie.Need-wire-at-requires-2
-wire-at-requires-2 c κs = search needs
+tile-wire-requires-2 : tie.Need-tile-wire-requires-2
+tile-wire-requires-2 c κs = search needs
 
 carry-port-requires : tie.Need-carry-port-requires
 carry-port-requires c κs = search needs
 
-wire-at-requires-3 : tie.Need-wire-at-requires-3
-wire-at-requires-3 c κs = search needs
+tile-wire-requires-3 : tie.Need-tile-wire-requires-3
+tile-wire-requires-3 c κs = search needs
 
 returns : tie.Need-returns
 returns c =
     let at-carry-port = c .before in
     let at-wire-at2 = c .before .before in
-    let at-wire-at = c .before .before .before in
+    let at-tile-wire = c .before .before .before in
     let at-start = c .before .before .before .before .before .before in
     let a = at-start .args in
     let carry = c .wire-at3 .ensures ∙ ap (λ (q : ℕ). wireOf (a .b) (portOf (a .tile) q)) (at-carry-port .carry-port .ensures .0) in
-    rw (at-wire-at .wire-at .ensures, at-wire-at2 .wire-at2 .ensures, carry)
+    rw (at-tile-wire .tile-wire .ensures, at-wire-at2 .wire-at2 .ensures, carry)
 
 pub majority-row-spec : {M : Type 1} → statement M
 majority-row-spec =
     tie.close
-    (tie.spec mul-q add-q add-wire-at wire-at-requires add-wire-at-2 wire-at-requires-2 carry-port-requires
-    wire-at-requires-3 returns)
+    (tie.spec mul-q add-q add-tile-wire tile-wire-requires add-tile-wire-2 tile-wire-requires-2 carry-port-requires
+    tile-wire-requires-3 returns)

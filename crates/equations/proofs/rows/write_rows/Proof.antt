@@ -1,8 +1,8 @@
--- `rows::write_rows` meets its contract. Invariant: the first p rows are written (`Written`). Measure: the rows that are left. Assumes nothing.
+-- `rows::write_rows` meets its contract. Invariant: the first p rows are written (`RowsWritten`). Measure: the rows that are left. Assumes nothing.
 use Rattle.fabric.proofs.WireLaws.{wires-length}
 use Rattle.equations.specs.Sources.{rowFrom}
 use Rattle.ports.specs.Lengths.{ports}
-use Rattle.netlist.proofs.RowLaws.{Written, written-start, written-step, written-end}
+use Rattle.netlist.proofs.RowLaws.{RowsWritten, written-start, written-step, written-end}
 use mathlib.Core.List.{List}
 use mathlib.Core.Path.{_≡_, sym, _∙_, subst}
 use Prim.Native.Nat.{_+_, _-_, ℕ}
@@ -12,7 +12,7 @@ use Rattle.equations.proofs.rows.write_rows.Statement.{statement}
 use Rattle.equations.proofs.rows.write_rows.Tie as tie
 
 abbrev Inv-loop : tie.InvT-loop
-Inv-loop b st wires sources rows₀ n p₀ rows p = Written (rowFrom b st sources) (ports b) p rows × (n ≡ ports b)
+Inv-loop b st wires sources rows₀ n p₀ rows p = RowsWritten (rowFrom b st sources) (ports b) p rows × (n ≡ ports b)
 
 abbrev μ-loop : tie.MeasureT-loop
 μ-loop b st wires sources rows₀ n p₀ rows p = n - p
@@ -47,7 +47,7 @@ loop-again c =
     let inv = at-loop .loop .inv in
     let f = rowFrom (a .b) (a .st .now) (a .sources .now) in
     let row = written-step f (ports (a .b)) _ _ _ (inv .0) (omega arith) (at-row-of .row-of .ensures) in
-    (subst (λ (l : List ℕ). Written f (ports (a .b)) (at-loop .loop .p + 1) l) (sym (at-write-row .write-row .ensures)) row, inv .1)
+    (subst (λ (l : List ℕ). RowsWritten f (ports (a .b)) (at-loop .loop .p + 1) l) (sym (at-write-row .write-row .ensures)) row, inv .1)
 
 same-length : tie.Need-same-length Inv-loop μ-loop
 same-length c =

@@ -2,7 +2,7 @@
 use Rattle.frames.specs.Lines.{digitsAt}
 use Rattle.texts.specs.Hex.{isDigit}
 use Rattle.lists.proofs.SearchLaws.{all-turn-hit, all-turn-skip, all-turn-end}
-use Rattle.lists.specs.Search.{all}
+use Rattle.lists.specs.Search.{allFrom}
 use lib.ListN.{getD}
 use borrow.Author.Needs.{needs}
 use borrow.Author.Tests.{not-true, not-false}
@@ -13,7 +13,7 @@ use Rattle.frames.proofs.lines.digits_at.Statement.{statement}
 use Rattle.frames.proofs.lines.digits_at.Tie as tie
 
 abbrev Inv-loop : tie.InvT-loop
-Inv-loop s at n k₀ k = all (λ j. isDigit (getD s (at + j) 0)) k (n - k) ≡ digitsAt s at n
+Inv-loop s at n k₀ k = allFrom (λ j. isDigit (getD s (at + j) 0)) k (n - k) ≡ digitsAt s at n
 
 abbrev μ-loop : tie.MeasureT-loop
 μ-loop s at n k₀ k = n - k

@@ -6,7 +6,7 @@ use Rattle.routing.specs.Claiming.{TableOwned}
 use Rattle.routing.specs.LogicTile.{logicTile}
 use Rattle.lists.proofs.SearchLaws.{all-turn-hit, all-turn-skip, all-turn-end}
 use Rattle.lists.proofs.CaseLaws.{clash}
-use Rattle.lists.specs.Search.{all}
+use Rattle.lists.specs.Search.{allFrom}
 use borrow.Author.Needs.{needs}
 use native.Mathlib.Omega.{arith}
 use native.Mathlib.Nat.{sub-zero, add-zero}
@@ -18,7 +18,7 @@ use Rattle.routing.proofs.claims.claim.Tie as tie
 abbrev Inv-loop : tie.InvT-loop
 Inv-loop table start n slot own₀ k₀ own k =
     (k ≤ n) × TableOwned logicTile table (slot + k) own ×
-    (all (positionOk logicTile table slot) k (n - k) ≡ all (positionOk logicTile table slot) 0 n)
+    (allFrom (positionOk logicTile table slot) k (n - k) ≡ allFrom (positionOk logicTile table slot) 0 n)
 
 abbrev μ-loop : tie.MeasureT-loop
 μ-loop table start n slot own₀ k₀ own k = n - k

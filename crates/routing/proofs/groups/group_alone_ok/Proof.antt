@@ -5,7 +5,7 @@ use Prim.Native.Nat.{_-_, _≤_, _<_}
 use native.Mathlib.Omega.{arith}
 use borrow.Author.Needs.{needs}
 use borrow.Author.Tests.{not-true, not-false}
-use Rattle.lists.specs.Search.{all}
+use Rattle.lists.specs.Search.{allFrom}
 use Rattle.lists.proofs.SearchLaws.{all-turn-hit, all-turn-skip, all-turn-end}
 use Rattle.routing.specs.LogicTile.{logicTile, isDestination}
 use Rattle.routing.specs.Marks.{Marked}
@@ -17,7 +17,7 @@ use Rattle.routing.proofs.groups.group_alone_ok.Statement.{statement}
 use Rattle.routing.proofs.groups.group_alone_ok.Tie as tie
 
 abbrev Inv-loop : tie.InvT-loop
-Inv-loop table g w n seen₀ e₀ seen e = (e ≤ n) × (all (entryOk logicTile table g) e (n - e) ≡ groupAloneOk logicTile table g) × Marked logicTile table g e seen
+Inv-loop table g w n seen₀ e₀ seen e = (e ≤ n) × (allFrom (entryOk logicTile table g) e (n - e) ≡ groupAloneOk logicTile table g) × Marked logicTile table g e seen
 
 abbrev μ-loop : tie.MeasureT-loop
 μ-loop table g w n seen₀ e₀ seen e = n - e
@@ -113,7 +113,7 @@ loop-holds c =
     let count = at-entry-count .entry-count .ensures in
     let every = alone-all logicTile (at-start .args .table .now) (at-start .args .g) ends (omega arith) (omega arith) (omega arith) (omega arith) in (
       omega arith,
-      ap (all (entryOk logicTile (at-start .args .table .now) (at-start .args .g)) 0) (omega arith) ∙ every,
+      ap (allFrom (entryOk logicTile (at-start .args .table .now) (at-start .args .g)) 0) (omega arith) ∙ every,
       mark-none logicTile
           (at-start .args .table .now) (at-start .args .g) _ refl,
     )

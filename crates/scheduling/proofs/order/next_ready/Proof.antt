@@ -11,7 +11,7 @@ use Rattle.scheduling.proofs.Searching.{Searching, searching-take, sear
 use Rattle.netlist.proofs.ValueLaws.{arity-le}
 use Rattle.scheduling.proofs.WaitingLaws.{row-stuck}
 use Rattle.netlist.proofs.GraphLaws.{row-wire-true, row-wire-false, row-arity, row-reads}
-use Rattle.lists.specs.Search.{count}
+use Rattle.lists.specs.Search.{countBelow}
 use borrow.Author.Count.{below-more}
 use lib.ListN.{length, getD}
 use native.Mathlib.Omega.{arith}
@@ -33,7 +33,7 @@ abbrev Inv-search : tie.InvT-search
 Inv-search rows marks₀ links₀ woken₀ from n look₀ marks links woken look = Searching (graphOf rows) n marks₀ marks links woken look
 
 abbrev μ-search : tie.MeasureT-search
-μ-search rows marks₀ links₀ woken₀ from n look₀ marks links woken look = count (λ (k : ℕ). dueWith woken look k) n
+μ-search rows marks₀ links₀ woken₀ from n look₀ marks links woken look = countBelow (λ (k : ℕ). dueWith woken look k) n
 
 -- the wire that is looked at is one of the block
 wire-lt : (c : tie.Then1 Inv-loop μ-loop Inv-search μ-search)

@@ -2,7 +2,7 @@
 use borrow.Author.Needs.{needs}
 use Rattle.scheduling.proofs.Waking.{Waking, waking-start, waking-lt, waking-within, waking-step, waking-less, waking-end}
 use Rattle.bitset.specs.Bitset.{has, numbers}
-use Rattle.lists.specs.Search.{count}
+use Rattle.lists.specs.Search.{countBelow}
 use native.Mathlib.Omega.{arith}
 use mathlib.Core.Bool.{not}
 use Prim.Native.Nat.{ℕ}
@@ -13,7 +13,7 @@ abbrev Inv-loop : tie.InvT-loop
 Inv-loop links woken₀ mark k₀ woken k = Waking links mark woken₀ woken k
 
 abbrev μ-loop : tie.MeasureT-loop
-μ-loop links woken₀ mark k₀ woken k = count (λ (m : ℕ). not (has woken m)) numbers
+μ-loop links woken₀ mark k₀ woken k = countBelow (λ (m : ℕ). not (has woken m)) numbers
 
 wide-requires : tie.Need-wide-requires Inv-loop μ-loop
 wide-requires c κs = search needs

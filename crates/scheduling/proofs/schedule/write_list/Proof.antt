@@ -1,7 +1,7 @@
--- `schedule::write_list` meets its contract. Invariant of both loops: the first k rows are those of the list (`Written`). Measures: the wires, and
+-- `schedule::write_list` meets its contract. Invariant of both loops: the first k rows are those of the list (`RowsWritten`). Measures: the wires, and
 -- the rows, that are left. Assumes nothing.
 use borrow.Author.Needs.{needs}
-use Rattle.netlist.proofs.RowLaws.{Written, written-start, written-step, written-end}
+use Rattle.netlist.proofs.RowLaws.{RowsWritten, written-start, written-step, written-end}
 use Rattle.scheduling.proofs.SchedulingLaws.{row-in-order-at, row-in-order-past}
 use Rattle.netlist.specs.Rows.{rowAt}
 use Rattle.netlist.specs.OrderedRows.{rowInOrder}
@@ -13,13 +13,13 @@ use Rattle.scheduling.proofs.schedule.write_list.Statement.{statement}
 use Rattle.scheduling.proofs.schedule.write_list.Tie as tie
 
 abbrev Inv-loop : tie.InvT-loop
-Inv-loop rows wires count n list₀ k₀ list k = (k ≤ count) × Written (rowInOrder rows wires count) n k list
+Inv-loop rows wires count n list₀ k₀ list k = (k ≤ count) × RowsWritten (rowInOrder rows wires count) n k list
 
 abbrev μ-loop : tie.MeasureT-loop
 μ-loop rows wires count n list₀ k₀ list k = count - k
 
 abbrev Inv-loop2 : tie.InvT-loop2
-Inv-loop2 rows wires count n list₀ k₀ list k = (count ≤ k) × Written (rowInOrder rows wires count) n k list
+Inv-loop2 rows wires count n list₀ k₀ list k = (count ≤ k) × RowsWritten (rowInOrder rows wires count) n k list
 
 abbrev μ-loop2 : tie.MeasureT-loop2
 μ-loop2 rows wires count n list₀ k₀ list k = n - k
@@ -68,7 +68,7 @@ loop-again c =
     let row = at-row-at .row-at .ensures ∙ ap (λ (i : ℕ). rowAt (at-start .args .rows .now) i) (at-wide .wide .ensures)
     ∙ sym (row-in-order-at (at-start .args .rows .now) (at-start .args .wires .now) (at-start .args .count) (at-loop .loop .k) (at-test .loop-test .taken)) in (
       omega arith,
-      subst (λ (t : List ℕ). Written (rowInOrder (at-start .args .rows .now) (at-start .args .wires .now) (at-start .args .count)) (at-start .args .n)
+      subst (λ (t : List ℕ). RowsWritten (rowInOrder (at-start .args .rows .now) (at-start .args .wires .now) (at-start .args .count)) (at-start .args .n)
           (at-loop .loop .k + 1) t) (sym (at-write-row .write-row .ensures)) (written-step _ _ _ _ _ (at-loop .loop .inv .1) (omega arith) row),
     )
 
@@ -98,7 +98,7 @@ loop2-again c =
     let row = at-zero-row .zero-row .ensures
     ∙ sym (row-in-order-past (at-start .args .rows .now) (at-start .args .wires .now) (at-start .args .count) (at-loop2 .loop2 .k) (at-loop2 .loop2 .inv .0)) in (
       omega arith,
-      subst (λ (t : List ℕ). Written (rowInOrder (at-start .args .rows .now) (at-start .args .wires .now) (at-start .args .count)) (at-start .args .n)
+      subst (λ (t : List ℕ). RowsWritten (rowInOrder (at-start .args .rows .now) (at-start .args .wires .now) (at-start .args .count)) (at-start .args .n)
           (at-loop2 .loop2 .k + 1) t) (sym (at-write-row .write-row2 .ensures)) (written-step _ _ _ _ _ (at-loop2 .loop2 .inv .1) (omega arith) row),
     )
 

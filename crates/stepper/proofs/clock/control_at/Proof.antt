@@ -3,8 +3,8 @@ use borrow.Author.Needs.{needs}
 use Rattle.stepper.proofs.clock.control_at.Statement.{statement}
 use Rattle.stepper.proofs.clock.control_at.Tie as tie
 
-setting-at-requires : tie.Need-setting-at-requires
-setting-at-requires c κs = search needs
+tile-setting-requires : tie.Need-tile-setting-requires
+tile-setting-requires c κs = search needs
 
 value-at-requires : tie.Need-value-at-requires
 value-at-requires c κs = search needs
@@ -31,14 +31,14 @@ returns c =
     let at-is-tick = at-value-at3 .before in
     let at-value-at2 = at-is-tick .before in
     let at-value-at = at-value-at2 .before in
-    let at-setting-at = at-value-at .before in
-    rw (at-is-tick .is-tick .ensures, at-setting-at .setting-at .ensures, at-value-at .value-at .ensures, at-value-at2 .value-at2 .ensures, at-value-at3 .value-at3 .ensures, at-value-at4 .value-at4 .ensures, c .value-at5 .ensures)
+    let at-tile-setting = at-value-at .before in
+    rw (at-is-tick .is-tick .ensures, at-tile-setting .tile-setting .ensures, at-value-at .value-at .ensures, at-value-at2 .value-at2 .ensures, at-value-at3 .value-at3 .ensures, at-value-at4 .value-at4 .ensures, c .value-at5 .ensures)
 
 pub control-at-spec : {M : Type 1} → statement M
 control-at-spec =
     tie.close
     (tie.spec
-    setting-at-requires
+    tile-setting-requires
     value-at-requires
     value-at-requires-2
     is-tick-requires

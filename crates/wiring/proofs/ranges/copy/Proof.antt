@@ -1,5 +1,5 @@
--- `copy` meets its contract. Invariant: the first k numbers of the range are what stood at `from` (`Written`). Measure: the ports left. Assumes nothing.
-use Rattle.wiring.proofs.FillLaws.{Written, written-start, written-step, to-index, from-index, copy-end}
+-- `copy` meets its contract. Invariant: the first k numbers of the range are what stood at `from` (`WiresWritten`). Measure: the ports left. Assumes nothing.
+use Rattle.wiring.proofs.FillLaws.{WiresWritten, written-start, written-step, to-index, from-index, copy-end}
 use lib.ListN.{getD}
 use native.Mathlib.Omega.{arith}
 use Prim.Native.Nat.{_-_, _+_, _≤_}
@@ -7,7 +7,7 @@ use Rattle.wiring.proofs.ranges.copy.Statement.{statement}
 use Rattle.wiring.proofs.ranges.copy.Tie as tie
 
 abbrev Inv-loop : tie.InvT-loop
-Inv-loop wires₀ u v p x y q count from to n k₀ wires k = Written wires₀ to (λ j. getD wires₀ (from + j) 0) k wires × (k ≤ n)
+Inv-loop wires₀ u v p x y q count from to n k₀ wires k = WiresWritten wires₀ to (λ j. getD wires₀ (from + j) 0) k wires × (k ≤ n)
 
 abbrev μ-loop : tie.MeasureT-loop
 μ-loop wires₀ u v p x y q count from to n k₀ wires k = n - k

@@ -1,5 +1,5 @@
--- `cross` meets its contract. Invariant: the first k numbers of the range are what stood at `from`, crossed (`Written`). Measure: the ports left. Assumes nothing.
-use Rattle.wiring.proofs.FillLaws.{Written, written-start, written-step, to-index, from-index, cross-end}
+-- `cross` meets its contract. Invariant: the first k numbers of the range are what stood at `from`, crossed (`WiresWritten`). Measure: the ports left. Assumes nothing.
+use Rattle.wiring.proofs.FillLaws.{WiresWritten, written-start, written-step, to-index, from-index, cross-end}
 use Rattle.fabric.proofs.FlipLaws.{flip-lt}
 use Rattle.fabric.specs.Span.{flip}
 use lib.ListN.{getD}
@@ -11,7 +11,7 @@ use Rattle.wiring.proofs.ranges.cross.Statement.{statement}
 use Rattle.wiring.proofs.ranges.cross.Tie as tie
 
 abbrev Inv-loop : tie.InvT-loop
-Inv-loop wires₀ u v p x y q count from to k₀ wires k = Written wires₀ to (λ j. getD wires₀ (from + flip j) 0) k wires × (k ≤ count)
+Inv-loop wires₀ u v p x y q count from to k₀ wires k = WiresWritten wires₀ to (λ j. getD wires₀ (from + flip j) 0) k wires × (k ≤ count)
 
 abbrev μ-loop : tie.MeasureT-loop
 μ-loop wires₀ u v p x y q count from to k₀ wires k = count - k

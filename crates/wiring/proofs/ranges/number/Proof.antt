@@ -1,5 +1,5 @@
--- `number` meets its contract. Invariant: the first k numbers of the range are `first` and those after it (`Written`). Measure: the ports left. Assumes nothing.
-use Rattle.wiring.proofs.FillLaws.{Written, written-start, written-step, to-index, number-fits, number-end}
+-- `number` meets its contract. Invariant: the first k numbers of the range are `first` and those after it (`WiresWritten`). Measure: the ports left. Assumes nothing.
+use Rattle.wiring.proofs.FillLaws.{WiresWritten, written-start, written-step, to-index, number-fits, number-end}
 use native.Mathlib.Omega.{arith}
 use mathlib.Core.Path.{refl}
 use Prim.Native.Nat.{_-_, _+_, _≤_}
@@ -7,7 +7,7 @@ use Rattle.wiring.proofs.ranges.number.Statement.{statement}
 use Rattle.wiring.proofs.ranges.number.Tie as tie
 
 abbrev Inv-loop : tie.InvT-loop
-Inv-loop wires₀ first x y q count start to n k₀ wires k = Written wires₀ to (λ j. first + j) k wires × (k ≤ n)
+Inv-loop wires₀ first x y q count start to n k₀ wires k = WiresWritten wires₀ to (λ j. first + j) k wires × (k ≤ n)
 
 abbrev μ-loop : tie.MeasureT-loop
 μ-loop wires₀ first x y q count start to n k₀ wires k = n - k

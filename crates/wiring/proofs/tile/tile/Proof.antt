@@ -10,15 +10,15 @@ row-requires c κs =
     let given = at-start .pre in
     (given .0, row4 (at-start .args .b), given .1, given .2, given .3)
 
-sp4-column-requires : tie.Need-sp4-column-requires
-sp4-column-requires c κs =
+fill-sp4-column-requires : tie.Need-fill-sp4-column-requires
+fill-sp4-column-requires c κs =
     let given = c .before .before .before .before .before .before .pre in
     (given .0, given .1, given .2, c .before .before .before .row .ensures)
 
 right-requires : tie.Need-right-requires
 right-requires c κs =
     let given = c .before .before .before .before .before .before .before .before .before .before .pre in
-    (given .0, given .1, given .2, c .before .before .before .sp4-column .ensures)
+    (given .0, given .1, given .2, c .before .before .before .fill-sp4-column .ensures)
 
 row-requires-2 : tie.Need-row-requires-2
 row-requires-2 c κs =
@@ -26,8 +26,8 @@ row-requires-2 c κs =
     let given = at-start .pre in
     (given .0, row12 (at-start .args .b), given .1, given .2, c .before .before .before .right .ensures)
 
-sp12-column-requires : tie.Need-sp12-column-requires
-sp12-column-requires c κs =
+fill-sp12-column-requires : tie.Need-fill-sp12-column-requires
+fill-sp12-column-requires c κs =
     let given = c .before .before .before .before .before .before .before .before .before .before .before .before .before .before .before .before
     .before .before .pre in
     (given .0, given .1, given .2, c .before .before .before .row2 .ensures)
@@ -38,7 +38,7 @@ own-requires c κs =
     .before .before .before .before .before .args in
     let given = c .before .before .before .before .before .before .before .before .before .before .before .before .before .before .before .before
     .before .before .before .before .before .before .pre in
-    (given .0, inputs-own (a .b) (a .x) (a .y) (given .1) (given .2), c .before .before .before .sp12-column .ensures)
+    (given .0, inputs-own (a .b) (a .x) (a .y) (given .1) (given .2), c .before .before .before .fill-sp12-column .ensures)
 
 outputs-requires : tie.Need-outputs-requires
 outputs-requires c κs =
@@ -66,10 +66,10 @@ tile-spec =
     tie.close
     (tie.spec
     row-requires
-    sp4-column-requires
+    fill-sp4-column-requires
     right-requires
     row-requires-2
-    sp12-column-requires
+    fill-sp12-column-requires
     own-requires
     outputs-requires
     controls-requires

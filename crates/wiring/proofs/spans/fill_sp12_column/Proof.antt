@@ -1,8 +1,8 @@
--- `sp12_column` meets its contract: the edge to the south is the tile's there. Assumes nothing.
+-- `fill_sp12_column` meets its contract: the edge to the south is the tile's there. Assumes nothing.
 use Rattle.wiring.proofs.FillPorts.{column12-south, column12-owns, column12-far}
 use mathlib.Core.Path.{sym, _∙_}
-use Rattle.wiring.proofs.spans.sp12_column.Statement.{statement}
-use Rattle.wiring.proofs.spans.sp12_column.Tie as tie
+use Rattle.wiring.proofs.spans.fill_sp12_column.Statement.{statement}
+use Rattle.wiring.proofs.spans.fill_sp12_column.Tie as tie
 
 sub-from-south : tie.Need-sub-from-south
 sub-from-south c = c .before .if1 .taken
@@ -35,8 +35,8 @@ same-length-2 c = c .before .before .from-rim .ensures .long ∙ sym (c .before 
 returns-2 : tie.Need-returns-2
 returns-2 c = c .before .before .from-rim .ensures
 
-pub sp12-column-spec : {M : Type 1} → statement M
-sp12-column-spec =
+pub fill-sp12-column-spec : {M : Type 1} → statement M
+fill-sp12-column-spec =
     tie.close
     (tie.spec
     sub-from-south

@@ -1,8 +1,8 @@
--- `sp4_column` meets its contract: the edge to the south is the tile's there, or on the rim that of the tile to the west. Assumes nothing.
+-- `fill_sp4_column` meets its contract: the edge to the south is the tile's there, or on the rim that of the tile to the west. Assumes nothing.
 use Rattle.wiring.proofs.FillPorts.{column4-south, column4-west, column4-owns, column4-far}
 use mathlib.Core.Path.{sym, _∙_}
-use Rattle.wiring.proofs.spans.sp4_column.Statement.{statement}
-use Rattle.wiring.proofs.spans.sp4_column.Tie as tie
+use Rattle.wiring.proofs.spans.fill_sp4_column.Statement.{statement}
+use Rattle.wiring.proofs.spans.fill_sp4_column.Tie as tie
 
 sub-from-south : tie.Need-sub-from-south
 sub-from-south c = c .before .if1 .taken
@@ -50,8 +50,8 @@ same-length-3 c = c .before .before .from-rim .ensures .long ∙ sym (c .before 
 returns-3 : tie.Need-returns-3
 returns-3 c = c .before .before .from-rim .ensures
 
-pub sp4-column-spec : {M : Type 1} → statement M
-sp4-column-spec =
+pub fill-sp4-column-spec : {M : Type 1} → statement M
+fill-sp4-column-spec =
     tie.close
     (tie.spec
     sub-from-south

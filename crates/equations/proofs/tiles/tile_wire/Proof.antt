@@ -1,9 +1,9 @@
--- `tiles::wire_at` meets its contract: the list has the wire of each port. Assumes nothing.
+-- `tiles::tile_wire` meets its contract: the list has the wire of each port. Assumes nothing.
 use Rattle.fabric.proofs.WireLaws.{wires-length, wires-at}
 use Rattle.ports.specs.Block.{portOf}
 use native.Mathlib.Omega.{arith}
-use Rattle.equations.proofs.tiles.wire_at.Statement.{statement}
-use Rattle.equations.proofs.tiles.wire_at.Tie as tie
+use Rattle.equations.proofs.tiles.tile_wire.Statement.{statement}
+use Rattle.equations.proofs.tiles.tile_wire.Tie as tie
 
 mul-result : tie.Need-mul-result
 mul-result c =
@@ -32,7 +32,7 @@ returns c =
     let a = at-start .args in
     wires-at (a .b) (a .wires .now) (at-start .pre .0) (portOf (a .tile) (a .q)) (at-start .pre .1)
 
-pub wire-at-spec : {M : Type 1} → statement M
-wire-at-spec =
+pub tile-wire-spec : {M : Type 1} → statement M
+tile-wire-spec =
     tie.close
     (tie.spec mul-result add-result mul-result-2 shared-slice-read-result returns)

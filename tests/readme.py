@@ -4,9 +4,10 @@ docs/ARCHITECTURE.md.
 
     python3 tests/readme.py             needs a build (make), a C compiler, pkg-config and Python 3; fpga-icestorm-chipdb for one command
 
-In a code block a command stands behind `$ `; what follows is all that it prints, or its end behind a line `..`. A command must end with status
-0, or with 1 where the first line that it prints begins with 'no,'. Commands that build or prove are left out. It prints a line for each
-group of cases and ends with the number of differences.
+In a code block that begins with `$ ` a command stands behind each `$ `, and what follows is all that it prints. A block that begins with `..` is
+the end of what the last command before it prints. In any other block each line is a command. A command must end with status 0, or with 1
+where it prints a no. Commands that build or prove are left out. It prints a line for each group of cases and ends with the number of
+differences.
 """
 import os
 import re
@@ -20,7 +21,7 @@ from library import DATA, ROOT, Count, run  # noqa: E402
 from tools import DEBIAN  # noqa: E402
 
 LEFT_OUT = ('make', 'make check', 'make test', 'make lib', 'apt-get ')  # make install builds what it needs
-SCREENS = 70  # lines: a screen and a half
+SCREENS = 72  # lines: a screen and a half
 ODD = ['ends so:', "that the wire's name tells", 'written apart from it', 'How the folders follow']
 
 
@@ -29,14 +30,32 @@ def contents(name):
         return file.read()
 
 
-def commands(text):
-    """The commands of a page, each with the lines that it is shown to print."""
-    found = []
+def code_blocks(text):
+    """The code blocks of a page, each a list of lines."""
+    blocks, inside = [], False
     for line in text.splitlines():
-        if line.startswith('    $ '):
-            found.append((line[6:], []))
-        elif line.startswith('    ') and found:
-            found[-1][1].append(line[4:])
+        if line.startswith('    '):
+            if not inside:
+                blocks.append([])
+            blocks[-1].append(line[4:])
+        inside = line.startswith('    ')
+    return blocks
+
+
+def commands(text):
+    """The commands of a page, each with the lines that it is shown to print, or None where none are shown."""
+    found = []
+    for block in code_blocks(text):
+        if block[0] == '..':
+            found[-1] = found[-1][0], block
+        elif not block[0].startswith('$ '):
+            found += [(line, None) for line in block]
+        else:
+            for line in block:
+                if line.startswith('$ '):
+                    found.append((line[2:], []))
+                else:
+                    found[-1][1].append(line)
     return found
 
 
@@ -65,10 +84,12 @@ def check_commands():
                 print('left out, no chip database: %s' % command)
                 continue
             done = subprocess.run(['bash', '-c', command], cwd=folder, env=environment, stdout=subprocess.PIPE, stderr=subprocess.PIPE, universal_newlines=True)
-            printed = done.stdout.splitlines() if 'make install' not in command else []
-            if shown[:1] == ['..']:
+            printed = done.stdout.splitlines()
+            if shown is None:
+                shown = printed
+            elif shown[0] == '..':
                 printed, shown = printed[len(printed) - len(shown) + 1:], shown[1:]
-            count.same((done.returncode, printed, done.stderr), (int(shown[:1] != [] and shown[0].startswith('no,')), shown, ''), command)
+            count.same((done.returncode, printed, done.stderr), (int(done.stdout.startswith('no,')), shown, ''), command)
     return count.done()
 
 

@@ -13,8 +13,9 @@ import functools
 
 from frames import Cursor, Input, lines_of
 from ice40 import CELLS, FLAGS, PROGRAM_LIMIT, Block
+from rules import broken_rules, undecodable
 from tool import Mistake, counted, file_name, number, run, start_of, text_of
-from trail import Trail, broken_rules, undecodable, verdict
+from trail import Trail, verdict
 
 YES, NO = 0, 1  # exit status
 # each ground for a no in words, and what its place is (document 01, 'Grounds for a no', and 02); include/ice40.h has the same words

@@ -1,4 +1,4 @@
-# Builds and installs the reader. It needs the Rattle kit (rt on the path); `make lib` also needs a C compiler.
+# Builds and installs the reader, with GNU make. It needs the Rattle kit (rt on the path); `make lib` also needs a C compiler.
 #
 #     make            the report program and the static library, proved: target/bin/report, target/staticlib/libcapi.a
 #     make lib        the libraries under the name that they are installed by, static and shared: target/lib
@@ -32,12 +32,16 @@ all: $(REPORT) $(ARCHIVE)
 
 lib: $(STATIC) $(SHARED)
 
+NEEDS_RT = @command -v $(RT) >/dev/null || { echo 'rt is not on the path: README.md, "The Rattle kit"' >&2; exit 2; }
+
 # rt leaves a file that is up to date as it is
 $(REPORT): $(SOURCES)
+	$(NEEDS_RT)
 	$(RT) check report
 	@touch $@
 
 $(ARCHIVE): $(SOURCES)
+	$(NEEDS_RT)
 	$(RT) staticlib capi
 	@touch $@
 
@@ -53,6 +57,7 @@ $(SHARED): $(ARCHIVE)
 	ln -sf $(@F) target/lib/libice40.so
 
 check:
+	$(NEEDS_RT)
 	.ci/run
 
 test: all

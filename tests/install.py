@@ -53,7 +53,9 @@ def check_targets():
     for name in ('bin/report', 'staticlib/libcapi.a', 'lib/libice40.a', 'lib/libice40.so', 'lib/libice40.so.' + version()):
         count.same(os.path.exists(os.path.join(ROOT, 'target', name)), True, name)
     count.same(make('all', 'lib', '--question')[0], 0, 'nothing is built a second time')
-    count.same(make('--dry-run', 'check')[:2], (0, '.ci/run\n'))
+    count.same(make('--dry-run', 'check')[1].splitlines()[-1:], ['.ci/run'])
+    status, _, errors = make('check', 'RT=/none/rt')
+    count.same((status, 'The Rattle kit' in errors), (2, True), 'no rt on the path')
     count.same(make('--dry-run', 'clean')[:2], (0, 'rm -rf target\n'))
     return count.done()
 

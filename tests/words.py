@@ -186,6 +186,29 @@ def check_two_blocks():
     return count.done()
 
 
+def extents(w, h, spans):
+    """How many columns and rows the wires of some spans lie in, of those that stay off the rim of a block."""
+    tiles, wires = {}, wire_numbers.wires(w, h)
+    for t in range(w * h):
+        for name, count in wire_numbers.RANGES:
+            if name in spans:
+                for k in range(count):
+                    tiles.setdefault(wires[wire_numbers.PORTS * t + wire_numbers.BASE[name] + k], set()).add((t % w, t // w))
+    inner = [wire for wire in tiles.values() if not any(x in (0, w - 1) and w > 2 or y in (0, h - 1) and h > 2 for x, y in wire)]
+    return {tuple(max(at[d] for at in wire) - min(at[d] for at in wire) + 1 for d in (0, 1)) for wire in inner}
+
+
+def check_lengths():
+    """What README says of blocks that overlap rests on these."""
+    count = Count('span-4 wires lie in five tiles, span-12 wires in thirteen')
+    count.same(extents(30, 1, ('sp4_h_l', 'sp4_h_r')), {(5, 1)})
+    count.same(extents(1, 30, ('sp4_v_b', 'sp4_v_t')), {(1, 5)})
+    count.same(extents(12, 12, ('sp4_v_b', 'sp4_v_t', 'sp4_r_v_b')), {(2, 5)})  # the column to the west sees them too
+    count.same(extents(30, 1, ('sp12_h_l', 'sp12_h_r')), {(13, 1)})
+    count.same(extents(1, 30, ('sp12_v_b', 'sp12_v_t')), {(1, 13)})
+    return count.done()
+
+
 # ---- a no
 
 # a report's line 08 for a block of 2 by 2, and what explain says of its place
@@ -447,7 +470,7 @@ def check_verdicts(rounds):
 
 
 def main():
-    return run_all([(check_bundled,), (check_yes,), (check_two_blocks,), (check_noes,), (check_lines,), (check_reads, 20), (check_trails, 400),
+    return run_all([(check_bundled,), (check_yes,), (check_two_blocks,), (check_lengths,), (check_noes,), (check_lines,), (check_reads, 20), (check_trails, 400),
                     (check_structure,), (check_strangers,), (check_verdicts, rounds_asked(1000))], 1)
 
 

@@ -215,8 +215,8 @@ def check_lengths():
 NOES = [('08010000', 'W or H is not 1 to 8'), ('08030000', 'the fields, line 1'), ('08030001', 'the passive list, line 2'),
         ('08030002', 'group 0, line 3'), ('08040003', 'tile 3, (6,7)'), ('080501BC', 'wire 444 [(5,6) neigh_op_rgt_0, (6,6) lutff_0/out, '),
         ('080601EA', 'wire 490 [(5,6) lutff_1/cout]'), ('08070162', 'wire 354 [(5,6) local_g2_2]'), ('08080001', 'tile 1, (6,6)'),
-        ('080B0203', 'line 515'), ('08020000', 'a lent length'), ('08090001', 'tile 1, (6,6)'), ('080A0005', 'index 5'), ('080C0007', 'row 7'),
-        ('080D0003', 'line 3'), ('080E0000', 'sizes'), ('080F0009', 'count 9'), ('08100004', 'line 4'), ('081401FA', 'number 506')]
+        ('080B0203', 'line 515'), ('08020000', 'a lent length'), ('08090001', 'tile 1, (6,6)'), ('080A0005', 'at index 5 '), ('080C0007', 'row 7,'),
+        ('080D0003', 'line 3'), ('080E0000', 'sizes'), ('080F0009', 'needed: 9'), ('08100004', 'line 4'), ('081401FA', 'the number is 506')]
 
 
 def check_noes():

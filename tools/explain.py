@@ -2,8 +2,8 @@
 """Turns a report (frames 06, 07 and 08) into words, with IceStorm's names for its wires.
 
     explain.py W H [REPORT]                     from the block's size
-    explain.py --input block.frames [REPORT]    from the report's own input: shows what leads to a no, and refuses the report of
-                                                another input
+    explain.py --input block.frames [REPORT]    from the report's own input: also shows what leads to a no and which fields a yes
+                                                has set (NegClk, CarryInSet), and refuses the report of another input
 
 REPORT is a file, or standard input where it is left out. With --corner X Y, the chip's coordinates of tile 0, names are those of the
 chip. Exit status: 0 the report says yes, 1 it says no, 2 it could not be told.
@@ -142,6 +142,10 @@ class Scene:
 
 # ---- a no
 
+PLACES = {'index': 'it is at index %d of state, before and after, joined', 'line': 'it is line %d', 'row': 'it is row %d, from 0',
+          'count': 'so many are needed: %d', 'number': 'the number is %d'}
+
+
 def part_words(part):
     """A part of the routing table, with the line it has in an input."""
     if part < 2:
@@ -156,7 +160,7 @@ def place_words(what, place, scene):
         return 'the lowest such tile is tile %d, %s' % (place, scene.block.tile_name(place))
     if what == 'wire':
         return 'the lowest such wire is ' + scene.block.wire_name(place)
-    return 'it is %s %d' % (what, place)
+    return PLACES[what] % place
 
 
 def loop_words(place, scene):

@@ -1,34 +1,40 @@
-// Builds a block from Rust: reads the frames of a report's input (01 to 05) and prints the report's line 08. On a yes the row
-// count follows, and how many flip-flops the block's settings have. Blocks may be up to 8 by 8.
-// rt staticlib capi && rustc -O examples/build.rs -L target/staticlib -l static=capi -o target/build_rs && target/build_rs block.frames
+// The report program once more, from Rust and for blocks up to 8 by 8: reads the frames of an input (01 to 05) and prints the report's own
+// lines, for tools/explain.py. Exit status: 0 a yes, 1 a no, 2 it could not be told.
+//
+//     make && rustc -O examples/build.rs -L target/staticlib -l static=capi -o target/build_rs
+//     target/build_rs block.frames | tools/explain.py --input block.frames
+#[path = "../include/ice40.rs"]
+mod ice40;
 
-// include/ice40.h, the functions used here: a slice is a pointer and a length.
-extern "C" {
-    fn ice40_read(w: u32, h: u32, table: *const u16, table_length: usize, bits: *const u8, bits_length: usize,
-                  settings: *mut u16, settings_length: usize) -> u64;
-    fn ice40_build(w: u32, h: u32, table: *const u16, table_length: usize, bits: *const u8, bits_length: usize,
-                   list: *mut u16, list_length: usize, settings: *mut u16, settings_length: usize,
-                   wires: *mut u16, wires_length: usize, sources: *mut u16, sources_length: usize,
-                   rows: *mut u16, rows_length: usize, marks: *mut u16, marks_length: usize,
-                   queue: *mut u16, queue_length: usize) -> u64;
-}
+use std::io::{Read, Write};
+use std::process::ExitCode;
 
-// docs/API.md: lengths, and where things stand in the table and in a tile's settings.
-const TABLE: usize = 38469;
-const BYTES: usize = 108;
-const SETTINGS: usize = 595;
-const ROOM: [usize; 7] = [3542, SETTINGS, 506, 506, 3542, 506, 506]; // a tile's share of list, settings, wires, sources, rows, marks, queue
-const PASSIVE_AT: usize = 3;
-const GROUPS_AT: usize = 68;
-const GROUP_LENGTH: usize = 75;
-const CELLS_AT: usize = 579;
-const FLIP_FLOP: u16 = 2;
+const READ_LIMIT: u64 = 1 << 20; // bytes that are looked at; the longest whole input has 134,619
 
 struct Input {
     w: u32,
     h: u32,
     table: Vec<u16>,
     bits: Vec<u8>,
+}
+
+impl Input {
+    fn tiles(&self) -> usize {
+        self.bits.len() / ice40::BITS_LENGTH
+    }
+
+    fn has_size(&self) -> bool {
+        [self.w, self.h].iter().all(|n| (1..=ice40::LIMIT).contains(n))
+    }
+
+    fn has_all_tiles(&self) -> bool {
+        self.tiles() == (self.w * self.h) as usize
+    }
+
+    /// The wire of a port that is there: the call has no reason for a no.
+    fn wire(&self, tile: usize, port: u16) -> u32 {
+        ice40::value(unsafe { ice40::ice40_wire_number(self.w, self.h, tile as u32, port.into()) })
+    }
 }
 
 /// What is left of a frame; its numbers are taken from the left. `None` where a frame is not what it should be.
@@ -41,9 +47,9 @@ impl<'a> Frame<'a> {
         u16::from_str_radix(digits, 16).ok()
     }
 
-    /// A count of what follows it; a count that the table has no room for is no frame.
-    fn count(&mut self, limit: u16) -> Option<u16> {
-        self.take(2).filter(|&count| count <= limit)
+    /// A count of what follows it; the table has no room for a larger one.
+    fn count(&mut self, limit: usize) -> Option<u16> {
+        self.take(2).filter(|&count| count as usize <= limit)
     }
 
     fn positions(&mut self, to: &mut [u16]) -> Option<()> {
@@ -51,78 +57,139 @@ impl<'a> Frame<'a> {
     }
 
     fn group(&mut self, group: &mut [u16]) -> Option<()> {
-        group[0] = self.take(4)?;
-        group[1] = self.count(8)?;
-        let count = group[1] as usize;
-        self.positions(&mut group[2..2 + count])?;
-        group[10] = self.count(32)?;
-        for e in 0..group[10] as usize {
-            group[11 + 2 * e] = self.take(2)?;
-            group[12 + 2 * e] = self.take(4)?;
+        group[ice40::GROUP_DESTINATION] = self.take(4)?;
+        let count = self.count(ice40::POSITION_LIMIT)?;
+        group[ice40::GROUP_POSITION_COUNT] = count;
+        self.positions(&mut group[ice40::GROUP_POSITION..][..count as usize])?;
+        let entries = self.count(ice40::ENTRY_LIMIT)?;
+        group[ice40::GROUP_ENTRY_COUNT] = entries;
+        for e in 0..entries as usize {
+            group[ice40::GROUP_PATTERN + 2 * e] = self.take(2)?;
+            group[ice40::GROUP_SOURCE + 2 * e] = self.take(4)?;
         }
         Some(())
     }
 
-    fn add_to(&mut self, input: &mut Input) -> Option<()> {
-        match self.take(2)? {
+    /// Takes a whole frame, which may come after one of the kind `last`: one 01, one 02, the 03s, one 04, the 05s. Its kind.
+    fn add_to(&mut self, input: &mut Input, last: u16) -> Option<u16> {
+        let kind = self.take(2)?;
+        let again = kind == last && (kind == 3 || kind == 5 && !input.has_all_tiles());
+        if !(kind == last + 1 || again || (last, kind) == (2, 4)) {
+            return None;
+        }
+        match kind {
             1 => self.positions(&mut input.table[..3])?,
             2 => {
-                let count = self.count(64)?;
-                input.table[PASSIVE_AT] = count;
-                self.positions(&mut input.table[PASSIVE_AT + 1..][..count as usize])?
+                let count = self.count(ice40::PASSIVE_LIMIT)?;
+                input.table[ice40::TABLE_PASSIVE_COUNT] = count;
+                self.positions(&mut input.table[ice40::TABLE_PASSIVE..][..count as usize])?
             }
             3 => {
-                let at = GROUPS_AT + 1 + GROUP_LENGTH * input.table[GROUPS_AT] as usize;
-                self.group(input.table.get_mut(at..at + GROUP_LENGTH)?)?;
-                input.table[GROUPS_AT] += 1
+                let at = ice40::table_group(input.table[ice40::TABLE_GROUP_COUNT] as usize);
+                self.group(input.table.get_mut(at..at + ice40::GROUP_LENGTH)?)?;
+                input.table[ice40::TABLE_GROUP_COUNT] += 1
             }
             4 => (input.w, input.h) = (self.take(2)?.into(), self.take(2)?.into()),
-            5 => for _ in 0..BYTES { input.bits.push(self.take(2)? as u8) },
+            5 => for _ in 0..ice40::BITS_LENGTH { input.bits.push(self.take(2)? as u8) },
             _ => return None,
         }
-        if self.0 == "\n" { Some(()) } else { None }
+        if self.0 == "\n" { Some(kind) } else { None }
     }
 }
 
 fn parse(text: &str) -> Result<Input, String> {
-    let mut input = Input { w: 0, h: 0, table: vec![0; TABLE], bits: vec![] };
-    for (at, line) in text.split_inclusive('\n').enumerate() {
-        Frame(line).add_to(&mut input).ok_or(format!("line {} is no frame of a report's input", at + 1))?;
-        if line.starts_with("04") && ![input.w, input.h].iter().all(|n| (1..=8).contains(n)) {
-            break; // no call takes this size: what follows is not looked at
+    let mut input = Input { w: 0, h: 0, table: vec![0; ice40::TABLE_LENGTH], bits: vec![] };
+    let (mut last, mut lines) = (0, 0);
+    for line in text.split_inclusive('\n') {
+        lines += 1;
+        last = Frame(line).add_to(&mut input, last).ok_or_else(|| not_due(lines))?;
+        if last == 4 && !input.has_size() {
+            return Ok(input); // no call takes this size: what follows is not looked at
         }
     }
-    Ok(input)
+    if last == 5 && input.has_all_tiles() { Ok(input) } else { Err(not_due(lines + 1)) }
 }
 
-/// The ground of a no (0 for a yes), and its place or the row count.
-fn build(input: &Input) -> (u64, u64) {
-    let tiles = input.bits.len() / BYTES;
-    let [mut list, mut settings, mut wires, mut sources, mut rows, mut marks, mut queue] =
-        ROOM.map(|length| vec![0u16; length * tiles]);
+fn not_due(line: usize) -> String {
+    format!("line {}: not the frame that is due there", line)
+}
+
+/// The answer of building: the ground of a no (0 for a yes), and its place or the row count.
+fn build(input: &Input) -> (u32, u32) {
+    let tiles = input.tiles();
+    let [mut list, mut rows] = [(); 2].map(|_| vec![0u16; ice40::LIST_LENGTH * tiles]);
+    let [mut wires, mut sources, mut marks, mut queue] = [(); 4].map(|_| vec![0u16; ice40::PORTS_LENGTH * tiles]);
+    let mut settings = vec![0u16; ice40::SETTINGS_LENGTH * tiles];
     let answer = unsafe {
-        ice40_build(input.w, input.h, input.table.as_ptr(), TABLE, input.bits.as_ptr(), input.bits.len(), list.as_mut_ptr(), list.len(),
-                    settings.as_mut_ptr(), settings.len(), wires.as_mut_ptr(), wires.len(), sources.as_mut_ptr(), sources.len(),
-                    rows.as_mut_ptr(), rows.len(), marks.as_mut_ptr(), marks.len(), queue.as_mut_ptr(), queue.len())
+        ice40::ice40_build(input.w, input.h, input.table.as_ptr(), input.table.len(), input.bits.as_ptr(), input.bits.len(),
+                           list.as_mut_ptr(), list.len(), settings.as_mut_ptr(), settings.len(), wires.as_mut_ptr(), wires.len(),
+                           sources.as_mut_ptr(), sources.len(), rows.as_mut_ptr(), rows.len(), marks.as_mut_ptr(), marks.len(),
+                           queue.as_mut_ptr(), queue.len())
     };
-    (answer >> 32, answer & 0xffff_ffff)
+    (ice40::ground(answer), ice40::value(answer))
 }
 
-/// How many cells of an accepted block have their flip-flop enabled. A block that is accepted is read, so there is no no to look for.
-fn flip_flops(input: &Input) -> usize {
-    let mut settings = vec![0u16; SETTINGS * (input.bits.len() / BYTES)];
+/// The settings of a block that is accepted, and so is read: there is no no to look for.
+fn settings(input: &Input) -> Vec<u16> {
+    let mut settings = vec![0u16; ice40::SETTINGS_LENGTH * input.tiles()];
     unsafe {
-        ice40_read(input.w, input.h, input.table.as_ptr(), TABLE, input.bits.as_ptr(), input.bits.len(), settings.as_mut_ptr(), settings.len());
+        ice40::ice40_read(input.w, input.h, input.table.as_ptr(), input.table.len(), input.bits.as_ptr(), input.bits.len(),
+                          settings.as_mut_ptr(), settings.len());
     }
-    settings.chunks(SETTINGS).flat_map(|tile| tile[CELLS_AT..].chunks(2)).filter(|cell| cell[1] & FLIP_FLOP != 0).count()
+    settings
 }
 
-fn main() -> Result<(), String> {
-    let path = std::env::args().nth(1).ok_or("usage: build FRAMES")?;
-    let input = parse(&std::fs::read_to_string(&path).map_err(|error| format!("{}: {}", path, error))?)?;
-    match build(&input) {
-        (0, rows) => println!("08000000\nrows {}\nflip-flops {}", rows, flip_flops(&input)),
-        (ground, place) => println!("08{:02X}{:04X}", ground, place),
+/// Lines 06: driven wire and source wire of each enabled switch, rising by the first.
+fn switch_lines(input: &Input, settings: &[u16]) -> String {
+    let mut switches = vec![];
+    for (t, tile) in settings.chunks(ice40::SETTINGS_LENGTH).enumerate() {
+        for g in 0..input.table[ice40::TABLE_GROUP_COUNT] as usize {
+            let group = &input.table[ice40::table_group(g)..];
+            if let Some(e) = (tile[ice40::SETTINGS_GROUP + g] as usize).checked_sub(1) {
+                switches.push((input.wire(t, group[ice40::GROUP_DESTINATION]), input.wire(t, group[ice40::GROUP_SOURCE + 2 * e])));
+            }
+        }
     }
-    Ok(())
+    switches.sort();
+    switches.iter().map(|(driven, source)| format!("06{:04X}{:04X}\n", driven, source)).collect()
+}
+
+/// Lines 07: tile, cell, table and flags of each cell that is not all zero.
+fn cell_lines(settings: &[u16]) -> String {
+    let mut lines = String::new();
+    for (t, tile) in settings.chunks(ice40::SETTINGS_LENGTH).enumerate() {
+        for i in 0..ice40::CELLS {
+            let (lut, flags) = (tile[ice40::SETTINGS_CELL_TABLE + 2 * i], tile[ice40::SETTINGS_CELL_FLAGS + 2 * i]);
+            if (lut, flags) != (0, 0) {
+                lines += &format!("07{:02X}{:02X}{:04X}{:02X}\n", t, i, lut, flags);
+            }
+        }
+    }
+    lines
+}
+
+/// Prints the report of a file of frames; whether it is a yes.
+fn report() -> Result<bool, String> {
+    let path = std::env::args().nth(1).ok_or("usage: build FRAMES")?;
+    let mut text = String::new();
+    let file = std::fs::File::open(&path).map_err(|error| format!("{}: {}", path, error))?;
+    file.take(READ_LIMIT).read_to_string(&mut text).map_err(|error| format!("{}: {}", path, error))?;
+    let input = parse(&text)?;
+    let (lines, yes) = match build(&input) {
+        (0, _) => (switch_lines(&input, &settings(&input)) + &cell_lines(&settings(&input)) + "08000000\n", true),
+        (ground, place) => (format!("08{:02X}{:04X}\n", ground, place), false),
+    };
+    let mut out = std::io::stdout();
+    out.write_all(lines.as_bytes()).and_then(|()| out.flush()).map_err(|error| format!("standard output: {}", error))?;
+    Ok(yes)
+}
+
+fn main() -> ExitCode {
+    match report() {
+        Ok(yes) => ExitCode::from(if yes { 0 } else { 1 }),
+        Err(text) => {
+            eprintln!("build: {}", text);
+            ExitCode::from(2)
+        }
+    }
 }

@@ -1,34 +1,191 @@
-/* The reader's functions for C. Build the library with `rt staticlib capi`, link target/staticlib/libcapi.a.
+/* The proved reader of iCE40 logic tiles, for C and C++. `make lib` builds the library; examples/build.c is a whole program.
  *
  * Every function takes any numbers and always ends. The answer is one 64-bit number: what was asked for, with nothing above its
- * low 32 bits, or, for a no, the ground's number times 2^32 plus its place (document 01, 'Grounds for a no'). */
+ * low 32 bits, or, for a no, the ground's number times 2^32 plus its place. ICE40_GROUND and ICE40_VALUE take it apart.
+ *
+ * Memory. A slice is a pointer and a length, counted in numbers and not in bytes. Every length is exact: another one is refused with
+ * ground 2. On a no the outputs keep their old contents; the work room comes back zeroed, or untouched under grounds 1 and 2.
+ *
+ *   - Slices that are only read (const) may overlap one another, or be the same.
+ *   - A slice that is written, output or work room, must not overlap any other slice of the call, read or written. What a call does
+ *     otherwise is not promised: the proofs are about separate slices. The answer may be wrong.
+ *   - A slice of length 0 may have any pointer, NULL too. No exact length is 0, so it is refused with ground 2, or with 1 before that.
+ *   - Any other pointer is to as many numbers of its type as the length says. The library cannot check that.
+ *
+ * Threads. The library has no variables: nothing is kept from one call to the next. Calls that share no memory which one of them writes may
+ * run at the same time.
+ *
+ * Stack. ICE40_STACK_BYTES is enough for any call. Measured: ice40_read takes 82 kB, every other call less than 8 kB.
+ *
+ * No call takes memory from the heap, opens a file, prints, or calls back. */
 #ifndef ICE40_H
 #define ICE40_H
 
 #include <stddef.h>
 #include <stdint.h>
 
-/* Exact lengths, in numbers, for a block of n tiles. */
-#define ICE40_TABLE_LENGTH 38469
-#define ICE40_BITS_LENGTH(n) (108 * (size_t)(n))
-#define ICE40_SETTINGS_LENGTH(n) (595 * (size_t)(n))
-#define ICE40_PORTS_LENGTH(n) (506 * (size_t)(n))
-#define ICE40_LIST_LENGTH(n) (3542 * (size_t)(n))
-#define ICE40_STATE_LENGTH(n) (8 * (size_t)(n))
+#define ICE40_VERSION_MAJOR 0
+#define ICE40_VERSION_MINOR 1
+#define ICE40_VERSION_PATCH 0
+#define ICE40_VERSION "0.1.0"
+
+#define ICE40_STACK_BYTES 131072
 
 /* The ground of an answer: 0 for a yes. */
 #define ICE40_GROUND(answer) ((uint32_t)((answer) >> 32))
 /* The place of a no, or the value of a yes. */
 #define ICE40_VALUE(answer) ((uint32_t)(answer))
 
-/* The number of the wire that a port of a tile is on, in a block of w by h logic tiles. Grounds 1 and 20. */
+/* ---- the grounds for a no (document 01, 'Grounds for a no', and 02): X(number, NAME, words, what the place is)
+ *
+ * ICE40_NO_SIZE .. are the numbers. Calls of this version give 1 to 10, 12 and 20, the report program 11 too; 13 to 16 come with the
+ * requests of document 02. */
+#define ICE40_GROUNDS(X) \
+    X(1, SIZE, "W or H is not 1 to 8, or not 1 to 3 for the programs", "") \
+    X(2, LENGTH, "a lent length differs from the exact one", "") \
+    X(3, TABLE, "the routing table breaks a rule", "part") \
+    X(4, UNDECODABLE, "a tile cannot be decoded: a group's bits are a pattern that the table does not list, a bit is set that nothing claims, " \
+      "or CarryInSet is set together with the switch from carry_in", "tile") \
+    X(5, CONTENTION, "a fight: two enabled switches end on one wire", "wire") \
+    X(6, DISABLED_CARRY, "a disabled carry output is read: by an enabled switch, by the chain or by the next enabled carry", "wire") \
+    X(7, LOOP, "a loop: a wire depends on itself", "wire") \
+    X(8, CELL_CLOCK, "the clock of a tile with a flip-flop, or the set/reset of one with an asynchronous flip-flop, comes from a cell", "tile") \
+    X(9, SETTINGS, "settings that no bits have", "tile") \
+    X(10, NOT_A_BIT, "a byte of state or lent values is above 1", "index") \
+    X(11, LINE, "a line of the input is malformed, out of turn, missing or extra", "line") \
+    X(12, ROW, "a row of the list breaks a rule", "row") \
+    X(13, ASC_LINE, "a line of an .asc file is malformed, out of turn, missing or given twice", "line") \
+    X(14, SIZES_DIFFER, "the sizes of two blocks differ", "") \
+    X(15, LIST_TOO_SHORT, "the lent list is too short", "count") \
+    X(16, NOT_OPEN, "a change to a wire that is not open, or two changes to one wire", "line") \
+    X(20, OUT_OF_RANGE, "a port, tile or lookup input is out of range", "number")
+
+#define ICE40_GROUND_NAME(number, name, words, place) ICE40_NO_##name = number,
+enum { ICE40_YES = 0, ICE40_GROUNDS(ICE40_GROUND_NAME) };
+#undef ICE40_GROUND_NAME
+
+/* A ground in words, or NULL for a number that is no ground. */
+static inline const char *ice40_ground_words(uint32_t ground) {
+#define ICE40_GROUND_CASE(number, name, words, place) case number: return words;
+    switch (ground) { ICE40_GROUNDS(ICE40_GROUND_CASE) default: return NULL; }
+#undef ICE40_GROUND_CASE
+}
+
+/* What the place of a ground is: "wire", "tile", ..; "" where it is always 0, NULL for a number that is no ground. */
+static inline const char *ice40_place_words(uint32_t ground) {
+#define ICE40_PLACE_CASE(number, name, words, place) case number: return place;
+    switch (ground) { ICE40_GROUNDS(ICE40_PLACE_CASE) default: return NULL; }
+#undef ICE40_PLACE_CASE
+}
+
+/* ---- exact lengths, in numbers, for a block of n tiles */
+#define ICE40_LIMIT 8                                        /* the largest w and h */
+#define ICE40_TILES_LIMIT 64                                 /* the largest n */
+#define ICE40_TABLE_LENGTH 38469                             /* uint16_t, whatever n is */
+#define ICE40_BITS_LENGTH(n) (108 * (size_t)(n))             /* uint8_t: position p of tile t is in byte 108 t + p / 8, at weight 2^(p mod 8) */
+#define ICE40_SETTINGS_LENGTH(n) (595 * (size_t)(n))         /* uint16_t */
+#define ICE40_PORTS_LENGTH(n) (506 * (size_t)(n))            /* a number for each port: lent values, work room */
+#define ICE40_LIST_LENGTH(n) (3542 * (size_t)(n))            /* uint16_t */
+#define ICE40_STATE_LENGTH(n) (8 * (size_t)(n))              /* uint8_t: cell i of tile t at 8 t + i */
+
+/* ---- a routing table. ICE40_TABLE_GROUP(g) is the first number of group g, and ICE40_GROUP_.. count from there */
+#define ICE40_TABLE_NEG_CLK 0
+#define ICE40_TABLE_CARRY_IN_SET 1
+#define ICE40_TABLE_CHAIN 2                                  /* the switch from carry_in to carry_in_mux */
+#define ICE40_TABLE_PASSIVE_COUNT 3
+#define ICE40_TABLE_PASSIVE(j) (4 + (size_t)(j))             /* position j of the passive list */
+#define ICE40_TABLE_GROUP_COUNT 68
+#define ICE40_TABLE_GROUP(g) (69 + 75 * (size_t)(g))
+#define ICE40_GROUP_DESTINATION 0
+#define ICE40_GROUP_POSITION_COUNT 1
+#define ICE40_GROUP_POSITION(k) (2 + (size_t)(k))            /* the first has weight 1 in a pattern */
+#define ICE40_GROUP_ENTRY_COUNT 10
+#define ICE40_GROUP_PATTERN(e) (11 + 2 * (size_t)(e))
+#define ICE40_GROUP_SOURCE(e) (12 + 2 * (size_t)(e))
+#define ICE40_PASSIVE_LIMIT 64
+#define ICE40_GROUP_LIMIT 512
+#define ICE40_POSITION_LIMIT 8                               /* of a group */
+#define ICE40_ENTRY_LIMIT 32                                 /* of a group */
+
+/* ---- a tile's settings, counted from ICE40_SETTINGS_LENGTH(t). Unused numbers are 0 */
+#define ICE40_SETTINGS_NEG_CLK 0
+#define ICE40_SETTINGS_CARRY_IN_SET 1
+#define ICE40_SETTINGS_CHAIN 2
+#define ICE40_SETTINGS_PASSIVE(j) (3 + (size_t)(j))
+#define ICE40_SETTINGS_GROUP(g) (67 + (size_t)(g))           /* 0 for off, or the entry from 1 */
+#define ICE40_SETTINGS_CELL_TABLE(i) (579 + 2 * (size_t)(i)) /* of cell i */
+#define ICE40_SETTINGS_CELL_FLAGS(i) (580 + 2 * (size_t)(i))
+#define ICE40_FLAG_CARRY 1
+#define ICE40_FLAG_FLIP_FLOP 2
+#define ICE40_FLAG_SET 4
+#define ICE40_FLAG_ASYNCHRONOUS 8
+
+/* ---- a list: row r at ICE40_ROW_LENGTH * r. Rows past the row count are 0, and so are numbers that a kind does not use */
+#define ICE40_ROW_LENGTH 7
+#define ICE40_ROW_KIND 0
+#define ICE40_ROW_WIRE 1
+#define ICE40_ROW_OPERAND(k) (2 + (size_t)(k))               /* k 0 to 3 */
+#define ICE40_ROW_TABLE 6
+#define ICE40_KIND_LENT 1
+#define ICE40_KIND_ZERO 2
+#define ICE40_KIND_ONE 3
+#define ICE40_KIND_FLIP_FLOP 4                               /* operand 0 is 8 t + i */
+#define ICE40_KIND_COPY 5
+#define ICE40_KIND_LOOKUP 6                                  /* in_0 first */
+#define ICE40_KIND_MAJORITY 7                                /* in_1, in_2, carry-in */
+
+/* ---- the ports of a tile, IceStorm's names: port q of tile t is number 506 t + q */
+#define ICE40_CELLS 8                                        /* of a tile */
+#define ICE40_PORTS 506                                      /* of a tile */
+#define ICE40_PORT_SP4_H_L 0                                 /* 48 */
+#define ICE40_PORT_SP4_H_R 48                                /* 48 */
+#define ICE40_PORT_SP4_V_T 96                                /* 48 */
+#define ICE40_PORT_SP4_V_B 144                               /* 48 */
+#define ICE40_PORT_SP4_R_V_B 192                             /* 48 */
+#define ICE40_PORT_SP12_H_L 240                              /* 24 */
+#define ICE40_PORT_SP12_H_R 264                              /* 24 */
+#define ICE40_PORT_SP12_V_T 288                              /* 24 */
+#define ICE40_PORT_SP12_V_B 312                              /* 24 */
+#define ICE40_PORT_LOCAL 336                                 /* 32: local_gA_B at + 8 A + B */
+#define ICE40_PORT_GLB2LOCAL 368                             /* 4 */
+#define ICE40_PORT_IN 372                                    /* 32: lutff_i/in_j at + 4 i + j */
+#define ICE40_PORT_OUT 404                                   /* 8 */
+#define ICE40_PORT_NEIGH_OP_BNL 412                          /* 8, as those below */
+#define ICE40_PORT_NEIGH_OP_BOT 420
+#define ICE40_PORT_NEIGH_OP_BNR 428
+#define ICE40_PORT_NEIGH_OP_LFT 436
+#define ICE40_PORT_NEIGH_OP_RGT 444
+#define ICE40_PORT_NEIGH_OP_TNL 452
+#define ICE40_PORT_NEIGH_OP_TOP 460
+#define ICE40_PORT_NEIGH_OP_TNR 468
+#define ICE40_PORT_CLK 476
+#define ICE40_PORT_CEN 477
+#define ICE40_PORT_S_R 478
+#define ICE40_PORT_GLB_NETWK 479                             /* 8 */
+#define ICE40_PORT_CARRY_IN 487
+#define ICE40_PORT_CARRY_IN_MUX 488
+#define ICE40_PORT_COUT 489                                  /* 8 */
+#define ICE40_PORT_LOUT 497                                  /* 8 */
+#define ICE40_PORT_LTIN 505                                  /* of cell 0 */
+
+/* ---- the ends of following a driver: ICE40_END of the value is one of these, ICE40_END_WIRE the wire */
+#define ICE40_OPEN 1
+#define ICE40_ZERO 2
+#define ICE40_ONE 3
+#define ICE40_CELL 4
+#define ICE40_RING 5
+#define ICE40_END(value) ((uint32_t)(value) >> 16)
+#define ICE40_END_WIRE(value) ((uint32_t)(value) & 0xFFFF)
+
+#ifdef __cplusplus
+extern "C" {
+#endif
+
+/* The number of the wire that a port of a tile is on, in a block of w by h logic tiles. Grounds 1, 20. */
 uint64_t ice40_wire_number(uint32_t w, uint32_t h, uint32_t tile, uint32_t port);
 
 /* The bit of a lookup table at inputs given as one number, in_0 with weight 1. Ground 20. */
 uint64_t ice40_lookup(uint16_t table, uint32_t inputs);
-
-/* A slice of numbers that is read, and one that is written, is a pointer and then a length. On a no the outputs keep their old
- * contents; the work room comes back zeroed, or untouched under grounds 1 and 2. docs/API.md has the layouts. */
 
 /* Reads a block's bits to its settings. Grounds 1, 2, 3, 4. */
 uint64_t ice40_read(uint32_t w, uint32_t h, const uint16_t *table, size_t table_length, const uint8_t *bits, size_t bits_length,
@@ -41,28 +198,29 @@ uint64_t ice40_write(uint32_t w, uint32_t h, const uint16_t *table, size_t table
 /* How many of a tile's bits are set. Grounds 1, 2, 20. */
 uint64_t ice40_bit_count(uint32_t w, uint32_t h, const uint8_t *bits, size_t bits_length, uint32_t tile);
 
-/* The list of a block's rows, in order; the value is the row count. Grounds 1 to 8. The work room follows the list. */
+/* The list of a block's rows, in order; the value is the row count. Grounds 1 to 8. The output is list; the work room follows it: settings,
+ * then wires, sources, rows (a list), marks and queue, which but for rows have a number for each port. */
 uint64_t ice40_build(uint32_t w, uint32_t h, const uint16_t *table, size_t table_length, const uint8_t *bits, size_t bits_length,
                      uint16_t *list, size_t list_length, uint16_t *settings, size_t settings_length, uint16_t *wires, size_t wires_length,
                      uint16_t *sources, size_t sources_length, uint16_t *rows, size_t rows_length, uint16_t *marks, size_t marks_length,
                      uint16_t *queue, size_t queue_length);
 
-/* What drives a port, followed from switch to switch; the value is 65,536 times ICE40_OPEN .. ICE40_RING plus the wire. Grounds 1, 2, 3,
- * 9, 5, 20. */
-#define ICE40_OPEN 1
-#define ICE40_ZERO 2
-#define ICE40_ONE 3
-#define ICE40_CELL 4
-#define ICE40_RING 5
+/* What drives a port, followed from switch to switch; ICE40_END and ICE40_END_WIRE take the value apart. Grounds 1, 2, 3, 9, 5, 20. The
+ * work room is wires, sources and marks. */
 uint64_t ice40_follow(uint32_t w, uint32_t h, const uint16_t *table, size_t table_length, const uint16_t *settings, size_t settings_length,
                       uint32_t tile, uint32_t port, uint16_t *wires, size_t wires_length, uint16_t *sources, size_t sources_length,
                       uint16_t *marks, size_t marks_length);
 
-/* One step from the values before to those after: writes every port's value before, and the next state. Grounds 1, 2, 3, 9, 12, 10. */
+/* One step from the values before to those after: writes every port's value before, and the next state. Grounds 1, 2, 3, 9, 12, 10. The
+ * outputs are values and next; the work room is wires, own, marks, first and second. */
 uint64_t ice40_step(uint32_t w, uint32_t h, const uint16_t *table, size_t table_length, const uint16_t *settings, size_t settings_length,
                     const uint16_t *list, size_t list_length, const uint8_t *state, size_t state_length, const uint8_t *before,
                     size_t before_length, const uint8_t *after, size_t after_length, uint8_t *values, size_t values_length, uint8_t *next,
                     size_t next_length, uint16_t *wires, size_t wires_length, uint16_t *own, size_t own_length, uint16_t *marks,
                     size_t marks_length, uint8_t *first, size_t first_length, uint8_t *second, size_t second_length);
+
+#ifdef __cplusplus
+}
+#endif
 
 #endif

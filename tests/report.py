@@ -460,8 +460,8 @@ DAMAGES = [at_some_byte(lambda byte: some_byte()), at_some_byte(lambda byte: byt
 CHANGES = [at_some_byte(lambda byte: some_digit() if byte != b'\n' else byte)] * 6 + [at_some_line(other_count)]
 
 
-def damaged(program, rounds):
-    count = Count('damaged at random: bytes, digits, lines, counts, ends')
+def damaged_inputs(rounds):
+    """So many inputs, each damaged at random."""
     given = [data for folder in (DATA, os.path.join(VECTORS, 'data')) for data in inputs(folder).values()]
     small = [data for data in given if len(data) < 1000]
     for _ in range(rounds):
@@ -469,6 +469,12 @@ def damaged(program, rounds):
         kinds = random.choice((DAMAGES, CHANGES))
         for _ in range(random.choice((1, 1, 2, 4))):
             data = random.choice(kinds)(data)
+        yield data
+
+
+def damaged(program, rounds):
+    count = Count('damaged at random: bytes, digits, lines, counts, ends')
+    for data in damaged_inputs(rounds):
         program.check(count, data)
     return count.done()
 

@@ -1,5 +1,6 @@
 #!/usr/bin/env python3
-"""Compares the scripts of tools/ with the bundled tables and blocks, with document 01's names and with the model of tests/model.py.
+"""Compares the scripts of tools/ with the bundled tables and blocks and with document 01's names; bad input of every kind. What explain.py
+says of reports is in tests/words.py.
 
     python3 tests/tools.py                      needs Python 3 alone
     python3 tests/tools.py --chipdb FOLDER      where chipdb-1k.txt and the others are, if not where Debian puts them
@@ -9,8 +10,6 @@ It prints a line for each group of cases and ends with the number of differences
 """
 import argparse
 import os
-import random
-import re
 import subprocess
 import sys
 import tempfile
@@ -19,13 +18,13 @@ sys.path.insert(0, os.path.dirname(os.path.abspath(__file__)))
 import library  # noqa: E402
 import model  # noqa: E402
 import wire_numbers  # noqa: E402
-from library import DATA, ROOT, Count, blocks  # noqa: E402
+from library import DATA, ROOT, Count  # noqa: E402
 
 TOOLS = os.path.join(ROOT, 'tools')
 sys.path.insert(0, TOOLS)
+import frames  # noqa: E402
 import ice40  # noqa: E402
 import names  # noqa: E402
-import trail  # noqa: E402
 
 DEBIAN = '/usr/share/fpga-icestorm/chipdb'
 TABLES = [('1k', []), ('384', []), ('5k', []), ('8k', []), ('1k-ltin', ['--ltin'])]
@@ -33,7 +32,6 @@ TABLES = [('1k', []), ('384', []), ('5k', []), ('8k', []), ('1k-ltin', ['--ltin'
 CUTS = {'counter8_2x2': ('counter8', 5, 6, 2, 2), 'counter8_1x1': ('counter8', 5, 7, 1, 1), 'uart_tx_3x3': ('uart_tx', 5, 10, 3, 3),
         'counter32_2x4': ('counter32', 1, 11, 2, 4), 'lfsr16_3x3': ('lfsr16', 4, 6, 3, 3), 'shift_arst_2x2': ('shift_arst', 8, 5, 2, 2),
         'latch_1x1': ('latch', 6, 6, 1, 1), 'ripplediv_loc_2x2': ('ripplediv_local', 5, 8, 2, 2)}
-
 
 FLAGS = ['carry', 'flip-flop', 'set', 'asynchronous']
 
@@ -131,7 +129,7 @@ def claims(table):
         for k, use in uses.items():
             words[model.lc(i, k)] = 'LC_%d[%d], %s' % (i, k, use)
     for f, name in enumerate(('NegClk', 'CarryInSet', 'the switch from carry_in to carry_in_mux')):
-        words[table[f]] = 'the field %s' % name
+        words[table[f]] = name
     for j in range(table[3]):
         words[table[4 + j]] = 'passive position %d' % j
     for g, group in enumerate(model.groups_of(table)):
@@ -144,7 +142,7 @@ def check_positions():
     count = Count('positions and what claims them')
     expected = claims(model.parse(contents(data('1k.tab')))[2])
     count.same(864 - len(expected), 57, 'positions that nothing claims')
-    table = ice40.read_table(data('1k.tab'))
+    table = frames.read_table(data('1k.tab'))
     for p in range(864):
         count.same(names.cell_claims(p) + names.table_claims(p, table), [expected[p]] if p in expected else [], p)
     for given, position in ((14, 14), ('B0[14]', 14), ('0x2D', 45), ('B1[49]', 103), ('B0[50]', 50), ('B15[53]', 863)):
@@ -153,229 +151,139 @@ def check_positions():
     return count.done()
 
 
-# ---- reports
+# ---- devices
 
-def names_of(w, h, corner):
-    """Every wire's names as explain prints them, from the wires of tests/wire_numbers.py."""
-    all_names = {}
-    for port, wire in enumerate(wire_numbers.wires(w, h)):
-        t, q = divmod(port, wire_numbers.PORTS)
-        all_names.setdefault(wire, []).append('(%d,%d) %s' % (corner[0] + t % w, corner[1] + t // w, ice40.NAMES[q]))
-    return {wire: ports[0].split()[1] + ' of every tile' if 'glb_netwk' in ports[0] else ', '.join(ports)
-            for wire, ports in all_names.items()}
-
-
-def explained(w, h, corner, switches, cells):
-    """The lines that explain prints for a yes."""
-    named = names_of(w, h, corner)
-    for driven, source in switches:
-        yield 'wire %d [%s] <- wire %d [%s]' % (driven, named[driven], source, named[source])
-    for t, i, lut, flags in cells:
-        words = [word for k, word in enumerate(FLAGS) if flags >> k & 1]
-        yield '(%d,%d) lutff_%d: table %04X, %s' % (corner[0] + t % w, corner[1] + t // w, i, lut, ', '.join(words) or 'no flags')
-    yield 'yes: %d enabled switches, %d cells in use' % (len(switches), len(cells))
-
-
-# what explain shows of the two refused blocks, beyond the place
-TRAILS = {'latch_1x1': """each of these reads the next:
-  wire 354 [(5,6) local_g2_2]
-  wire 406 [(5,6) lutff_2/out]
-  wire 382 [(5,6) lutff_2/in_2]
-  wire 354 [(5,6) local_g2_2]
-""", 'ripplediv_loc_2x2': """from switch to switch, back to the cell:
-  wire 476 [(5,6) lutff_global/clk] <- wire 345 [(5,6) local_g1_1] <- wire 57 [(5,6) sp4_h_r_9, (6,6) sp4_h_l_9, (6,6) sp4_h_r_20] <- \
-wire 446 [(5,6) neigh_op_rgt_2, (6,6) lutff_2/out, (5,7) neigh_op_bnr_2, (6,7) neigh_op_bot_2]
-"""}
-
-
-def check_explain():
-    count = Count('reports of the bundled blocks in words')
-    for name, (w, h, table, bits) in blocks().items():
-        text, switches, cells = model.report(w, h, table, bits)
-        by_size = run('explain', w, h, '--corner', 5, 6, stdin=text)
-        if text.endswith('08000000\n'):
-            expected = '\n'.join(explained(w, h, (5, 6), switches, cells)) + '\n'
-            count.same(by_size, (0, expected, ''), name)
-        status, words, errors = by_size
-        count.same(run('explain', '--input', data(name + '.in'), '--corner', 5, 6, stdin=text), (status, words + TRAILS.get(name, ''), errors), name)
+def check_devices(designs):
+    count = Count('tables and designs of all devices: a mismatch is an error')
+    fits = {'1k': {'1k', '1k-ltin'}, '384': {'384'}, '5k': {'5k', '8k'}, '8k': {'5k', '8k'}, 'lm4k': {'5k', '8k'}, 'u4k': {'5k', '8k'}}
+    for device, tables in fits.items():
+        path = designs.write(contents(data('counter8.asc')).replace('.device 1k', '.device ' + device))
+        for table, _ in TABLES:
+            status, output, errors = run('asc_to_frames', path, 5, 6, 1, 1, '--table', data(table + '.tab'))
+            count.same((status, bool(output), 'the design is for a %s' % device in errors), (0, True, False) if table in tables else (2, False, True),
+                       (device, table))
+        for told in fits:
+            status, output, errors = run('asc_to_frames', path, 5, 6, 1, 1, '--table', data('384.tab'), '--device', told)
+            count.same((status, 'the table for a %s' % told in errors), (0, False) if told == device else (2, True), (device, told))
+        count.same(run('asc_to_frames', path, 5, 6, 1, 1)[0], 0, 'no table, no device to hold against')
+    other = designs.write('01000000680067\n02010005\n')
+    count.same('--device' in run('asc_to_frames', data('counter8.asc'), 5, 6, 1, 1, '--table', other)[2], True, 'a table of no known device')
+    count.same(run('asc_to_frames', data('counter8.asc'), 5, 6, 1, 1, '--table', other, '--device', '1k')[0], 0, 'the tool is told')
     return count.done()
-
-
-# a report's line 08 for a block of 2 by 2, and what explain says of its place
-NOES = [('08010000', 'W or H is not 1 to 3'), ('08030000', 'the fields, line 1'), ('08030001', 'the passive list, line 2'),
-        ('08030002', 'group 0, line 3'), ('08040003', 'tile 3, (6,7)'), ('080501BC', 'wire 444 [(5,6) neigh_op_rgt_0, (6,6) lutff_0/out, '),
-        ('080601EA', 'wire 490 [(5,6) lutff_1/cout]'), ('08070162', 'wire 354 [(5,6) local_g2_2]'), ('08080001', 'tile 1, (6,6)'),
-        ('080B0203', 'line 515')]
-
-
-# an input that is refused by a line, that line, and what explain shows of it
-LINES = [('', 1, 'missing'), ('01\n', 2, 'missing'), ('01\n02', 2, "'02', without a line end"), ('01\r\n02\n', 1, "'01\\r'\n"), ('01\n\n', 2, "''\n"),
-         ('\xff\n', 1, 'xff')]
-
-
-def check_lines():
-    count = Count('the line that an input is refused by')
-    with tempfile.TemporaryDirectory() as folder:
-        path = os.path.join(folder, 'refused.in')
-        for text, line, words in LINES:
-            with open(path, 'w', encoding='latin-1', newline='') as file:
-                file.write(text)
-            status, shown, errors = run('explain', '--input', path, stdin='080B%04X\n' % line)
-            count.same((status, 'it is line %d\n' % line in shown, words in shown, errors), (0, True, True, ''), repr(text))
-    return count.done()
-
-
-def check_noes():
-    count = Count('a no of each ground in words')
-    for line, words in NOES:
-        status, text, errors = run('explain', 2, 2, '--corner', 5, 6, stdin=line + '\n')
-        number, place = int(line[2:4], 16), int(line[4:], 16)
-        count.same((status, text.startswith('no, ground %d, place %d (' % (number, place)), words in text, errors), (0, True, True, ''), line)
-    return count.done()
-
-
-def faulty(w, h, table, bits):
-    """A block with some switches, flags and bits changed at random, so that it is refused more often than not."""
-    settings = model.read(w, h, table, bits)
-    for _ in range(random.choice((1, 3, 30))):
-        at = model.SETTINGS * random.randrange(w * h)
-        g = random.randrange(table[68])
-        settings[at + 67 + g] = random.randint(0, table[69 + 75 * g + 10])
-        settings[at + 580 + 2 * random.randrange(8)] |= random.choice((0, 2, 10))
-    if random.random() < 0.2:
-        settings[580 + 2 * random.randrange(8)] |= 1
-    tiles = [bytearray(model.encode(table, settings[model.SETTINGS * t:model.SETTINGS * t + model.SETTINGS])) for t in range(w * h)]
-    if random.random() < 0.2:
-        p = random.randrange(864)
-        tiles[random.randrange(w * h)][p // 8] ^= 1 << p % 8
-    return b''.join(tiles)
-
-
-def fault_count(table, tile):
-    """How many things in a tile are undecodable, by the model's reading of the table."""
-    claimed = set(claims(table))
-    patterns = [(group, sum(model.bit(tile, p) << k for k, p in enumerate(group.positions))) for group in model.groups_of(table)]
-    unlisted = sum(pattern != 0 and pattern not in dict(group.entries) for group, pattern in patterns)
-    return unlisted + sum(model.bit(tile, p) for p in range(864) if p not in claimed) + (model.bit(tile, table[1]) & model.bit(tile, table[2]))
-
-
-def carry_reader_count(block, wire):
-    chains = [t for t in range(block.tiles) if block.field(t, 2) and block.at(t, 487) == wire]
-    carries = [(t, i) for t in range(block.tiles) for i in range(1, 8) if block.flag(t, i, 0) and block.at(t, 489 + i - 1) == wire]
-    return len([source for _, source, _, _ in block.switches if source == wire] + chains + carries)
-
-
-def is_trail(block, place, ground, lines):
-    """Whether the words for a no of ground 5 to 8 say what the model's block has."""
-    ways = [[int(wire) for wire in re.findall(r'wire (\d+) \[', line)] for line in lines]
-    if ground == 5:
-        return len(lines) == sum(driven == place for driven, _, _, _ in block.switches) > 1
-    if ground == 6:
-        return len(lines) == carry_reader_count(block, place) > 0
-    if ground == 7:
-        loop = [wire for way in ways for wire in way]
-        return loop[0] == loop[-1] == place and len(loop) > 1 and all(b in block.reads(block.row(a)) for a, b in zip(loop, loop[1:]))
-    ends = {block.at(place, q) for q in (476, 478)}
-    return bool(ways) and all(way[0] in ends and block.follow(way[0]) == (4, way[-1]) for way in ways) and all(
-        block.source[a] == b for way in ways for a, b in zip(way, way[1:]))
-
-
-def tile_numbers(bits):
-    """A block's tiles as the tools hold them: position p at weight 2^p."""
-    return [int.from_bytes(bits[at:at + 108], 'little') for at in range(0, len(bits), 108)]
-
-
-def check_reads(rounds):
-    count = Count("what each wire's equation reads")
-    table, sound = ice40.read_table(data('1k.tab')), [blocks()[name] for name in CUTS]
-    for _ in range(rounds):
-        w, h, lent, bits = random.choice(sound)
-        bits = faulty(w, h, lent, bits)
-        settings = model.read(w, h, lent, bits)
-        if isinstance(settings, tuple) or model.Block(w, h, lent, settings).contended:
-            continue
-        block, found = model.Block(w, h, lent, settings), trail.Trail(ice40.Block(w, h), table, tile_numbers(bits))
-        for wire in block.wires:
-            count.same(found.reads(wire), block.reads(block.row(wire)), (wire, block.row(wire)))
-    return count.done()
-
-
-def trail_lines(w, h, table, tiles, ground, place):
-    if ground == 4:
-        return list(trail.undecodable(table, tiles[place]))
-    found = trail.Trail(ice40.Block(w, h), table, tiles)
-    return {5: found.fight, 6: found.carry_readers, 7: found.loop, 8: found.clocks}[ground](place)
-
-
-def check_trails(rounds):
-    counts = {ground: Count('what leads to a no, ground %d' % ground) for ground in (4, 5, 6, 7, 8)}
-    table, sound = ice40.read_table(data('1k.tab')), [blocks()[name] for name in CUTS]
-    for _ in range(rounds):
-        w, h, lent, bits = random.choice(sound)
-        bits = faulty(w, h, lent, bits)
-        answer = model.build(w, h, lent, bits)
-        if not isinstance(answer, tuple):
-            continue
-        ground, place = answer
-        lines = trail_lines(w, h, table, tile_numbers(bits), ground, place)
-        if ground == 4:
-            counts[ground].same(len(lines), fault_count(lent, bits[108 * place:108 * place + 108]))
-        else:
-            block = model.Block(w, h, lent, model.read(w, h, lent, bits))
-            counts[ground].same(is_trail(block, place, ground, lines), True, (answer, lines))
-    return sum(count.done() for count in counts.values())
 
 
 # ---- errors
 
-def damaged_designs(folder):
+class Folder:
+    """Files with contents of our own."""
+
+    def __init__(self, path):
+        self.path, self.files = path, 0
+
+    def write(self, text):
+        self.files += 1
+        path = os.path.join(self.path, 'file%d' % self.files)
+        with open(path, 'w', encoding='latin-1', newline='') as file:
+            file.write(text)
+        return path
+
+
+def damaged_designs(designs):
     """Copies of a design with one fault each in tile (5,6), and what asc_to_frames says of it."""
     text = contents(data('counter8.asc'))
     start = text.index('.logic_tile 5 6')
     row = start + len('.logic_tile 5 6\n')
     faults = [(text[:row] + text[row + 1:], 'tile (5,6), row 0: not 54 digits'), (text[:row] + '2' + text[row + 1:], 'tile (5,6), row 0'),
-              (text[:row] + text[row + 55:], 'tile (5,6) has 15 rows'), (text[:start] + '.logic_tile 5\n' + text[start:], 'not two coordinates'),
-              (text[:start] + '.logic_tile 5 6\n' + text[start:], 'tile (5,6) is there twice'), ('', 'not an .asc file')]
-    for n, (damaged, words) in enumerate(faults):
-        path = os.path.join(folder, 'damaged%d.asc' % n)
-        with open(path, 'w') as file:
-            file.write(damaged)
-        yield ('asc_to_frames', [path, 5, 6, 1, 1], 1, words)
+              (text[:row] + text[row + 55:], 'tile (5,6) has 15 rows'), (text[:row] + text[row + 55 * 15:], 'tile (5,6) has 1 row,'),
+              (text[:start] + '.logic_tile 5\n' + text[start:], 'not two coordinates'),
+              (text[:start] + '.logic_tile 5 6\n' + text[start:], 'tile (5,6) is there twice'), ('', 'not an .asc file'), ('\0' * 99, "IceStorm's"),
+              (text.replace('.device 1k', '.comment'), '0 .device lines'), ('.device 8k\n' + text, '2 .device lines'), ('.device 1k\n', 'no tiles'),
+              ('.comment\n' + 'x' * 100000, "IceStorm's"), ('no section\n' + text, "IceStorm's"), ('\xff\xfe' + text, "IceStorm's")]
+    for damaged, words in faults:
+        yield 'asc_to_frames', [designs.write(damaged), 5, 6, 1, 1], words
+
+
+def damaged_databases(designs):
+    """Small texts that are no chip database, and what chipdb_to_frames says of them."""
+    for text, words in (('', 'no section .device'), ('.device 1k 3 3 9\n', 'no section .logic_tile_bits'), ('.device 1k 3 3 9\n.logic_tile_bits 54 16\n', 'no section .net'),
+                        ('.device 1k 3 3 9\n.logic_tile_bits 54 17\n', '54 and 17'), ('.device 1k 3 3 9\n.logic_tile_bits 54 16\n.net 0\n', 'on all sides'),
+                        ('.device 1k 3 3 9\n.logic_tile x\n', 'not two coordinates'), ('.device 1k 3 3 9\n.logic_tile_bits 54 16\nLC_0 C0\n', 'C0 is no bit')):
+        yield 'chipdb_to_frames', [designs.write(text)], words
 
 
 def mistakes():
-    """A tool, its arguments, its exit status and words that it writes to standard error."""
+    """A tool, its arguments, and words that it writes to standard error."""
     design, table = data('counter8.asc'), data('1k.tab')
-    for x, y, w, words in ((2, 3, 2, 'tile (3,3) is no logic tile but of kind ramb'), (2, 4, 2, 'tile (3,4) is no logic tile but of kind ramt'),
-                           (12, 1, 2, 'tile (13,1) is no logic tile but of kind io'), (0, 0, 1, 'tile (0,0) is missing'),
-                           (5, 6, 9, '9 by 1'), (5, 6, 0, '0 by 1')):
-        yield 'asc_to_frames', [design, x, y, w, 1], 1, words
-    yield 'asc_to_frames', [design, 5, 6, 1], 2, 'usage'
-    yield 'asc_to_frames', [design, 5, 6, 1, 1, '--table', design], 1, 'line 1'
-    yield 'asc_to_frames', [design + '.none', 5, 6, 1, 1], 1, 'No such file'
-    yield 'chipdb_to_frames', [design], 1, 'not a chip database'
-    yield 'chipdb_to_frames', [table], 1, 'not a chip database'
-    yield 'chipdb_to_frames', [DATA], 1, 'directory'
-    yield 'chipdb_to_frames', [], 2, 'usage'
-    for words, status, text in ((['2', '2', 'wire', '910'], 1, 'that port is on wire 444'), (['2', '2', 'wire', '2024'], 1, 'no wire'),
-                                (['2', '2', 'wire', '0162'], 1, '0x'), (['0', '2', 'wire', '0'], 1, '0 by 2'), (['2', '2'], 2, 'usage'),
-                                (['2', '2', 'port', '4', 'ltin'], 1, 'no tile'), (['2', '2', 'port', '2,0', 'ltin'], 1, 'no tile'),
-                                (['2', '2', 'port', '0', 'sp4_h_r_48'], 1, 'no port'), (['position', '864'], 1, 'no position'),
-                                (['position', 'B16[0]'], 1, 'no bit'), (['position', '1', '--table', design], 1, 'line 1')):
-        yield 'names', words, status, text
-    yield 'explain', [], 2, 'usage'
-    yield 'explain', [1, 1, os.devnull], 1, 'no line 08'
-    yield 'explain', [1, 1, table], 1, 'line 1 of the report'
-    yield 'explain', ['--input', os.devnull, os.devnull, os.devnull], 2, 'one report'
+    for x, y, w, words in ((2, 3, 2, 'tile (3,3) is a RAM tile (ramb)'), (2, 4, 2, 'tile (3,4) is a RAM tile (ramt)'),
+                           (12, 1, 2, 'tile (13,1) is an IO tile (io)'), (0, 0, 1, 'tile (0,0) is missing'), (-1, -1, 1, 'tile (-1,-1) is missing'),
+                           (5, 6, 9, '9 by 1'), (5, 6, 0, '0 by 1'), (5, 6, -1, '-1 by 1'), ('x', 6, 1, "'x' is no number"), ('1_0', 6, 1, 'no number')):
+        yield 'asc_to_frames', [design, x, y, w, 1], words
+    yield 'asc_to_frames', [design, 5, 6, 1, 1, '--table', design], 'line 1'
+    yield 'asc_to_frames', [design, 5, 6, 1, 1, '--table', '/dev/zero'], 'too long'
+    yield 'asc_to_frames', ['/dev/zero', 5, 6, 1, 1], "IceStorm's"
+    yield 'asc_to_frames', [design + '.none', 5, 6, 1, 1], 'No such file'
+    yield 'chipdb_to_frames', [design], 'not a chip database'
+    yield 'chipdb_to_frames', [table], "IceStorm's"
+    yield 'chipdb_to_frames', [DATA], 'directory'
+    yield 'chipdb_to_frames', ['/dev/zero'], "IceStorm's"
+    for words, text in ((['2', '2', 'wire', '910'], 'that port is on wire 444'), (['2', '2', 'wire', '2024'], 'no wire'), (['2', '2', 'wire', '-5'], 'no wire'),
+                        (['2', '2', 'wire', '0162'], '0x'), (['0', '2', 'wire', '0'], '0 by 2'), (['-2', '2', 'wire', '0'], '-2 by 2'),
+                        (['2', '2', 'port', '4', 'ltin'], 'no tile'), (['2', '2', 'port', '2,0', 'ltin'], 'no tile'), (['2', '2', 'port', '-1', 'ltin'], 'no tile'),
+                        (['2', '2', 'port', '0', 'sp4_h_r_48'], 'no port'), (['position', '864'], 'no position'), (['position', '-1'], 'no position'),
+                        (['position', '9' * 9999], 'no number'), (['position', 'B16[0]'], 'no bit'), (['position', '1', '--table', design], 'line 1'),
+                        (['position', '1', '--table', '/dev/zero'], 'too long')):
+        yield 'names', words, text
+    yield 'explain', [1, 1, os.devnull], 'no line 08'
+    yield 'explain', [1, 1, table], 'line 1 of the report'
+    yield 'explain', [1, 1, '/dev/zero'], 'too long'
+    yield 'explain', [-1, 1, table], 'line 1 of the report'
+    yield 'explain', [1, 1, '--corner', 'a', 'b', table], 'no number'
+
+
+USAGES = [('asc_to_frames', ['design.asc', 5, 6, 1]), ('chipdb_to_frames', []), ('names', ['2', '2']), ('explain', []),
+          ('explain', ['--input', os.devnull, os.devnull, os.devnull]), ('names', ['--nothing'])]
 
 
 def check_mistakes():
-    count = Count('mistakes: exit status, words, no output')
+    count = Count('mistakes: exit status 2, one line, no output')
     with tempfile.TemporaryDirectory() as folder:
-        for tool, arguments, status, words in list(mistakes()) + list(damaged_designs(folder)):
-            got, output, errors = run(tool, *arguments)
-            count.same((got, output, words in errors, 'Traceback' in errors), (status, '', True, False), (tool, arguments, errors))
+        designs = Folder(folder)
+        for tool, arguments, words in [*mistakes(), *damaged_designs(designs), *damaged_databases(designs)]:
+            status, output, errors = run(tool, *arguments)
+            count.same((status, output, words in errors, errors.count('\n')), (2, '', True, 1), (tool, arguments, errors))
+    for tool, arguments in USAGES:
+        status, output, errors = run(tool, *arguments)
+        count.same((status, output, errors.startswith('usage:'), 'Traceback' in errors), (2, '', True, False), (tool, arguments, errors))
     return count.done()
+
+
+def check_channels(folder):
+    """Standard output closed or full, standard input closed, a pipe in place of a file."""
+    count = Count('closed and full output, closed input, pipes')
+    design, table, block = data('counter8.asc'), data('1k.tab'), data('latch_1x1.in')
+    commands = ['names.py 1 1 wire 354', 'asc_to_frames.py %s 5 6 1 1 --table %s' % (design, table), 'explain.py --input %s' % block, 'names.py --help']
+    database = os.path.join(folder, 'chipdb-1k.txt')
+    if os.path.exists(database):
+        commands.append('chipdb_to_frames.py %s' % database)
+    for command in commands:
+        for where, words in (('>&-', 'standard output is closed'), ('>/dev/full', 'standard output: No space left on device')):
+            status, output, errors = shell('echo 08070162 | %s %s/%s %s' % (sys.executable, TOOLS, command, where))
+            count.same((status, output, errors), (2, '', '%s: %s\n' % (command.split()[0], words)), (command, where))
+        count.same(shell('echo 08070162 | %s %s/%s >/dev/full 2>&-' % (sys.executable, TOOLS, command)), (2, '', ''), command)
+    count.same(shell('%s %s/explain.py 1 1 <&-' % (sys.executable, TOOLS)), (2, '', 'explain.py: standard input: it is closed\n'))
+    count.same(shell('cat %s | %s %s/asc_to_frames.py - 5 7 1 1 --table <(cat %s)' % (design, sys.executable, TOOLS, table)),
+               (0, contents(data('counter8_1x1.in')), ''))
+    count.same(shell('echo 08070162 | %s %s/explain.py --input <(cat %s)' % (sys.executable, TOOLS, block))[0], 1)
+    if os.path.exists(database):
+        count.same(shell('cat %s | %s %s/chipdb_to_frames.py -' % (database, sys.executable, TOOLS)), (0, contents(table), ''))
+        count.same(shell('%s %s/chipdb_to_frames.py <(cat %s)' % (sys.executable, TOOLS, database)), (0, contents(table), ''))
+    return count.done()
+
+
+def shell(command):
+    """A shell's exit status, output and errors."""
+    done = subprocess.run(['bash', '-c', command], stdout=subprocess.PIPE, stderr=subprocess.PIPE, timeout=60)
+    return done.returncode, done.stdout.decode(), done.stderr.decode()
 
 
 def main():
@@ -383,9 +291,9 @@ def main():
     parser.add_argument('--chipdb', metavar='FOLDER', default=DEBIAN)
     parser.add_argument('--designs', metavar='FOLDER', action='append', default=[])
     arguments = parser.parse_args()
-    return library.run([(check_tables, arguments.chipdb), (check_blocks, [DATA] + arguments.designs), (check_wires,), (check_names,),
-                        (check_positions,), (check_explain,), (check_noes,), (check_lines,), (check_reads, 30), (check_trails, 300),
-                        (check_mistakes,)], 1)
+    with tempfile.TemporaryDirectory() as folder:
+        return library.run([(check_tables, arguments.chipdb), (check_blocks, [DATA] + arguments.designs), (check_wires,), (check_names,),
+                            (check_positions,), (check_devices, Folder(folder)), (check_mistakes,), (check_channels, arguments.chipdb)], 1)
 
 
 if __name__ == '__main__':

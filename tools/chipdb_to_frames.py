@@ -6,53 +6,60 @@
 The database is in Debian's package fpga-icestorm-chipdb, or in IceStorm's own installation.
 """
 import argparse
+import functools
 
-from ice40 import (CELL_BITS, CELLS, COLUMNS, FIELDS, NEIGHBOURS, PORT, ROWS, Group, Mistake, Table, cell_position, coordinates, position_at,
-                   print_frames, run, sections, table_frames)
+from frames import FIELDS, Group, Table, table_frames
+from ice40 import CELL_BITS, CELLS, COLUMNS, NEIGHBOURS, PORT, ROWS, cell_position, position_at
+from icestorm import coordinates, sections
+from tool import Mistake, about, run
 
 CHAIN = [PORT['carry_in'], PORT['carry_in_mux']]  # the one switch that is a field and no group
 # the switch that the database lacks: the cascade of the tile below, selected by a bit of its own
 LTIN = Group(PORT['lutff_0/in_2'], [position_at('B0[50]')], [(1, PORT['ltin'])])
 
 
-def read_tiles(path):
-    """The coordinates of all logic tiles, and the bits that are no switches, by name. Both stand before the first net."""
-    tiles, bits, device = set(), None, False
-    for head, rows in sections(path):
-        if head[0] == '.net':
-            break
-        device = device or head[0] == '.device'
-        if head[0] == '.logic_tile':
-            tiles.add(coordinates(head[1:]))
-        elif head[0] == '.logic_tile_bits':
-            if head[1:] != [str(COLUMNS), str(ROWS)]:
-                raise Mistake('logic tiles of %s bits, not of %d %d' % (' '.join(head[1:]), COLUMNS, ROWS))
-            bits = {words[0]: [position_at(name) for name in words[1:]] for words in rows}
-    if not device or bits is None:
-        raise Mistake('not a chip database: no section %s' % ('.logic_tile_bits' if device else '.device'))
-    return tiles, bits
+class Database:
+    """What a chip database says of one logic tile. It is read in one pass, so that a pipe serves too: tiles and bits stand before the nets."""
 
+    def __init__(self, path):
+        self.known, self.tiles = set(), set()  # the kinds of section that were met; the coordinates of all logic tiles
+        self.bits = {}  # by name, the positions of bits that are no switches
+        self.names = {}  # by net, the names that it has in the tile
+        self.switches = []  # the tile's sections: a destination net and its bits, then for each source a pattern and a net
+        take = {'.logic_tile': self.add_tile, '.logic_tile_bits': self.add_bits, '.net': self.add_net, '.buffer': self.add_switch,
+                '.routing': self.add_switch}
+        for head, rows in sections(path):
+            self.known.add(head[0])
+            if head[0] in take:
+                take[head[0]](head, rows)
+        for kind in ('.device', '.logic_tile_bits', '.net'):
+            if kind not in self.known:
+                raise Mistake('not a chip database: no section %s' % kind)
+        if not self.switches:
+            raise Mistake('not a chip database: tile (%s,%s) has no switches' % self.tile)
 
-def interior(tiles):
-    """A logic tile with logic on all sides. Beside IO tiles one net has two names in a tile; here each has one."""
-    for x, y in sorted(tiles):
-        if all((x + east, y + north) in tiles for east, north in NEIGHBOURS.values()):
-            return x, y
-    raise Mistake('not a chip database: no logic tile with logic tiles on all sides')
+    @functools.cached_property
+    def tile(self):
+        """A logic tile with logic on all sides. Beside IO tiles one net has two names in a tile; here each has one."""
+        for x, y in sorted(self.tiles):
+            if all((x + east, y + north) in self.tiles for east, north in NEIGHBOURS.values()):
+                return str(x), str(y)
+        raise Mistake('not a chip database: no logic tile with logic tiles on all sides')
 
+    def add_tile(self, head, _):
+        self.tiles.add(coordinates(head[1:]))
 
-def read_switches(path, tile):
-    """The names that each net has in a tile, and the sections of the tile's switches: a destination net and its bits, then for
-    each source a pattern and a net."""
-    names, switches, tile = {}, [], [str(coordinate) for coordinate in tile]
-    for head, rows in sections(path):
-        if head[0] == '.net':
-            names[head[-1]] = [words[-1] for words in rows if words[:2] == tile]
-        elif head[0] in ('.buffer', '.routing') and head[1:3] == tile:
-            switches.append((head, rows))
-    if not switches:
-        raise Mistake('not a chip database: tile (%s,%s) has no switches' % tuple(tile))
-    return names, switches
+    def add_bits(self, head, rows):
+        if head[1:] != [str(COLUMNS), str(ROWS)]:
+            raise Mistake('a logic tile has %d columns and %d rows, not %s' % (COLUMNS, ROWS, ' and '.join(head[1:])))
+        self.bits = {words[0]: [position_at(name) for name in words[1:]] for words in rows}
+
+    def add_net(self, head, rows):
+        self.names[head[-1]] = [words[-1] for words in rows if tuple(words[:2]) == self.tile]
+
+    def add_switch(self, head, rows):
+        if tuple(head[1:3]) == self.tile:
+            self.switches.append((head, rows))
 
 
 def port_of(names, net):
@@ -89,29 +96,25 @@ def check_cells(bits):
 
 
 def table_of(path, ltin):
-    tiles, bits = read_tiles(path)
-    check_cells(bits)
-    names, switches = read_switches(path, interior(tiles))
-    groups = [group_of(names, head, rows) for head, rows in switches]
+    database = Database(path)
+    check_cells(database.bits)
+    groups = [group_of(database.names, head, rows) for head, rows in database.switches]
     chain = [group.positions[0] for group in groups if is_chain(group)]
-    fields = bits.get('NegClk', []) + bits.get('CarryInSet', []) + chain
+    fields = database.bits.get('NegClk', []) + database.bits.get('CarryInSet', []) + chain
     if len(fields) != len(FIELDS):
         raise Mistake('not one position each for NegClk, CarryInSet and the switch from carry_in to carry_in_mux')
-    passive = [p for name in bits if name.startswith('ColBufCtrl.') for p in bits[name]]
+    passive = [p for name in database.bits if name.startswith('ColBufCtrl.') for p in database.bits[name]]
     return Table(fields, passive, [group for group in groups if not is_chain(group)] + [LTIN] * ltin)
 
 
 def main():
     parser = argparse.ArgumentParser(description=__doc__, formatter_class=argparse.RawDescriptionHelpFormatter)
-    parser.add_argument('database', metavar='CHIPDB', help='chipdb-1k.txt, chipdb-384.txt, chipdb-5k.txt or chipdb-8k.txt')
+    parser.add_argument('database', metavar='CHIPDB', help='chipdb-1k.txt, chipdb-384.txt, chipdb-5k.txt or chipdb-8k.txt; - for standard input')
     parser.add_argument('--ltin', action='store_true',
                         help='add the switch that the database lacks: ltin (port 505) to lutff_0/in_2, at B0[50]')
     arguments = parser.parse_args()
-    try:
-        table = table_of(arguments.database, arguments.ltin)
-    except Mistake as mistake:
-        raise Mistake('%s: %s' % (arguments.database, mistake)) from None
-    print_frames(table_frames(table))
+    with about(arguments.database):
+        return table_frames(table_of(arguments.database, arguments.ltin)), 0
 
 
 if __name__ == '__main__':

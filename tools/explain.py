@@ -2,20 +2,25 @@
 """Turns a report (frames 06, 07 and 08) into words, with IceStorm's names for its wires.
 
     explain.py W H [REPORT]                     from the block's size
-    explain.py --input block.frames [REPORT]    from the report's own input, which also shows what leads to a no
+    explain.py --input block.frames [REPORT]    from the report's own input: also shows what leads to a no and which fields a yes
+                                                has set (NegClk, CarryInSet), and refuses the report of another input
 
 REPORT is a file, or standard input where it is left out. With --corner X Y, the chip's coordinates of tile 0, names are those of the
-chip.
+chip. Exit status: 0 the report says yes, 1 it says no, 2 it could not be told.
 """
 import argparse
-from functools import cached_property
+import functools
 
-from ice40 import FLAGS, Block, Cursor, Input, Mistake, lines_of, number, run, text_of
-from trail import Trail, undecodable
+from frames import Cursor, Input, lines_of
+from ice40 import CELLS, FLAGS, PROGRAM_LIMIT, Block
+from rules import broken_rules, undecodable
+from tool import Mistake, counted, file_name, number, run, start_of, text_of
+from trail import Trail, verdict
 
-# each ground for a no in words, and what its place is (document 01, 'Grounds for a no')
+YES, NO = 0, 1  # exit status
+# each ground for a no in words, and what its place is (document 01, 'Grounds for a no', and 02); include/ice40.h has the same words
 GROUNDS = {
-    1: ('W or H is not 1 to 3 (1 to 8 for the library)', None),
+    1: ('W or H is not 1 to 8, or not 1 to 3 for the programs', None),
     2: ('a lent length differs from the exact one', None),
     3: ('the routing table breaks a rule', 'part'),
     4: ("a tile cannot be decoded: a group's bits are a pattern that the table does not list, a bit is set that nothing claims, "
@@ -28,6 +33,10 @@ GROUNDS = {
     10: ('a byte of state or lent values is above 1', 'index'),
     11: ('a line of the input is malformed, out of turn, missing or extra', 'line'),
     12: ('a row of the list breaks a rule', 'row'),
+    13: ('a line of an .asc file is malformed, out of turn, missing or given twice', 'line'),
+    14: ('the sizes of two blocks differ', None),
+    15: ('the lent list is too short', 'count'),
+    16: ('a change to a wire that is not open, or two changes to one wire', 'line'),
     20: ('a port, tile or lookup input is out of range', 'number'),
 }
 
@@ -35,9 +44,9 @@ GROUNDS = {
 class Report:
     """The frames of a report: switches (driven wire, source wire), cells (tile, cell, table, flags), ground and place."""
 
-    def __init__(self, lines):
+    def __init__(self, text):
         self.switches, self.cells, self.verdict = [], [], None
-        for at, line in enumerate(lines, 1):
+        for at, (line, _) in enumerate(lines_of(text), 1):
             try:
                 self.add(Cursor(line))
             except Mistake as mistake:
@@ -47,15 +56,36 @@ class Report:
 
     def add(self, cursor):
         kind = cursor.byte()
+        if self.verdict is not None:
+            raise Mistake('a line after the line 08, which is the last')
         if kind == 6:
-            self.switches.append((cursor.word(), cursor.word()))
+            self.add_switch((cursor.word(), cursor.word()))
         elif kind == 7:
-            self.cells.append((cursor.byte(), cursor.byte(), cursor.word(), cursor.byte()))
+            self.add_cell((cursor.byte(), cursor.byte(), cursor.word(), cursor.byte()))
         elif kind == 8:
-            self.verdict = cursor.byte(), cursor.word()
+            self.add_verdict((cursor.byte(), cursor.word()))
         else:
             raise Mistake('no frame of a report')
         cursor.end()
+
+    def add_switch(self, switch):
+        if self.cells or self.switches and switch[0] <= self.switches[-1][0]:
+            raise Mistake('out of turn: lines 06 come first, rising by the driven wire')
+        self.switches.append(switch)
+
+    def add_cell(self, cell):
+        if self.cells and cell[:2] <= self.cells[-1][:2]:
+            raise Mistake('out of turn: lines 07 rise by tile and cell')
+        if cell[1] >= CELLS or cell[3] >= 1 << len(FLAGS) or not (cell[2] or cell[3]):
+            raise Mistake('no cell in use')
+        self.cells.append(cell)
+
+    def add_verdict(self, verdict):
+        if verdict[0] and (self.switches or self.cells):
+            raise Mistake('a no has no lines before it')
+        if verdict[0] not in GROUNDS and verdict != (0, 0):
+            raise Mistake('%d is no ground for a no' % verdict[0] if verdict[0] else 'a yes has place 0')
+        self.verdict = verdict
 
 
 class Scene:
@@ -65,30 +95,55 @@ class Scene:
     def __init__(self, size, path, corner):
         self.size, self.path, self.corner = size, path, corner
 
-    @cached_property
+    @functools.cached_property
+    def text(self):
+        return start_of(self.path)
+
+    @functools.cached_property
     def input(self):
-        return Input(self.path)
+        return Input(self.text)
 
-    @cached_property
+    @functools.cached_property
     def block(self):
-        return self.input.block(self.corner) if self.path else Block(*self.size, self.corner)
+        return Block(*(self.input.size if self.path else self.size), self.corner)
 
-    @cached_property
+    @functools.cached_property
     def trail(self):
         return Trail(self.block, self.input.table, self.input.tiles)
 
     def line(self, place):
         """A line of the input as it stands, cut short, with what cannot be seen written out."""
-        lines = text_of(self.path).split('\n')  # the last one has no line end
-        if place > len(lines) or place == len(lines) and not lines[-1]:
+        lines = lines_of(self.text)
+        if place > len(lines):
             return 'missing: the input ends before it'
-        return ascii(lines[place - 1][:60]) + (', without a line end' if place == len(lines) else '')
+        line, ended = lines[place - 1]
+        return ascii(line[:60]) + ' ..' * (len(line) > 60) + ', without a line end' * (not ended)
+
+    def verdicts(self):
+        """The answers that the input can have: the programs refuse blocks that the library takes."""
+        given = self.input
+        if given.size and max(given.size) > PROGRAM_LIMIT or given.refused_size():
+            yield 1, 0
+        if given.fault:
+            yield 11, given.fault[0]
+        elif not given.refused_size():
+            yield verdict(self.block, given.table, given.tiles)
+
+    def check(self, report):
+        """Refuses the report of another input."""
+        found = list(self.verdicts())
+        if report.verdict not in found:
+            words = ' or '.join('no, ground %d, place %d' % each if each[0] else 'yes' for each in found)
+            raise Mistake("the report is not this input's: it says %s, where %s gives %s" % (
+                'no, ground %d, place %d' % report.verdict if report.verdict[0] else 'yes', file_name(self.path), words))
+        if not report.verdict[0] and (report.switches, report.cells) != (self.trail.switch_wires(), self.trail.cells()):
+            raise Mistake("the report is not this input's: the switches or cells of %s are others" % file_name(self.path))
 
 
-def cell_words(block, cell):
-    tile, i, table, flags = cell
-    named = [name for k, name in enumerate(FLAGS) if flags >> k & 1]
-    return '%s lutff_%d: table %04X, %s' % (block.tile_name(tile), i, table, ', '.join(named) or 'no flags')
+# ---- a no
+
+PLACES = {'index': 'it is at index %d of state, before and after, joined', 'line': 'it is line %d', 'row': 'it is row %d, from 0',
+          'count': 'so many are needed: %d', 'number': 'the number is %d'}
 
 
 def part_words(part):
@@ -100,47 +155,64 @@ def part_words(part):
 
 def place_words(what, place, scene):
     if what == 'part':
-        return part_words(place)
+        return 'it is ' + part_words(place)
     if what == 'tile':
         return 'the lowest such tile is tile %d, %s' % (place, scene.block.tile_name(place))
     if what == 'wire':
         return 'the lowest such wire is ' + scene.block.wire_name(place)
-    return 'it is %s %d' % (what, place)
+    return PLACES[what] % place
+
+
+def loop_words(place, scene):
+    way, cells, words = scene.trail.loop(place)
+    return ['each of these reads the next:'] + ['  ' + wire for wire in way] + ['cells on it:'] * bool(cells) + ['  ' + cell for cell in cells] + [words]
 
 
 def trail_words(ground, place, scene):
-    """What leads to a no: a head and lines, where the input shows any."""
-    if ground == 4:
-        return 'in that tile:', list(undecodable(scene.input.table, scene.input.tiles[place]))
-    if ground == 5:
-        return 'it is driven by:', scene.trail.fight(place)
-    if ground == 6:
-        return 'it is read by:', scene.trail.carry_readers(place)
+    """What leads to a no, where the input shows any of it."""
     if ground == 7:
-        return 'each of these reads the next:', scene.trail.loop(place)
-    if ground == 8:
-        return 'from switch to switch, back to the cell:', scene.trail.clocks(place)
-    return ('the line is:', [scene.line(place)]) if ground == 11 else ('', [])
+        return loop_words(place, scene)
+    head, lines = {
+        3: ('it breaks these rules:', lambda: [words for part, words in broken_rules(scene.input.table) if part == place]),
+        4: ('in that tile:', lambda: list(undecodable(scene.input.table, scene.input.tiles[place]))),
+        5: ('it is driven by:', lambda: scene.trail.fight(place)),
+        6: ('it is read by:', lambda: scene.trail.carry_readers(place)),
+        8: ('from switch to switch, back to the cell:', lambda: scene.trail.clocks(place)),
+        11: ('the line is:', lambda: [scene.line(place)]),
+    }.get(ground, ('', list))
+    return [head] * bool(head) + ['  ' + line for line in lines()]
 
 
-def show_no(ground, place, scene):
-    if ground not in GROUNDS:
-        raise Mistake('%d is no ground for a no' % ground)
+def no_words(ground, place, scene):
     words, what = GROUNDS[ground]
-    print('no, ground %d, place %d (%04X hex): %s' % (ground, place, place, words))
+    yield 'no, ground %d, place %d (%04X hex): %s' % (ground, place, place, words)
     if what:
-        print(place_words(what, place, scene))
-    head, lines = trail_words(ground, place, scene) if scene.path else ('', [])
-    if lines:
-        print('\n  '.join([head] + lines))
+        yield place_words(what, place, scene)
+    if scene.path:
+        yield from trail_words(ground, place, scene)
 
 
-def show_yes(report, block):
+# ---- a yes
+
+def cell_words(block, cell):
+    tile, i, table, flags = cell
+    named = [name for k, name in enumerate(FLAGS) if flags >> k & 1]
+    return '%s lutff_%d: table %04X, %s' % (block.tile_name(tile), i, table, ', '.join(named) or 'no flags')
+
+
+def yes_words(report, scene):
+    block = scene.block
     for driven, source in report.switches:
-        print('%s <- %s' % (block.wire_name(driven), block.wire_name(source)))
+        yield '%s <- %s' % (block.wire_name(driven), block.wire_name(source))
+    yield from scene.trail.field_words() if scene.path else ()
     for cell in report.cells:
-        print(cell_words(block, cell))
-    print('yes: %d enabled switches, %d cells in use' % (len(report.switches), len(report.cells)))
+        yield cell_words(block, cell)
+    leaving = sum(driven in block.leaving for driven, _ in report.switches)
+    if leaving:
+        yield '%s leave%s the block: switches outside that end on %s are not looked at' % (
+            counted(leaving, 'driven wire'), 's' * (leaving == 1), 'it' if leaving == 1 else 'them')
+    yield 'yes: %s, %s, %s in use' % (
+        counted(block.w * block.h, 'tile'), counted(len(report.switches), 'enabled switch', 'es'), counted(len(report.cells), 'cell'))
 
 
 def main():
@@ -148,7 +220,7 @@ def main():
                                      usage='%(prog)s [options] [W H] [REPORT]')
     parser.add_argument('words', nargs='*', metavar='W H REPORT')
     parser.add_argument('--input', metavar='FILE', help="the report's input; W and H are left out then")
-    parser.add_argument('--corner', nargs=2, type=int, default=(0, 0), metavar=('X', 'Y'), help="the chip's coordinates of tile 0")
+    parser.add_argument('--corner', nargs=2, type=number, default=(0, 0), metavar=('X', 'Y'), help="the chip's coordinates of tile 0")
     arguments = parser.parse_args()
     words, size = arguments.words, None
     if not arguments.input:
@@ -157,12 +229,13 @@ def main():
         size, words = (number(words[0]), number(words[1])), words[2:]
     if len(words) > 1:
         parser.error('one report at a time')
-    report = Report(lines_of(words[0] if words else 0))
+    report = Report(text_of(words[0] if words else '-', 'a report'))
     scene = Scene(size, arguments.input, arguments.corner)
+    if scene.path:
+        scene.check(report)
     if report.verdict[0]:
-        show_no(*report.verdict, scene)
-    else:
-        show_yes(report, scene.block)
+        return no_words(*report.verdict, scene), NO
+    return yes_words(report, scene), YES
 
 
 if __name__ == '__main__':

@@ -1,46 +1,17 @@
-"""What the tools share: a logic tile's ports and their IceStorm names, the published joins, bit positions, frames.
+"""A block of logic tiles: its ports and their IceStorm names, the published joins, bit positions.
 
 The wires are computed here from the joins' names by a plain union-find. That is apart from the proved reader on purpose: a tool
 only puts names to what the reader answers, and where the two disagree one of them is wrong.
 """
-import os
+import functools
 import re
-import signal
-import sys
-from collections import namedtuple
+
+from tool import Mistake, number
 
 ROWS, COLUMNS = 16, 54
 POSITIONS = ROWS * COLUMNS
 CELLS, CELL_BITS = 8, 20  # in a tile, in a cell
 LIBRARY_LIMIT, PROGRAM_LIMIT = 8, 3  # the largest W and H
-
-
-class Mistake(Exception):
-    """Something wrong with what the user gave; the text says what."""
-
-
-def run(main):
-    """Runs a tool. A mistake is one line on standard error and exit status 1; argparse ends bad usage with status 2."""
-    if hasattr(signal, 'SIGPIPE'):
-        signal.signal(signal.SIGPIPE, signal.SIG_DFL)  # end quietly when the output goes to `head`
-    try:
-        main()
-    except Mistake as mistake:
-        complain(mistake)
-    except OSError as error:
-        complain('%s: %s' % (error.filename, error.strerror))
-
-
-def complain(text):
-    sys.exit('%s: %s' % (os.path.basename(sys.argv[0]), text))
-
-
-def number(text):
-    """A number as users write it: decimal, or hexadecimal after 0x."""
-    try:
-        return int(text, 0)
-    except ValueError:
-        raise Mistake('%s is no number: write it in decimal, or in hexadecimal after 0x' % text) from None
 
 
 def check_size(w, h):
@@ -76,7 +47,7 @@ PORT = {name: q for q, name in enumerate(NAMES)}
 # ---- joins and wires (document 01, 'Joins')
 
 def span_joins(x, y):
-    """The span wires: on to the next tile east and south, and crossed in pairs from one side of the tile to the other."""
+    """The span wires: on to the next tile east and south, crossed in pairs from one side of the tile to the other, and seen from the west."""
     for span, count, through, shift in (('sp4', 48, 36, 12), ('sp12', 24, 22, 2)):
         for k in range(count):
             yield (x, y, '%s_h_r_%d' % (span, k)), (x + 1, y, '%s_h_l_%d' % (span, k))
@@ -84,13 +55,13 @@ def span_joins(x, y):
         for k in range(through):
             yield (x, y, '%s_h_l_%d' % (span, k)), (x, y, '%s_h_r_%d' % (span, (k ^ 1) + shift))
             yield (x, y, '%s_v_t_%d' % (span, k)), (x, y, '%s_v_b_%d' % (span, (k ^ 1) + shift))
+    for k in range(48):
+        yield (x, y, 'sp4_r_v_b_%d' % k), (x + 1, y, 'sp4_v_b_%d' % k)
 
 
 def joins(x, y):
     """Each join that starts in tile (x, y): two ends of (x, y, name). The other end may be outside the block."""
     yield from span_joins(x, y)
-    for k in range(48):
-        yield (x, y, 'sp4_r_v_b_%d' % k), (x + 1, y, 'sp4_v_b_%d' % k)
     for side, (east, north) in NEIGHBOURS.items():
         for i in range(CELLS):
             yield (x, y, 'neigh_op_%s_%d' % (side, i)), (x + east, y + north, 'lutff_%d/out' % i)
@@ -132,6 +103,16 @@ class Block:
 
     def inside(self, x, y):
         return 0 <= x < self.w and 0 <= y < self.h
+
+    @functools.cached_property
+    def leaving(self):
+        """The span wires that go on outside: those with a port that a join links to a tile outside the block."""
+        found = set()
+        for x, y in [(x, y) for y in range(-1, self.h + 1) for x in range(-1, self.w + 1)]:
+            for ends in span_joins(x, y):
+                inside = [end for end in ends if self.inside(end[0], end[1])]
+                found.update(self.wire[self.number(end)] for end in inside if len(inside) < len(ends))
+        return found
 
     def number(self, end):
         x, y, name = end
@@ -196,153 +177,3 @@ def position_at(name):
     if not match or int(match[1]) >= ROWS or int(match[2]) >= COLUMNS:
         raise Mistake('%s is no bit of a logic tile: B0[0] to B%d[%d]' % (name, ROWS - 1, COLUMNS - 1))
     return COLUMNS * int(match[1]) + int(match[2])
-
-
-# ---- the routing table and its frames (document 01, 'Frames and one whole run')
-
-FIELDS = ['NegClk', 'CarryInSet', 'the switch from carry_in to carry_in_mux']
-Group = namedtuple('Group', 'destination positions entries')  # an entry is (pattern, source)
-Table = namedtuple('Table', 'fields passive groups')
-
-
-def digits(numbers, width):
-    return ''.join('%0*X' % (width, n) for n in numbers)
-
-
-def table_frames(table):
-    """The frames 01, 02 and 03 of a routing table."""
-    yield '01' + digits(table.fields, 4)
-    yield '02' + digits([len(table.passive)], 2) + digits(table.passive, 4)
-    for group in table.groups:
-        entries = ''.join(digits([pattern], 2) + digits([source], 4) for pattern, source in group.entries)
-        yield ('03' + digits([group.destination], 4) + digits([len(group.positions)], 2) + digits(group.positions, 4)
-               + digits([len(group.entries)], 2) + entries)
-
-
-def print_frames(frames):
-    """Frames to standard output. A line ends in a line feed alone on every system: the reader refuses other ends."""
-    sys.stdout.reconfigure(newline='\n')
-    for frame in frames:
-        print(frame)
-
-
-class Cursor:
-    """Takes the numbers of a frame from the left: bytes of two digits, words of four."""
-
-    def __init__(self, frame):
-        if not re.fullmatch('([0-9A-F]{2})*', frame):
-            raise Mistake('not upper-case hexadecimal digits in pairs')
-        self.left = bytes.fromhex(frame)
-
-    def take(self, size):
-        if len(self.left) < size:
-            raise Mistake('a frame that is too short')
-        part, self.left = self.left[:size], self.left[size:]
-        return int.from_bytes(part, 'big')
-
-    def byte(self):
-        return self.take(1)
-
-    def word(self):
-        return self.take(2)
-
-    def words(self, count):
-        return [self.word() for _ in range(count)]
-
-    def end(self):
-        if self.left:
-            raise Mistake('a frame that is too long')
-
-
-def text_of(path):
-    """A file of frames (0 is standard input) as it stands: only a line feed ends a line, and a byte that is no ASCII shows as such."""
-    with open(path, encoding='ascii', errors='backslashreplace', newline='\n') as file:
-        return file.read()
-
-
-def lines_of(path):
-    """The lines of a file of frames."""
-    lines = text_of(path).split('\n')
-    return lines if lines[-1] else lines[:-1]
-
-
-def read_group(cursor):
-    destination = read_port(cursor)
-    positions = cursor.words(cursor.byte())
-    return Group(destination, positions, [(cursor.byte(), read_port(cursor)) for _ in range(cursor.byte())])
-
-
-def read_port(cursor):
-    port = cursor.word()
-    if port >= len(NAMES):
-        raise Mistake('port %d: a logic tile has 0 to %d' % (port, len(NAMES) - 1))
-    return port
-
-
-class Input:
-    """The frames of a report's input: a routing table, and then W, H and the tiles, which a table alone has not.
-
-    A tile is one number with position p at weight 2^p.
-    """
-
-    def __init__(self, path):
-        self.path, self.table, self.size, self.tiles = path, Table([], [], []), [], []
-        for at, line in enumerate(lines_of(path), 1):
-            try:
-                self.add(Cursor(line))
-            except Mistake as mistake:
-                raise Mistake('%s, line %d: %s' % (path, at, mistake)) from None
-        if len(self.table.fields) != len(FIELDS):
-            raise Mistake('%s: no routing table: it begins with one frame 01' % path)
-
-    def block(self, corner):
-        """The block whose tiles these are."""
-        if len(self.size) != 2 or len(self.tiles) != self.size[0] * self.size[1]:
-            raise Mistake('%s: not one frame 04 and a frame 05 for each tile' % self.path)
-        return Block(*self.size, corner)
-
-    def add(self, cursor):
-        kind = cursor.byte()
-        if kind == 1:
-            self.table.fields.extend(cursor.words(len(FIELDS)))
-        elif kind == 2:
-            self.table.passive.extend(cursor.words(cursor.byte()))
-        elif kind == 3:
-            self.table.groups.append(read_group(cursor))
-        elif kind == 4:
-            self.size.extend((cursor.byte(), cursor.byte()))
-        elif kind == 5:
-            self.tiles.append(sum(cursor.byte() << 8 * b for b in range(POSITIONS // 8)))
-        else:
-            raise Mistake('no frame of an input')
-        cursor.end()
-
-
-def read_table(path):
-    """The routing table of a file of frames; a whole input serves too."""
-    return Input(path).table
-
-
-# ---- IceStorm's text files: chip databases and .asc files
-
-def sections(path):
-    """The dot sections of an IceStorm text file, one at a time: the words of the dot line, and those of each line below it."""
-    head, rows = None, []
-    with open(path, encoding='ascii', errors='backslashreplace') as file:
-        for line in file:
-            words = line.split()
-            if line.startswith('.'):
-                if head:
-                    yield head, rows
-                head, rows = words, []
-            elif head and words and not line.startswith('#'):
-                rows.append(words)
-    if head:
-        yield head, rows
-
-
-def coordinates(words):
-    """The two coordinates at the start of a dot line's arguments."""
-    if len(words) < 2 or not (words[0].isdecimal() and words[1].isdecimal()):
-        raise Mistake('not two coordinates: %s' % ' '.join(words))
-    return int(words[0]), int(words[1])

@@ -9,20 +9,20 @@ Numbers are decimal, or hexadecimal after 0x: the report's wire 0162 is 0x0162.
 """
 import argparse
 
-from ice40 import (CELLS, FIELDS, FLAG_BITS, FLAGS, LUT_INIT, NAMES, PORT, POSITIONS, Block, Mistake, cell_position, number,
-                   position_at, position_name, read_table, run)
+from frames import FIELDS, port_name, read_table
+from ice40 import CELLS, FLAG_BITS, FLAGS, LUT_INIT, NAMES, PORT, POSITIONS, Block, cell_position, position_at, position_name
+from tool import Mistake, number, run
 
 
-def show_wire(block, wire):
-    for port in block.ports(wire):
-        print(block.port_name(port))
+def wire_words(block, wire):
+    return [block.port_name(port) for port in block.ports(wire)]
 
 
-def show_port(block, tile, name):
+def port_words(block, tile, name):
     if name not in PORT:
         raise Mistake('%s is no port of a logic tile' % name)
     wire = block.wire[len(NAMES) * block.tile_at(tile) + PORT[name]]
-    print('%d (0x%04X)' % (wire, wire))
+    return '%d (0x%04X)' % (wire, wire)
 
 
 def cell_claims(position):
@@ -34,38 +34,37 @@ def cell_claims(position):
 
 def table_claims(position, table):
     """What a routing table says of a position. A table that breaks the rules may claim it more than once."""
-    claims = ['the field %s' % name for name, p in zip(FIELDS, table.fields) if p == position]
+    claims = [name for name, p in zip(FIELDS, table.fields) if p == position]
     claims += ['passive position %d' % j for j, p in enumerate(table.passive) if p == position]
     for g, group in enumerate(table.groups):
-        claims += ['group %d, destination %s, weight %d' % (g, NAMES[group.destination], 1 << k)
+        claims += ['group %d, destination %s, weight %d' % (g, port_name(group.destination), 1 << k)
                    for k, p in enumerate(group.positions) if p == position]
     return claims
 
 
-def show_position(text, path):
+def position_words(text, path):
     position = position_at(text) if text.startswith('B') else number(text)
     if not 0 <= position < POSITIONS:
         raise Mistake('%d is no position: 0 to %d' % (position, POSITIONS - 1))
     claims = cell_claims(position) + (table_claims(position, read_table(path)) if path else [])
     unknown = 'claimed by nothing' if path else 'no bit of a logic cell; what else claims it, --table says'
-    print('position %d, %s: %s' % (position, position_name(position), '; '.join(claims) or unknown))
+    return 'position %d, %s: %s' % (position, position_name(position), '; '.join(claims) or unknown)
 
 
 def main():
     parser = argparse.ArgumentParser(description=__doc__, formatter_class=argparse.RawDescriptionHelpFormatter, usage='%(prog)s [options] QUESTION')
     parser.add_argument('question', nargs='+', metavar='QUESTION', help='one of the three forms above')
-    parser.add_argument('--corner', nargs=2, type=int, default=(0, 0), metavar=('X', 'Y'), help="the chip's coordinates of tile 0")
+    parser.add_argument('--corner', nargs=2, type=number, default=(0, 0), metavar=('X', 'Y'), help="the chip's coordinates of tile 0")
     parser.add_argument('--table', metavar='FILE', help='the routing table, or a whole input, for what claims a position')
     arguments = parser.parse_args()
     words = arguments.question
     if words[0] == 'position' and len(words) == 2:
-        show_position(words[1], arguments.table)
-    elif words[2:3] == ['wire'] and len(words) == 4:
-        show_wire(Block(number(words[0]), number(words[1]), arguments.corner), number(words[3]))
-    elif words[2:3] == ['port'] and len(words) == 5:
-        show_port(Block(number(words[0]), number(words[1]), arguments.corner), words[3], words[4])
-    else:
-        parser.error('the question is W H wire N, W H port TILE NAME, or position P')
+        return [position_words(words[1], arguments.table)], 0
+    if words[2:3] == ['wire'] and len(words) == 4:
+        return wire_words(Block(number(words[0]), number(words[1]), arguments.corner), number(words[3])), 0
+    if words[2:3] == ['port'] and len(words) == 5:
+        return [port_words(Block(number(words[0]), number(words[1]), arguments.corner), words[3], words[4])], 0
+    return parser.error('the question is W H wire N, W H port TILE NAME, or position P')
 
 
 if __name__ == '__main__':

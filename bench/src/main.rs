@@ -13,9 +13,11 @@ use compare::Case;
 use inputs::Block;
 use std::hint::black_box;
 use std::path::Path;
+use std::process::ExitCode;
 use std::time::Duration;
 use timing::Times;
 
+const USAGE: &str = "usage: bench DATA [proved|baseline BLOCK CALL N]";
 const CALLS: [&str; 4] = ["read", "write", "step", "build"];
 
 /// How often everything is measured, and how long each time.
@@ -165,27 +167,58 @@ fn growth(big: &Block) {
     }
 }
 
-fn profile(blocks: Vec<(Block, bool)>, side: &str, name: &str, call: &str, times: u32) {
-    let (block, _) = blocks.into_iter().find(|(block, _)| block.name == name).expect("a block of that name");
+/// One of the words that may stand in a place, or what those are.
+fn one_of(what: &str, word: &str, words: &[&str]) -> Result<(), String> {
+    if words.contains(&word) {
+        return Ok(());
+    }
+    Err(format!("{word} is no {what}: {}", words.join(", ")))
+}
+
+fn profile(blocks: Vec<(Block, bool)>, side: &str, name: &str, call: &str, times: &str) -> Result<(), String> {
+    let times: u32 = times.parse().map_err(|_| format!("{times} is no number of times"))?;
+    one_of("reader", side, &["proved", "baseline"])?;
+    one_of("block", name, &blocks.iter().map(|(block, _)| block.name.as_str()).collect::<Vec<_>>())?;
+    one_of("call", call, &CALLS)?;
+    let (block, _) = blocks.into_iter().find(|(block, _)| block.name == name).unwrap();
     let mut case = Case::new(block);
+    if call == "step" && case.rows.is_none() {
+        return Err(format!("{name} is refused by building and has no step"));
+    }
     for _ in 0..times {
         match side {
             "proved" => call_proved(&mut case, call),
             _ => call_baseline(&mut case, call),
         }
     }
+    Ok(())
 }
 
-fn main() -> Result<(), String> {
-    let words: Vec<String> = std::env::args().collect();
-    let data = Path::new(words.get(1).ok_or("usage: bench DATA")?);
-    let blocks = blocks(data);
-    if let [_, _, side, name, call, times] = &words[..] {
-        profile(blocks, side, name, call, times.parse().map_err(|_| "a number of times")?);
-        return Ok(());
+fn run(words: &[String]) -> Result<(), String> {
+    let (data, rest) = words.split_first().ok_or(USAGE)?;
+    let data = Path::new(data);
+    if !data.join("big8_8x8.in").exists() {
+        return Err(format!("{}: the blocks are not there", data.display()));
     }
+    match rest {
+        [] => (),
+        [side, name, call, times] => return profile(blocks(data), side, name, call, times),
+        _ => return Err(USAGE.to_string()),
+    }
+    let blocks = blocks(data);
     compare_all(&blocks, data)?;
     ratios(&blocks);
     growth(&inputs::load(data, "big8_8x8"));
     Ok(())
+}
+
+fn main() -> ExitCode {
+    let words: Vec<String> = std::env::args().skip(1).collect();
+    match run(&words) {
+        Ok(()) => ExitCode::SUCCESS,
+        Err(text) => {
+            eprintln!("bench: {text}");
+            ExitCode::from(2)
+        }
+    }
 }

@@ -1,25 +1,9 @@
-//! The proved library, as include/ice40.h declares it: a slice goes as a pointer and a length.
-use crate::baseline::{Answer, No, Step, PORTS, ROW, SETTINGS};
+//! The proved library, as include/ice40.rs declares it: a slice goes as a pointer and a length.
+#[path = "../../include/ice40.rs"]
+mod ice40;
 
-#[rustfmt::skip]
-extern "C" {
-    fn ice40_read(w: u32, h: u32, table: *const u16, table_length: usize, bits: *const u8, bits_length: usize,
-                  settings: *mut u16, settings_length: usize) -> u64;
-    fn ice40_write(w: u32, h: u32, table: *const u16, table_length: usize, settings: *const u16, settings_length: usize,
-                   bits: *mut u8, bits_length: usize) -> u64;
-    fn ice40_build(w: u32, h: u32, table: *const u16, table_length: usize, bits: *const u8, bits_length: usize,
-                   list: *mut u16, list_length: usize, settings: *mut u16, settings_length: usize,
-                   wires: *mut u16, wires_length: usize, sources: *mut u16, sources_length: usize,
-                   rows: *mut u16, rows_length: usize, marks: *mut u16, marks_length: usize,
-                   queue: *mut u16, queue_length: usize) -> u64;
-    fn ice40_step(w: u32, h: u32, table: *const u16, table_length: usize, settings: *const u16, settings_length: usize,
-                  list: *const u16, list_length: usize, state: *const u8, state_length: usize,
-                  before: *const u8, before_length: usize, after: *const u8, after_length: usize,
-                  values: *mut u8, values_length: usize, next: *mut u8, next_length: usize,
-                  wires: *mut u16, wires_length: usize, own: *mut u16, own_length: usize,
-                  marks: *mut u16, marks_length: usize, first: *mut u8, first_length: usize,
-                  second: *mut u8, second_length: usize) -> u64;
-}
+use crate::baseline::{Answer, No, Step, PORTS, ROW, SETTINGS};
+use ice40::{ice40_build, ice40_read, ice40_step, ice40_write};
 
 /// The work room of a block: what building needs, and what a step needs.
 pub struct Room {
@@ -51,9 +35,9 @@ impl Room {
 
 /// The ground and the place of a no, or the value of a yes.
 fn unpack(answer: u64) -> Answer {
-    match (answer >> 32) as u32 {
-        0 => Ok(answer as u32),
-        ground => Err(No { ground, place: answer as u32 }),
+    match ice40::ground(answer) {
+        0 => Ok(ice40::value(answer)),
+        ground => Err(No { ground, place: ice40::value(answer) }),
     }
 }
 

@@ -1,0 +1,121 @@
+// include/ice40.h for Rust: the functions, lengths and layouts, under the same names without the ICE40_ of the macros. What a call does,
+// which slices may overlap, threads and stack stand in the header. A slice is a pointer and a length in numbers.
+//
+//     #[path = "../include/ice40.rs"]
+//     mod ice40;
+#![allow(dead_code)]
+
+pub const VERSION: &str = "0.1.0";
+pub const STACK_BYTES: usize = 131072;
+
+/// The ground of an answer: 0 for a yes.
+pub fn ground(answer: u64) -> u32 {
+    (answer >> 32) as u32
+}
+
+/// The place of a no, or the value of a yes.
+pub fn value(answer: u64) -> u32 {
+    answer as u32
+}
+
+// Exact lengths, in numbers; a block has as many of each but the table's for every tile.
+pub const LIMIT: u32 = 8;
+pub const TABLE_LENGTH: usize = 38469;
+pub const BITS_LENGTH: usize = 108;
+pub const SETTINGS_LENGTH: usize = 595;
+pub const PORTS_LENGTH: usize = 506;
+pub const LIST_LENGTH: usize = 3542;
+pub const STATE_LENGTH: usize = 8;
+
+// A routing table: where its parts stand, and within a group from `table_group`.
+pub const TABLE_NEG_CLK: usize = 0;
+pub const TABLE_CARRY_IN_SET: usize = 1;
+pub const TABLE_CHAIN: usize = 2;
+pub const TABLE_PASSIVE_COUNT: usize = 3;
+pub const TABLE_PASSIVE: usize = 4;
+pub const TABLE_GROUP_COUNT: usize = 68;
+pub const TABLE_GROUP: usize = 69;
+pub const GROUP_LENGTH: usize = 75;
+pub const GROUP_DESTINATION: usize = 0;
+pub const GROUP_POSITION_COUNT: usize = 1;
+pub const GROUP_POSITION: usize = 2;
+pub const GROUP_ENTRY_COUNT: usize = 10;
+pub const GROUP_PATTERN: usize = 11;
+pub const GROUP_SOURCE: usize = 12;
+pub const PASSIVE_LIMIT: usize = 64;
+pub const GROUP_LIMIT: usize = 512;
+pub const POSITION_LIMIT: usize = 8;
+pub const ENTRY_LIMIT: usize = 32;
+
+/// Where group g of a table begins.
+pub fn table_group(g: usize) -> usize {
+    TABLE_GROUP + GROUP_LENGTH * g
+}
+
+// A tile's settings.
+pub const SETTINGS_NEG_CLK: usize = 0;
+pub const SETTINGS_CARRY_IN_SET: usize = 1;
+pub const SETTINGS_CHAIN: usize = 2;
+pub const SETTINGS_PASSIVE: usize = 3;
+pub const SETTINGS_GROUP: usize = 67;
+pub const SETTINGS_CELL_TABLE: usize = 579;
+pub const SETTINGS_CELL_FLAGS: usize = 580;
+pub const FLAG_CARRY: u16 = 1;
+pub const FLAG_FLIP_FLOP: u16 = 2;
+pub const FLAG_SET: u16 = 4;
+pub const FLAG_ASYNCHRONOUS: u16 = 8;
+
+// A list: rows of seven numbers.
+pub const ROW_LENGTH: usize = 7;
+pub const ROW_KIND: usize = 0;
+pub const ROW_WIRE: usize = 1;
+pub const ROW_OPERAND: usize = 2;
+pub const ROW_TABLE: usize = 6;
+pub const KIND_LENT: u16 = 1;
+pub const KIND_ZERO: u16 = 2;
+pub const KIND_ONE: u16 = 3;
+pub const KIND_FLIP_FLOP: u16 = 4;
+pub const KIND_COPY: u16 = 5;
+pub const KIND_LOOKUP: u16 = 6;
+pub const KIND_MAJORITY: u16 = 7;
+
+// The ports of a tile that a program asks for most; the header has them all.
+pub const CELLS: usize = 8;
+pub const PORT_LOCAL: u32 = 336;
+pub const PORT_IN: u32 = 372;
+pub const PORT_OUT: u32 = 404;
+pub const PORT_CLK: u32 = 476;
+pub const PORT_CEN: u32 = 477;
+pub const PORT_S_R: u32 = 478;
+pub const PORT_GLB_NETWK: u32 = 479;
+pub const PORT_CARRY_IN: u32 = 487;
+pub const PORT_CARRY_IN_MUX: u32 = 488;
+pub const PORT_COUT: u32 = 489;
+pub const PORT_LOUT: u32 = 497;
+pub const PORT_LTIN: u32 = 505;
+
+#[rustfmt::skip]
+extern "C" {
+    pub fn ice40_wire_number(w: u32, h: u32, tile: u32, port: u32) -> u64;
+    pub fn ice40_lookup(table: u16, inputs: u32) -> u64;
+    pub fn ice40_read(w: u32, h: u32, table: *const u16, table_length: usize, bits: *const u8, bits_length: usize,
+                      settings: *mut u16, settings_length: usize) -> u64;
+    pub fn ice40_write(w: u32, h: u32, table: *const u16, table_length: usize, settings: *const u16, settings_length: usize,
+                       bits: *mut u8, bits_length: usize) -> u64;
+    pub fn ice40_bit_count(w: u32, h: u32, bits: *const u8, bits_length: usize, tile: u32) -> u64;
+    pub fn ice40_build(w: u32, h: u32, table: *const u16, table_length: usize, bits: *const u8, bits_length: usize,
+                       list: *mut u16, list_length: usize, settings: *mut u16, settings_length: usize,
+                       wires: *mut u16, wires_length: usize, sources: *mut u16, sources_length: usize,
+                       rows: *mut u16, rows_length: usize, marks: *mut u16, marks_length: usize,
+                       queue: *mut u16, queue_length: usize) -> u64;
+    pub fn ice40_follow(w: u32, h: u32, table: *const u16, table_length: usize, settings: *const u16, settings_length: usize,
+                        tile: u32, port: u32, wires: *mut u16, wires_length: usize, sources: *mut u16, sources_length: usize,
+                        marks: *mut u16, marks_length: usize) -> u64;
+    pub fn ice40_step(w: u32, h: u32, table: *const u16, table_length: usize, settings: *const u16, settings_length: usize,
+                      list: *const u16, list_length: usize, state: *const u8, state_length: usize,
+                      before: *const u8, before_length: usize, after: *const u8, after_length: usize,
+                      values: *mut u8, values_length: usize, next: *mut u8, next_length: usize,
+                      wires: *mut u16, wires_length: usize, own: *mut u16, own_length: usize,
+                      marks: *mut u16, marks_length: usize, first: *mut u8, first_length: usize,
+                      second: *mut u8, second_length: usize) -> u64;
+}

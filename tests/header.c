@@ -1,0 +1,164 @@
+/* What include/ice40.h says, tried; compiled as C and as C++ by tests/header.py. The one argument is a block as tests/header.py writes it: w and
+ * h, a byte each, the table, the bits. It prints a line for each group of calls, the number of calls and of those that are wrong. */
+#include <pthread.h>
+#include <stdio.h>
+#include <stdlib.h>
+#include <string.h>
+#include "ice40.h"
+
+enum { N = ICE40_TILES_LIMIT, THREADS = 4, ROUNDS = 10 };
+
+/* Everything that the calls of a block are lent. */
+typedef struct {
+    uint16_t table[ICE40_TABLE_LENGTH], settings[ICE40_SETTINGS_LENGTH(N)], list[ICE40_LIST_LENGTH(N)];
+    uint8_t bits[ICE40_BITS_LENGTH(N)], written[ICE40_BITS_LENGTH(N)], state[ICE40_STATE_LENGTH(N)], next[ICE40_STATE_LENGTH(N)];
+    uint8_t before[ICE40_PORTS_LENGTH(N)], after[ICE40_PORTS_LENGTH(N)], values[ICE40_PORTS_LENGTH(N)];
+    uint64_t answers[6];
+    /* work room */
+    uint16_t room_settings[ICE40_SETTINGS_LENGTH(N)], rows[ICE40_LIST_LENGTH(N)], a[ICE40_PORTS_LENGTH(N)], b[ICE40_PORTS_LENGTH(N)];
+    uint16_t c[ICE40_PORTS_LENGTH(N)], d[ICE40_PORTS_LENGTH(N)];
+    uint8_t first[ICE40_PORTS_LENGTH(N)], second[ICE40_PORTS_LENGTH(N)];
+} Work;
+
+static uint32_t w, h;
+static size_t n, ports;
+static unsigned cases, wrong;
+
+static void same(int right, const char *what) {
+    cases++;
+    if (!right && wrong++ < 3) printf("  DIFFERENT %s\n", what);
+}
+
+static void done(const char *what) {
+    printf("%s\t%u\t%u\n", what, cases, wrong);
+    cases = wrong = 0;
+}
+
+static uint64_t step(Work *k, const uint8_t *before, const uint8_t *after) {
+    return ice40_step(w, h, k->table, ICE40_TABLE_LENGTH, k->settings, ICE40_SETTINGS_LENGTH(n), k->list, ICE40_LIST_LENGTH(n), k->state,
+                      ICE40_STATE_LENGTH(n), before, ports, after, ports, k->values, ports, k->next, ICE40_STATE_LENGTH(n), k->a, ports, k->b, ports,
+                      k->c, ports, k->first, ports, k->second, ports);
+}
+
+static uint64_t write_settings(Work *k, const uint16_t *settings) {
+    return ice40_write(w, h, k->table, ICE40_TABLE_LENGTH, settings, ICE40_SETTINGS_LENGTH(n), k->written, ICE40_BITS_LENGTH(n));
+}
+
+/* Every call once. */
+static void call_all(Work *k) {
+    k->answers[0] = ice40_read(w, h, k->table, ICE40_TABLE_LENGTH, k->bits, ICE40_BITS_LENGTH(n), k->settings, ICE40_SETTINGS_LENGTH(n));
+    k->answers[1] = write_settings(k, k->settings);
+    k->answers[2] = ice40_build(w, h, k->table, ICE40_TABLE_LENGTH, k->bits, ICE40_BITS_LENGTH(n), k->list, ICE40_LIST_LENGTH(n), k->room_settings,
+                                ICE40_SETTINGS_LENGTH(n), k->a, ports, k->b, ports, k->rows, ICE40_LIST_LENGTH(n), k->c, ports, k->d, ports);
+    k->answers[3] = ice40_follow(w, h, k->table, ICE40_TABLE_LENGTH, k->settings, ICE40_SETTINGS_LENGTH(n), (uint32_t)n - 1, ICE40_PORT_CLK, k->a, ports,
+                                 k->b, ports, k->c, ports);
+    k->answers[4] = step(k, k->before, k->after);
+    k->answers[5] = ice40_bit_count(w, h, k->bits, ICE40_BITS_LENGTH(n), 0) + ice40_wire_number(w, h, 0, ICE40_PORT_OUT) + ice40_lookup(0xF0F0, 4);
+}
+
+static void *call_often(void *work) {
+    for (int r = 0; r < ROUNDS; r++) call_all((Work *)work);
+    return NULL;
+}
+
+static Work *copy_of(const Work *work) {
+    Work *copy = (Work *)malloc(sizeof *copy);
+    if (!copy) exit(2);
+    memcpy(copy, work, sizeof *copy);
+    return copy;
+}
+
+static int equal(const Work *one, const Work *other) {
+    return memcmp(one, other, sizeof *one) == 0;
+}
+
+/* Several threads, each with memory of its own and no more stack than the header says. */
+static void try_threads(const Work *start, const Work *result) {
+    pthread_t threads[THREADS];
+    Work *works[THREADS];
+    pthread_attr_t attributes;
+    pthread_attr_init(&attributes);
+    same(pthread_attr_setstacksize(&attributes, ICE40_STACK_BYTES) == 0, "a stack of ICE40_STACK_BYTES");
+    for (int k = 0; k < THREADS; k++) {
+        works[k] = copy_of(start);
+        if (pthread_create(&threads[k], &attributes, call_often, works[k])) exit(2);
+    }
+    for (int k = 0; k < THREADS; k++) {
+        pthread_join(threads[k], NULL);
+        same(equal(works[k], result), "calls of several threads at once");
+        free(works[k]);
+    }
+    done("threads at once, each with the stack that the header says");
+}
+
+/* Slices that are only read, one over the other. */
+static void try_overlap(const Work *result) {
+    Work *apart = copy_of(result), *shared = copy_of(result);
+    memcpy(apart->after, apart->before, sizeof apart->after);
+    uint64_t one = step(apart, apart->before, apart->after), other = step(shared, shared->before, shared->before);
+    same(one == other && !memcmp(apart->values, shared->values, sizeof apart->values) && !memcmp(apart->next, shared->next, sizeof apart->next),
+         "before and after the same");
+    for (size_t at = 0; at + ICE40_SETTINGS_LENGTH(n) <= ICE40_TABLE_LENGTH; at += 6007) {
+        memcpy(apart->settings, apart->table + at, ICE40_SETTINGS_LENGTH(n) * sizeof *apart->table);
+        one = write_settings(apart, apart->settings), other = write_settings(shared, shared->table + at);
+        same(one == other && !memcmp(apart->written, shared->written, sizeof apart->written), "settings that are a part of the table");
+    }
+    free(apart), free(shared);
+    done("slices that are only read, one over the other");
+}
+
+static uint64_t no(uint64_t ground) {
+    return ground << 32;
+}
+
+/* NULL with length 0 in each place, with a size that is right and one that is not. */
+static void try_null(const Work *result) {
+    Work *k = copy_of(result);
+    for (uint32_t x = 0; x <= 9; x += 3) {
+        uint64_t expected = x == 0 || x == 9 ? no(1) : no(2);
+        same(ice40_read(x, h, NULL, 0, NULL, 0, NULL, 0) == expected, "read");
+        same(ice40_write(x, h, NULL, 0, NULL, 0, NULL, 0) == expected, "write");
+        same(ice40_bit_count(x, h, NULL, 0, 0) == expected, "bit_count");
+        same(ice40_build(x, h, NULL, 0, NULL, 0, NULL, 0, NULL, 0, NULL, 0, NULL, 0, NULL, 0, NULL, 0, NULL, 0) == expected, "build");
+        same(ice40_follow(x, h, NULL, 0, NULL, 0, 0, 0, NULL, 0, NULL, 0, NULL, 0) == expected, "follow");
+        same(ice40_step(x, h, NULL, 0, NULL, 0, NULL, 0, NULL, 0, NULL, 0, NULL, 0, NULL, 0, NULL, 0, NULL, 0, NULL, 0, NULL, 0, NULL, 0, NULL, 0) == expected,
+             "step");
+    }
+#define LENT(slot, slice, length) (slot == at ? NULL : slice), (slot == at ? 0 : (size_t)(length))
+    for (int at = 0; at < 9; at++) {
+        same(ice40_build(w, h, LENT(0, k->table, ICE40_TABLE_LENGTH), LENT(1, k->bits, ICE40_BITS_LENGTH(n)), LENT(2, k->list, ICE40_LIST_LENGTH(n)),
+                         LENT(3, k->room_settings, ICE40_SETTINGS_LENGTH(n)), LENT(4, k->a, ports), LENT(5, k->b, ports),
+                         LENT(6, k->rows, ICE40_LIST_LENGTH(n)), LENT(7, k->c, ports), LENT(8, k->d, ports)) == no(2), "build");
+        same(at > 2 || ice40_read(w, h, LENT(0, k->table, ICE40_TABLE_LENGTH), LENT(1, k->bits, ICE40_BITS_LENGTH(n)),
+                                  LENT(2, k->settings, ICE40_SETTINGS_LENGTH(n))) == no(2), "read");
+        same(at > 2 || ice40_write(w, h, LENT(0, k->table, ICE40_TABLE_LENGTH), LENT(1, k->settings, ICE40_SETTINGS_LENGTH(n)),
+                                   LENT(2, k->written, ICE40_BITS_LENGTH(n))) == no(2), "write");
+    }
+    same(equal(k, result), "nothing touched");
+    free(k);
+    done("NULL with length 0: ground 2, or 1");
+}
+
+static void load(Work *k, const char *path) {
+    FILE *file = fopen(path, "rb");
+    if (!file) exit(2);
+    w = (uint32_t)getc(file), h = (uint32_t)getc(file);
+    n = w * h, ports = ICE40_PORTS_LENGTH(n);
+    if (fread(k->table, sizeof *k->table, ICE40_TABLE_LENGTH, file) != ICE40_TABLE_LENGTH) exit(2);
+    if (fread(k->bits, 1, ICE40_BITS_LENGTH(n), file) != ICE40_BITS_LENGTH(n)) exit(2);
+    fclose(file);
+    for (size_t p = 0; p < ports; p++) k->before[p] = p % 3 == 0, k->after[p] = p % 5 == 0;
+}
+
+int main(int argc, char **argv) {
+    Work *start = (Work *)calloc(1, sizeof *start);
+    if (argc != 2 || !start) return 2;
+    load(start, argv[1]);
+    Work *result = copy_of(start);
+    call_all(result);
+    try_threads(start, result);
+    try_overlap(result);
+    try_null(result);
+    free(start), free(result);
+    return 0;
+}

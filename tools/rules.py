@@ -1,0 +1,80 @@
+"""Grounds 3 and 4, in words: the rules of a routing table that it breaks, and the bits of a tile that it cannot decode (document 01, 'The
+routing table').
+"""
+from frames import CARRY_IN_SET, port_name
+from ice40 import CELL_BITS, CELLS, NAMES, PORT, POSITIONS, cell_position, position_name
+
+CELL_POSITIONS = {cell_position(i, k) for i in range(CELLS) for k in range(CELL_BITS)}
+
+
+# ---- ground 3: the table's rules
+
+def is_destination(port):
+    return port <= PORT['lutff_7/in_3'] or PORT['lutff_global/clk'] <= port <= PORT['lutff_global/s_r']
+
+
+def is_source(port):
+    return port <= PORT['glb2local_3'] or port < len(NAMES) and not is_destination(port)
+
+
+def position_faults(positions, claimed):
+    """What is wrong with the positions of one part, which are claimed on the way."""
+    for p in positions:
+        if p >= POSITIONS:
+            yield 'position %d: a tile has 0 to %d' % (p, POSITIONS - 1)
+        elif p in claimed:
+            yield 'position %d, %s, is claimed twice' % (p, position_name(p))
+        claimed.add(p)
+
+
+def group_faults(group, claimed):
+    """What is wrong with a group."""
+    patterns = [pattern for pattern, _ in group.entries]
+    if not is_destination(group.destination):
+        yield '%s is no destination' % port_name(group.destination)
+    for what, parts in (('positions', group.positions), ('entries', group.entries)):
+        if not parts:
+            yield 'it has no %s' % what
+    for pattern in patterns:
+        if not 0 < pattern < 1 << len(group.positions):
+            yield 'pattern %02X is zero or does not fit the positions' % pattern
+    if len(set(patterns)) < len(patterns):
+        yield 'a pattern is listed twice'
+    for _, source in group.entries:
+        if not is_source(source):
+            yield '%s is no source' % port_name(source)
+    yield from position_faults(group.positions, claimed)
+
+
+def broken_rules(table):
+    """The parts of a table that break a rule, alone or with earlier ones: part and words. Logic cell bits are claimed before all."""
+    claimed = set(CELL_POSITIONS)
+    parts = [position_faults(table.fields, claimed), position_faults(table.passive, claimed)]
+    parts += [group_faults(group, claimed) for group in table.groups]
+    return [(part, words) for part, faults in enumerate(parts) for words in faults]
+
+
+# ---- ground 4: bits that cannot be decoded
+
+def set_names(tile, positions):
+    """The names of those positions that are set in a tile."""
+    return ' '.join(position_name(p) for p in positions if tile >> p & 1)
+
+
+def pattern_of(group, tile):
+    return sum((tile >> p & 1) << k for k, p in enumerate(group.positions))
+
+
+def undecodable(table, tile):
+    """What of a tile's bits cannot be decoded, in words."""
+    claimed = CELL_POSITIONS.union(table.fields, table.passive)
+    for group in table.groups:
+        claimed.update(group.positions)
+        pattern = pattern_of(group, tile)
+        if pattern and pattern not in dict(group.entries):
+            yield 'no switch to %s has just %s set' % (port_name(group.destination), set_names(tile, group.positions))
+    for p in range(POSITIONS):
+        if tile >> p & 1 and p not in claimed:
+            yield '%s is set and nothing claims it' % position_name(p)
+    if all(tile >> p & 1 for p in table.fields[CARRY_IN_SET:]):
+        yield 'CarryInSet and the switch from carry_in are both set: ' + set_names(tile, table.fields[CARRY_IN_SET:])

@@ -1,6 +1,6 @@
 -- `cell_rows::mux_row` meets its contract: set, switched, or neither. Assumes nothing.
 use Rattle.equations.proofs.WireRowLaws.{set-row, chain-row, unset-row}
-use Rattle.equations.specs.WireRows.{plainRow}
+use Rattle.equations.specs.RowMeaning.{plainRow}
 use Rattle.netlist.specs.Kinds.{copyKind}
 use borrow.Author.Tests.{eq-eqb, ne-eqb}
 use mathlib.Core.Path.{sym, _∙_, ap}

@@ -1,6 +1,8 @@
 -- The theorems of the three demands, and what they rest on.
+pub mod Demand2Laws  -- demand2: demand 2, closed
 pub mod Demand3Laws  -- demand3: demand 3, closed
 pub mod ReadableLaws  -- readable-of-four, readable-built, readable-routed: what checks 1 to 4 show
+pub mod FightLaws  -- fight-exactly, fight-lowest, follow-fight-exactly: fights, over the answers of `build` and `follow`
 pub mod AcceptedLaws  -- list-loop-exactly, only-choice, own-passes, step-means: of settings that passed their checks
 pub mod StepDone  -- step-done, step-meant: a step with an accepted block's own settings and list
 pub mod StepUnique  -- step-unique: what a step gives is determined by the equations

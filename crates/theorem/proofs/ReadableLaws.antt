@@ -1,4 +1,4 @@
--- What checks 1 to 4 show, over the answers of `read` and `build`. Main laws: `readable-of-four`, `readable-built`, `readable-routed`, `four-of-built`.
+-- What checks 1 to 4 show, over the answers of `read` and `build`. Main laws: `readable-of-four`, `readable-built`, `readable-routed`.
 -- Assumes nothing.
 use Prim.Native.Nat.{ℕ, _≤_, _<_}
 use mathlib.Core.Path.{_≡_, sym, subst, _∙_}
@@ -26,8 +26,7 @@ use Rattle.block.specs.Meaning.{Readable}
 use Rattle.block.proofs.LengthLaws.{build-long-exact}
 use Rattle.block.proofs.BuildingLaws.{bits-list, build-bits}
 use Rattle.block.proofs.RoutedLaws.{routed-fits}
-use Rattle.theorem.specs.Calls.{built, settingsRead}
-use Rattle.theorem.specs.Demand3.{PassesFour}
+use Rattle.theorem.specs.Calls.{PassesFour, built, settingsRead}
 
 module _ (B : Block) (t bits settings : List ℕ) (room : RoomLent) where
   abbrev lent : BuildLent

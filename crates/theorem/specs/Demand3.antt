@@ -3,30 +3,21 @@ use Prim.Native.Nat.{ℕ}
 use mathlib.Core.Path.{_≡_}
 use mathlib.Core.Logic.{_↔_}
 use mathlib.Core.List.{List}
-use lib.ListN.{length}
 use Rattle.refusal.specs.declared.Refusal.the-variants.{Loop}
 use Rattle.refusal.specs.declared.Answer.the-variants.{Done}
 use Rattle.ports.specs.declared.size.Block.{Block}
-use Rattle.ports.specs.Block.{sizeOf}
-use Rattle.config.specs.Entry.{readAnswer}
 use Rattle.equations.specs.Switches.{NoContention}
 use Rattle.equations.specs.Equations.{Depends, LowestLooped}
 use Rattle.equations.specs.Settling.{Inputs}
 use Rattle.block.specs.declared.Built.the-variants.{Listed, Refused}
 use Rattle.block.specs.declared.lengths.RoomLent.{RoomLent}
-use Rattle.block.specs.Lengths.{RoomLong}
 use Rattle.block.specs.Meaning.{NoDisabledCarry}
 use Rattle.stepper.specs.Settling.{settledBy}
 use Rattle.sim.specs.declared.lengths.StepRoomLent.{StepRoomLent}
 use Rattle.sim.specs.Lengths.{StepRoomLong}
-use Rattle.theorem.specs.Calls.{built, settingsRead, listBuilt, stepped, valuesStepped, stateStepped}
+use Rattle.theorem.specs.Calls.{PassesFour, built, settingsRead, listBuilt, stepped, valuesStepped, stateStepped}
 use Rattle.theorem.specs.Choice.{OnlyChoice, StepMeans, StepInputs}
 use Rattle.theorem.specs.Listing.{Listing}
-
--- checks 1 to 4: `read` says yes to these bits, and the rest of what is lent to `build` is as long as it must be
-pub record PassesFour (B : Block) (table bits settings : List ℕ) (room : RoomLent) : Type 0 where
-  pub read-done : readAnswer (sizeOf B) table bits (length settings) ≡ Done
-  pub room-long : RoomLong B room
 
 module _ (B : Block) (table bits : List ℕ) where
   abbrev st : List ℕ

@@ -122,6 +122,7 @@ class Definition:
     def __init__(self, path, module, name, kind, comment):
         self.path, self.module, self.name, self.kind, self.comment = path, module, name, kind, comment
         self.lines, self.names, self.scope, self.bound = [], set(), set(), set()
+        self.section = 0
 
     def key(self):
         return self.module + '.' + self.name
@@ -140,7 +141,7 @@ class Module:
         self.take(text.split('\n'))
 
     def take(self, lines):
-        comment, scopes, current = [], [], None
+        comment, scopes, current, section = [], [], None, 0
         for line in lines:
             bare = line.strip()
             indent = len(line) - len(line.lstrip())
@@ -161,12 +162,12 @@ class Module:
             module = re.match(r'module _ ?(.*) where$', code)
             if module:
                 scopes.append((indent, module.group(1)))
-                current, comment = None, []
+                current, comment, section = None, [], section + 1
                 continue
             new = re.match(r'(abbrev|unfoldable) (?:pub )?(\S+) :', code) or re.match(r'(?:pub )?(record|data) (\S+)', code)
             if new and (current is None or indent <= current.indent):
                 current = Definition(self.path, self.key, new.group(2), new.group(1), comment)
-                current.indent = indent
+                current.indent, current.section = indent, section
                 self.defs.append(current)
                 self.of[current.name] = current
                 for _, parameters in scopes:
@@ -418,24 +419,28 @@ def lists(sources, reached):
         defs = files[path]
         n, lines = counted(defs)
         demands = sorted(set(x for d in defs for x in of[d.key()][1]))
+        numbers = [x for x in demands if x.isdigit()]
+        others = [title(x) for x in demands if not x.isdigit() and not (numbers and x == 'contracts')]
+        users = (['demand%s %s' % ('' if len(numbers) == 1 else 's', ', '.join(numbers))] if numbers else []) + others
         rows.append('**%s**: %d definition%s, %d line%s, for %s.' % (
-            short(path), n, '' if n == 1 else 's', lines, '' if lines == 1 else 's', ', '.join(title(x) for x in demands)))
+            short(path), n, '' if n == 1 else 's', lines, '' if lines == 1 else 's', ' and '.join(users)))
         rows.append('')
-        group = None
+        group = section = None
         if defs[0].kind == 'declared':
             order = sorted(defs, key=lambda d: d.name)
         else:
             order = [d for d in sources.modules[defs[0].module].defs if d.key() in of]
         for d in order:
-            if d.comment or group is None:
-                group = ['`%s`' % d.name]
-                rows.append((group, sentence(d.comment)))
+            if d.comment or group is None or d.kind in ('record', 'data') or d.section != section:
+                group, section = ['`%s`' % d.name], d.section
+                alone = d.kind != 'declared' and d is sources.modules[d.module].defs[0]
+                rows.append((group, sentence(d.comment or ([sources.modules[d.module].head] if alone else []))))
             else:
                 group.append('`%s`' % d.name)
         rows = ['- %s%s' % (', '.join(r[0]), ': ' + r[1] if r[1] else '') if isinstance(r, tuple) else r for r in rows]
         rows.append('')
     parts['definitions'] = rows[:-1]
-    stops = sorted(set(k for _, stopped, _ in reached.values() for k in stopped), key=lambda k: rank(sources.named(k).path))
+    stops = sorted(set(k for _, stopped, _ in reached.values() for k in stopped), key=lambda k: (rank(sources.named(k).path), k))
     table = {c: (b, l) for c, b, l in COMPUTED}
     rows = ['| Computed | What is believed in its place | Laws |', '|---|---|---|']
     for k in stops:

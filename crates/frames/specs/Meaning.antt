@@ -84,6 +84,7 @@ pub data ParsedNo (s : List ℕ) : Refusal → Type 0 where
   wrong-size : SizeSays s → ParsedNo s WrongSize
   bad-line : (n : ℕ) → LineSays s n → ParsedNo s (Line n)
 
+-- what an answer to an input says
 abbrev pub ParsedSays : List ℕ → Parsed → Type 0
 ParsedSays s (Block w h) = BlockSays s w h
 ParsedSays s (Refused refusal) = ParsedNo s refusal

@@ -8,6 +8,7 @@ use Rattle.routing.specs.Table.{fieldAt, passiveCount, passiveAt, groupCount, d
 use Rattle.texts.specs.Each.{each, Each, EachFrom}
 use Rattle.frames.specs.Frames.{Entry, Group, Frame, fields, passives, group, size, tile, line, Proper}
 
+-- what the frames of an input say
 pub record Input : Type 0 where
   pub a : ℕ
   pub b : ℕ
@@ -43,10 +44,12 @@ pub record Whole (s : List ℕ) (i : Input) : Type 0 where
 -- ---- what a routing table holds, by the names that the rest of the reader uses
 
 module _ (table : List ℕ) where
+  -- entry e of group g of the table is x
   pub record EntryHolds (g e : ℕ) (x : Entry) : Type 0 where
     pub pattern : patternAt logicTile table g e ≡ x .pattern
     pub source : sourceAt logicTile table g e ≡ x .source
 
+  -- group g of the table is x
   pub record GroupHolds (g : ℕ) (x : Group) : Type 0 where
     pub destination : destinationOf logicTile table g ≡ x .destination
     pub width : widthOf logicTile table g ≡ length (x .positions)
@@ -54,6 +57,7 @@ module _ (table : List ℕ) where
     pub count : entryCount logicTile table g ≡ length (x .entries)
     pub entries : EachFrom (EntryHolds g) 0 (x .entries)
 
+  -- the table has the fields, passive list and groups of input i
   pub record Holds (i : Input) : Type 0 where
     pub negclk : fieldAt table 0 ≡ i .a
     pub carryset : fieldAt table 1 ≡ i .b

@@ -15,6 +15,7 @@ use Rattle.equations.specs.Tiles.{tableOf, flagsAt, inverted}
 use Rattle.stepper.specs.Settling.{portValue}
 
 module _ (B : Block) (st : List ℕ) where
+  -- the value of port q of tile T, and cell i of tile T
   abbrev pub valueAt : List ℕ → ℕ → ℕ → ℕ
   valueAt values T q = portValue B values (tilePort B T q)
 

@@ -1,5 +1,5 @@
--- The bits of a tile in their lent form. Only this file, `src/bits.rt` and their laws know the form, `bitsOf` (Encode.antt), which makes it, and
--- `take_byte` of `tile`, which goes through a tile byte by byte.
+-- The bits of a tile in the form in which they are lent: bytes. Beside this file, `src/bits.rt` and their laws, three others know that form:
+-- `bitsOf` (Encode.antt), which makes it, `take_byte` of `tile`, which goes through a tile byte by byte, and `frames`, which fills it from text.
 use Prim.Native.Nat.{ℕ, zero, suc, _+_, _/_, _%_, _<_, _^_}
 use mathlib.Core.Bool.{Bool}
 use mathlib.Core.List.{List}

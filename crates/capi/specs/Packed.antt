@@ -13,7 +13,7 @@ use Rattle.block.specs.Drivers.{followedNumber, followedValue, driverKind, driv
 abbrev pub packed : ℕ → ℕ → ℕ
 packed number value = number * 2 ^ 32 + value
 
--- the ground of such a number, 0 for a yes: what lent memory hangs on
+-- the ground of such a number, 0 for a yes: lent memory depends on nothing else
 abbrev pub groundIn : ℕ → ℕ
 groundIn answer = answer / 2 ^ 32
 

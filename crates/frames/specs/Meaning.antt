@@ -30,7 +30,7 @@ pub data Turn : Stage → Frame → Stage → Type 0 where
   the-size : {g w h : ℕ} → Turn (with-groups g) (size w h) (tiles-left (h * w))
   a-tile : {n : ℕ} {bytes : List ℕ} → Turn (tiles-left (suc n)) (tile bytes) (tiles-left n)
 
--- "W or H not 1 to 8 (programs: 1 to 3)", turned round; other frames have no size
+-- the opposite of "W or H not 1 to 8 (programs: 1 to 3)"; other frames have no size
 abbrev pub Sized : Frame → Type 0
 Sized (fields a b c) = Unit {0}
 Sized (passives positions) = Unit {0}

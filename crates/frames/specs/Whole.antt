@@ -23,10 +23,11 @@ pub record Input : Type 0 where
 abbrev pub framesOf : Input → List Frame
 framesOf i = fields (i .a) (i .b) (i .c) ∷ passives (i .passive) ∷ (map group (i .groups) ++ (size (i .w) (i .h) ∷ map tile (i .tiles)))
 
+-- the lines of frames, one after another
 abbrev pub text : List Frame → List ℕ
 text fs = each line fs
 
--- "W or H not 1 to 8 (programs: 1 to 3)", turned round
+-- the opposite of "W or H not 1 to 8 (programs: 1 to 3)"
 pub record Small (w h : ℕ) : Type 0 where
   pub w-some : 1 ≤ w
   pub w-few : w ≤ 3

@@ -36,5 +36,6 @@ module _ (B : Block) (st : List ℕ) where
   unfoldable pub nextCell : List ℕ → List ℕ → List ℕ → ℕ → ℕ
   nextCell b a state c = nextState (cellAt (c / 8) (c % 8)) (controlOf b a (c / 8)) (lookupAt b (c / 8) (c % 8)) (getD state c 0)
 
+  -- the state after the step
   unfoldable pub nextStates : List ℕ → List ℕ → List ℕ → List ℕ
   nextStates b a state = tabulate (nextCell b a state) 0 (8 * tiles B)

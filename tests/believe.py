@@ -404,8 +404,12 @@ def lists(sources, reached):
         for d, _ in way.values():
             files.setdefault(d.path, []).append(d)
         n, lines = counted([d for d, _ in way.values()])
-        rows = ['%d definitions, %d lines, from %s:' % (n, lines, where), '']
-        rows.append(', '.join('%s (%d)' % (short(p), len(files[p])) for p in sorted(files, key=rank)) + '.')
+        rows = ['%d definitions, %d lines, from %s. The files, each with the number of definitions:' % (n, lines, where), '']
+        crates = {}
+        for path in sorted(files, key=rank):
+            crate, name = short(path).split('/', 1)
+            crates.setdefault(crate, []).append('%s (%d)' % (re.sub(r'^specs/(.*).antt$', r'\1', name), len(files[path])))
+        rows.extend('- %s: %s' % (crate, ', '.join(names)) for crate, names in crates.items())
         parts[title(demand)] = rows
     of = {}
     for demand, (way, _, _) in reached.items():

@@ -44,7 +44,8 @@ ENTRIES = [
 # What a yes of `build` and `step` writes is demand 3's: where a demand's roots are contracts, it is not one of them.
 WRITTEN = {'equations/Settling.blockList', 'stepper/Settling.settledBy', 'stepper/Settling.portValues', 'stepper/Clocking.nextStates'}
 
-# computed, what stands in its place, the laws that say so. A name is CRATE/MODULE.NAME, a law CRATE/LAW.
+# computed, what stands in its place, the laws that say so. A name is CRATE/MODULE.NAME, with * for any
+# module of the crate, and a law CRATE/LAW.
 COMPUTED = [
     # tests of what is also said as facts
     ('ports/Block.allowed', ['ports/Block.Allowed'], ['ports/allowed-exact']),
@@ -86,7 +87,7 @@ COMPUTED = [
     ('block/Building.listAnswer', ['block/Meaning.ListSays'], ['block/list-says']),
     ('block/Building.buildAnswer', ['block/Meaning.BuildSays'], ['block/build-says']),
     ('block/Drivers.followAnswer', ['block/DriverMeaning.FollowSays'], ['block/follow-says']),
-    ('equations/Settling.blockList', ['theorem/Demand3.Listing', 'theorem/Demand3.OnlyChoice'], ['theorem/listing', 'theorem/demand3', 'equations/why']),
+    ('equations/Settling.blockList', ['theorem/*.Listing', 'theorem/*.OnlyChoice'], ['theorem/listing', 'theorem/demand3', 'equations/why']),
     # the step
     ('stepper/Settling.badRow', ['netlist/Checking.FirstBad'], ['netlist/first-bad-exact']),
     ('sim/Stepping.badByte', ['sim/Meaning.FirstAbove'], ['sim/step-says']),
@@ -297,7 +298,10 @@ class Sources:
 
     def named(self, key):
         module, name = key.rsplit('.', 1)
-        return self.modules[module].of.get(name) if module in self.modules else None
+        for other in sorted(self.modules):
+            if (other == module or module == other.split('/')[0] + '/*') and name in self.modules[other].of:
+                return self.modules[other].of[name]
+        return None
 
     def below(self, d):
         """The definitions that a definition names."""

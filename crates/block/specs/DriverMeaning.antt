@@ -51,6 +51,7 @@ module _ (B : Block) (t st : List ℕ) (tile port : ℕ) (lent : FollowLent) whe
     contention : (x : ℕ) → Followable → LowestContention B t st x → FollowNo (Contention x)
     out-of-range : (number : ℕ) → Followable → NoContention B t st → OutOfBlock B t st tile port number → FollowNo (OutOfRange number)
 
+  -- what an answer of following says
   abbrev pub FollowSays : Followed → Type 0
   FollowSays (Driven driver) = Followable × FollowedTo B t st tile port driver
   FollowSays (Refused refusal) = FollowNo refusal

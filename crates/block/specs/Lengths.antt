@@ -30,6 +30,7 @@ roomExact B lent =
     && (eqb (lent .wires) (ports B)
     && (eqb (lent .sources) (ports B) && (eqb (lent .rows) (listLength B) && (eqb (lent .marks) (ports B) && eqb (lent .queue) (ports B)))))
 
+-- these lengths are the exact ones
 pub record RoomLong (B : Block) (lent : RoomLent) : Type 0 where
   pub list-long : lent .list ≡ listLength B
   pub wires-long : lent .wires ≡ ports B
@@ -47,6 +48,7 @@ buildExact B lent =
     eqb (lent .table) tableLength
     && (eqb (lent .bits) (bitsLength (sizeOf B)) && (eqb (lent .settings) (settingsTotal (sizeOf B)) && roomExact B (lent .room)))
 
+-- these lengths are the exact ones
 pub record BuildLong (B : Block) (lent : BuildLent) : Type 0 where
   pub table-long : lent .table ≡ tableLength
   pub bits-long : lent .bits ≡ bitsLength (sizeOf B)
@@ -69,6 +71,7 @@ followExact B lent =
     && (eqb (lent .settings) (settingsTotal (sizeOf B))
     && (eqb (lent .wires) (ports B) && (eqb (lent .sources) (ports B) && eqb (lent .marks) (ports B))))
 
+-- these lengths are the exact ones
 pub record FollowLong (B : Block) (lent : FollowLent) : Type 0 where
   pub table-long : lent .table ≡ tableLength
   pub settings-long : lent .settings ≡ settingsTotal (sizeOf B)

@@ -9,13 +9,15 @@ use Rattle.block.specs.declared.Followed.the-variants.{Driven, Refused}
 use Rattle.block.specs.Building.{builtNumber, builtValue}
 use Rattle.block.specs.Drivers.{followedNumber, followedValue, driverKind, driverWire}
 
+-- number and value as one
 abbrev pub packed : ℕ → ℕ → ℕ
 packed number value = number * 2 ^ 32 + value
 
--- the ground of such a number, 0 for a yes: what lent memory hangs on
+-- the ground of such a number, 0 for a yes: lent memory depends on nothing else
 abbrev pub groundIn : ℕ → ℕ
 groundIn answer = answer / 2 ^ 32
 
+-- an answer without a value
 abbrev pub packedAnswer : Answer → ℕ
 packedAnswer answer = packed (answerNumber answer) (answerValue answer)
 

@@ -1,4 +1,4 @@
--- How a flip-flop's state moves in one step (document 01, 'The list and a step'). Assumes nothing.
+-- How a flip-flop's state moves in one step (document 01, 'The list and a step').
 --   ticked == the tile's clock edge          nextSync == a cell with a synchronous set or reset
 --   rose == from 0 to 1                      nextAsync == a cell with an asynchronous one
 --   nextState == a cell by its settings      bitOf == a flag as 0 or 1

@@ -1,5 +1,5 @@
--- The bits of a tile in their lent form. Only this file, `src/bits.rt` and their laws know the form, `bitsOf` (Encode.antt), which makes it, and
--- `take_byte` of `tile`, which goes through a tile byte by byte.
+-- The bits of a tile in the form in which they are lent: bytes. Beside this file, `src/bits.rt` and their laws, three others know that form:
+-- `bitsOf` (Encode.antt), which makes it, `take_byte` of `tile`, which goes through a tile byte by byte, and `frames`, which fills it from text.
 use Prim.Native.Nat.{ℕ, zero, suc, _+_, _/_, _%_, _<_, _^_}
 use mathlib.Core.Bool.{Bool}
 use mathlib.Core.List.{List}
@@ -17,6 +17,7 @@ unit = 8
 unfoldable pub bitIn : ℕ → List ℕ → ℕ → ℕ
 bitIn u bits p = digit (getD bits (p / u) 0) (p % u)
 
+-- the bit at position p of a tile that is lent as bytes
 abbrev pub bitAt : List ℕ → ℕ → ℕ
 bitAt bits p = bitIn unit bits p
 
@@ -47,6 +48,7 @@ tenFrom bit p = fromDigits (λ (k : ℕ). bit (p + k)) 10
 abbrev pub Bytes : List ℕ → Type 0
 Bytes bits = (i : ℕ) → getD bits i 0 < 2 ^ unit
 
+-- the bit at p is 1
 abbrev pub isSetAt : (ℕ → ℕ) → ℕ → Bool
 isSetAt bit p = eqb (bit p) 1
 

@@ -22,6 +22,7 @@ module _ (table : List ℕ) (bit : ℕ → ℕ) where
   abbrev pub Off : ℕ → Type 0
   Off g = groupPattern logicTile table bit g ≡ 0
 
+  -- group g has the pattern of its entry e
   pub record Listed (g e : ℕ) : Type 0 where
     pub entry : e < entryCount logicTile table g
     pub pattern : groupPattern logicTile table bit g ≡ patternAt logicTile table g e
@@ -54,6 +55,7 @@ module _ (table : List ℕ) (tile : TileBits) where
     stray : (p : ℕ) → p < 864 → Unclaimed table p → tile .bit p ≡ 1 → Faulty p
     carry-pair : CarryPair table (tile .bit) → Faulty (fieldAt table carryInSet)
 
+  -- no position is at fault
   abbrev pub Decodable : Type 0
   Decodable = (p : ℕ) → Faulty p → ⊥
 

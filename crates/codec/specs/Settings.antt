@@ -7,10 +7,12 @@ use lib.ListN.{getD}
 use Rattle.routing.specs.TileKind.{TileKind}
 use Rattle.ports.specs.Lengths.{maxPassives, maxGroups}
 
+-- field f
 abbrev pub fieldSetting : List ℕ → ℕ → ℕ
 fieldSetting settings f = getD settings f 0
 
 module _ (K : TileKind) where
+  -- passive bit j
   abbrev pub passiveSetting : List ℕ → ℕ → ℕ
   passiveSetting settings j = getD settings (K .fields + j) 0
 
@@ -21,6 +23,7 @@ module _ (K : TileKind) where
   abbrev pub cellsFrom : ℕ
   cellsFrom = groupsFrom + maxGroups
 
+  -- the setting of group g; table and flags of cell i
   abbrev pub groupSetting : List ℕ → ℕ → ℕ
   groupSetting settings g = getD settings (groupsFrom + g) 0
 

@@ -1,5 +1,5 @@
 -- Both round trips of a block, of every size. Main laws: `written-reads`: settings that are written are read back the same; `read-writes`: bits
--- that are read are written back the same. Assumes nothing.
+-- that are read are written back the same. `read-writes` assumes that the bits are bytes (`Bytes`), as those of a `&[u8]` are.
 use mathlib.Core.Path.{_≡_, sym, ap, _∙_}
 use mathlib.Core.Bool.{false, not}
 use mathlib.Core.List.{List}

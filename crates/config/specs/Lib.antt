@@ -1,6 +1,6 @@
 -- Reading and writing the bits of a block.
-pub mod Blocks  -- a block's bits and settings as its tiles', one after another; decoded, encoded: what a yes writes
-pub mod Entry  -- readAnswer, writeAnswer, bitCountAnswer: the grounds in their orders
-pub mod Facts  -- what each ground and a yes say, sentence by sentence
-pub mod Meaning  -- ReadSays: what each answer of reading says
-pub mod WriteMeaning  -- WriteSays: what each answer of writing says
+pub mod Blocks  -- believed: a block as its tiles, one after another; the rest is computed: decoded-at, encoded-reads, undecodable-lowest, bitless-lowest. decoded, encoded: what a yes writes
+pub mod Entry  -- believed: bitCountAnswer; readAnswer and writeAnswer are computed: read-says, write-says. The grounds in their orders
+pub mod Facts  -- believed. What each ground and a yes say, sentence by sentence
+pub mod Meaning  -- believed. ReadSays: what each answer of reading says
+pub mod WriteMeaning  -- believed. WriteSays: what each answer of writing says

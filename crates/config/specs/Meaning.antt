@@ -1,5 +1,5 @@
--- What each answer of `read` says, case by case. `proofs/MeaningLaws.antt` shows it of every answer, so that a reader has to believe this
--- definition and those of specs/Facts.antt, and not how the answers are computed.
+-- What each answer of `read` says, case by case. `proofs/MeaningLaws.antt` shows it of every answer, so a reader has to believe this
+-- definition and those of specs/Facts.antt, but not how the answers are computed.
 use Prim.Native.Nat.{ℕ}
 use mathlib.Core.Path.{_≡_}
 use mathlib.Core.List.{List}

@@ -1,2 +1,2 @@
 -- Binary digits of numbers.
-pub mod Digits  -- digit, setDigit, fromDigits; LowestDigit
+pub mod Digits  -- believed. digit, isSet, fromDigits; setDigit and LowestDigit serve the code

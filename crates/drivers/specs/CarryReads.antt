@@ -1,4 +1,4 @@
--- Ground 6, computed off the rows: a disabled cout is read exactly if some row has it as an operand (proofs/CarryReadLaws.antt).
+-- Ground 6, computed from the rows: a disabled cout is read exactly if some row has it as an operand (proofs/CarryReadLaws.antt).
 use Prim.Native.Nat.{ℕ, zero, suc, _<_}
 use mathlib.Core.Bool.{Bool, false, not, cond, _&&_}
 use mathlib.Core.List.{List}

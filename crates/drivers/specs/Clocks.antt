@@ -20,13 +20,16 @@ abbrev pub asyncFlopOn : List ℕ → ℕ → ℕ → Bool
 asyncFlopOn st T i = flopOn st T i && isSet (flagsAt st T i) 3
 
 module _ (B : Block) (t st : List ℕ) where
+  -- following the driver of wire w ends at a cell
   abbrev pub ComesFromCell : ℕ → Type 0
   ComesFromCell w = (u : ℕ) × DrivenBy B t st w (Cell u)
 
+  -- tile T has a flip-flop and its clk comes from a cell, or an asynchronous one and its s_r does
   pub data FromCell (T : ℕ) : Type 0 where
     clock : (i : ℕ) → i < 8 → flopOn st T i ≡ true → ComesFromCell (wire B t st T clk) → FromCell T
     reset : (i : ℕ) → i < 8 → asyncFlopOn st T i ≡ true → ComesFromCell (wire B t st T sR) → FromCell T
 
+  -- place "lowest tile"
   pub record LowestFromCell (T : ℕ) : Type 0 where
     pub within : T < tiles B
     pub here : FromCell T

@@ -30,6 +30,7 @@ module _ (B : Block) (t st : List ℕ) where
     lead : {w : ℕ} (s : ℕ) → Ends B t st s w → Leads w (origin B t st s)
     on : {w m : ℕ} (s : ℕ) → Leads w m → Ends B t st s m → Leads w (origin B t st s)
 
+  -- following from w comes to u: it is w itself, or switches lead there
   abbrev pub Comes : ℕ → ℕ → Type 0
   Comes w u = (w ≡ u) ⊎ Leads w u
 

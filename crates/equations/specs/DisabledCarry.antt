@@ -26,9 +26,11 @@ module _ (B : Block) (t st : List ℕ) where
     by-chain : (T : ℕ) → T < tiles B → chained st T ≡ true → CarryReader (wire B t st T carryIn)
     by-next : (T i : ℕ) → T < tiles B → suc i < 8 → carryOn st T (suc i) ≡ true → CarryReader (wire B t st T (coutPort i))
 
+  -- "a disabled cout is read"
   abbrev pub DisabledCarryRead : ℕ → Type 0
   DisabledCarryRead w = DisabledCarry w × CarryReader w
 
+  -- place "lowest such wire"
   pub record LowestDisabledCarry (w : ℕ) : Type 0 where
     pub here : DisabledCarryRead w
     pub least : (v : ℕ) → DisabledCarryRead v → w ≤ v

@@ -55,6 +55,7 @@ module _ (B : Block) (t st : List ℕ) where
     abbrev pub val : ℕ → ℕ → ℕ
     val T q = getD v (wire T q) 0
 
+    -- the lookup of cell i of tile T
     abbrev pub looked : ℕ → ℕ → ℕ
     looked T i = lookupBit (tableOf st T i) (val T (inPort i 0)) (val T (inPort i 1)) (val T (inPort i 2)) (val T (inPort i 3))
 
@@ -97,6 +98,7 @@ module _ (B : Block) (t st : List ℕ) where
     reads : {w d : ℕ} → ReadsWire w d → Depends w d
     via : {w m d : ℕ} → ReadsWire w m → Depends m d → Depends w d
 
+  -- no wire depends on itself
   abbrev pub NoLoop : Type 0
   NoLoop = (w : ℕ) → Depends w w → ⊥
 

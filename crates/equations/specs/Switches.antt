@@ -44,6 +44,7 @@ module _ (B : Block) (t st : List ℕ) where
     pub on : enabled B t st s ≡ true
     pub onto : target B t s ≡ w
 
+  -- no enabled switch ends on wire w
   abbrev pub NoSwitch : ℕ → Type 0
   NoSwitch w = (s : ℕ) → Ends s w → ⊥
 
@@ -51,6 +52,7 @@ module _ (B : Block) (t st : List ℕ) where
   abbrev pub Contention : ℕ → Type 0
   Contention w = (s : ℕ) × (r : ℕ) × Ends s w × Ends r w × (s ≢ r)
 
+  -- no wire has a fight
   abbrev pub NoContention : Type 0
   NoContention = (w : ℕ) → Contention w → ⊥
 

@@ -21,6 +21,7 @@ settingOf st T n = getD st (settingsLength * T + n) 0
 abbrev pub groupOf : List ℕ → ℕ → ℕ → ℕ
 groupOf st T g = settingOf st T (groupsFrom logicTile + g)
 
+-- the table, and the flags, of cell i of tile T
 abbrev pub tableOf : List ℕ → ℕ → ℕ → ℕ
 tableOf st T i = settingOf st T (cellsFrom logicTile + 2 * i)
 
@@ -34,6 +35,7 @@ carryOn st T i = isSet (flagsAt st T i) 0
 abbrev pub flopOn : List ℕ → ℕ → ℕ → Bool
 flopOn st T i = isSet (flagsAt st T i) 1
 
+-- NegClk of tile T is set
 abbrev pub inverted : List ℕ → ℕ → Bool
 inverted st T = eqb (settingOf st T negClk) 1
 

@@ -11,6 +11,6 @@ use Rattle.fabric.specs.Wire.{wireOf}
 unfoldable pub ownWire : Block → ℕ → Bool
 ownWire B p = eqb (wireOf B p) p
 
--- every wire has one lowest port, so they are counted by these
+-- how many wires a block has: each has one lowest port, and these are counted
 unfoldable pub wires : Block → ℕ
 wires B = countBelow (ownWire B) (ports B)

@@ -6,6 +6,7 @@ use Rattle.ports.specs.Block.{port}
 use Rattle.fabric.specs.Span.{flip}
 use Rattle.ports.specs.PortIndex.{sp4HL, sp4HR, sp4VT, sp4VB, sp4RVB, sp12HL, sp12HR, sp12VT, sp12VB, outPort, neighBnl, neighBot, neighBnr, neighLft, neighRgt, neighTnl, neighTop, neighTnr, glbNetwk, carryIn, coutPort, loutPort, ltin}
 
+-- the published joins: the two ports are joined
 pub data Join (B : Block) : ℕ → ℕ → Type 0 where
   -- "sp4_h_r_k at (x, y) with sp4_h_l_k at (x+1, y), every k"
   sp4-h-side : (x y k : ℕ) → suc x < B .w → y < B .h → k < 48 → Join B (port B x y (sp4HR k)) (port B (suc x) y (sp4HL k))

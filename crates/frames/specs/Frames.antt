@@ -19,6 +19,7 @@ pub record Group : Type 0 where
   pub positions : List ℕ
   pub entries : List Entry
 
+-- "01 fields; 02 count, passive positions; 03 [..]; 04 W, H; 05 a tile"
 pub data Frame : Type 0 where
   -- "01 fields": the positions of the three
   fields : (a b c : ℕ) → Frame
@@ -35,6 +36,7 @@ pub data Frame : Type 0 where
 abbrev pub entryDigits : Entry → List ℕ
 entryDigits e = two (e .pattern) ++ four (e .source)
 
+-- the digits of a frame, its number first
 abbrev pub digits : Frame → List ℕ
 digits (fields a b c) = two 1 ++ each four (a ∷ b ∷ c ∷ [])
 digits (passives positions) = two 2 ++ (two (length positions) ++ each four positions)
@@ -58,6 +60,7 @@ Fits4 x = x < 65536
 abbrev pub EntryFits : Entry → Type 0
 EntryFits e = Fits2 (e .pattern) × Fits4 (e .source)
 
+-- the numbers of a group fit their digits, and its counts keep to their limits
 pub record GroupFits (x : Group) : Type 0 where
   pub destination-fits : Fits4 (x .destination)
   pub positions-few : length (x .positions) ≤ 8

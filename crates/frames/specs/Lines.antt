@@ -1,5 +1,5 @@
--- The lines of an input, each by the position at which it begins. A frame's number of digits hangs on its counts alone, so that a line is
--- a frame exactly if so many digits and a line end stand there (proofs/FrameLaws.antt: exactly the lines of specs/Frames.antt).
+-- The lines of an input, each by the position at which it begins. A frame's number of digits depends only on its counts, so a line is
+-- a frame exactly if so many digits and a line end stand there. proofs/FrameLaws.antt: these are exactly the lines of specs/Frames.antt.
 use Prim.Native.Nat.{ℕ, _+_, _*_}
 use mathlib.Core.Bool.{Bool, _&&_}
 use mathlib.Core.List.{List}

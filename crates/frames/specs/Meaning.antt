@@ -30,7 +30,7 @@ pub data Turn : Stage → Frame → Stage → Type 0 where
   the-size : {g w h : ℕ} → Turn (with-groups g) (size w h) (tiles-left (h * w))
   a-tile : {n : ℕ} {bytes : List ℕ} → Turn (tiles-left (suc n)) (tile bytes) (tiles-left n)
 
--- "W or H not 1 to 8 (programs: 1 to 3)", turned round; other frames have no size
+-- the opposite of "W or H not 1 to 8 (programs: 1 to 3)"; other frames have no size
 abbrev pub Sized : Frame → Type 0
 Sized (fields a b c) = Unit {0}
 Sized (passives positions) = Unit {0}
@@ -84,6 +84,7 @@ pub data ParsedNo (s : List ℕ) : Refusal → Type 0 where
   wrong-size : SizeSays s → ParsedNo s WrongSize
   bad-line : (n : ℕ) → LineSays s n → ParsedNo s (Line n)
 
+-- what an answer to an input says
 abbrev pub ParsedSays : List ℕ → Parsed → Type 0
 ParsedSays s (Block w h) = BlockSays s w h
 ParsedSays s (Refused refusal) = ParsedNo s refusal

@@ -8,6 +8,7 @@ use Rattle.routing.specs.Table.{fieldAt, passiveCount, passiveAt, groupCount, d
 use Rattle.texts.specs.Each.{each, Each, EachFrom}
 use Rattle.frames.specs.Frames.{Entry, Group, Frame, fields, passives, group, size, tile, line, Proper}
 
+-- what the frames of an input say
 pub record Input : Type 0 where
   pub a : ℕ
   pub b : ℕ
@@ -22,10 +23,11 @@ pub record Input : Type 0 where
 abbrev pub framesOf : Input → List Frame
 framesOf i = fields (i .a) (i .b) (i .c) ∷ passives (i .passive) ∷ (map group (i .groups) ++ (size (i .w) (i .h) ∷ map tile (i .tiles)))
 
+-- the lines of frames, one after another
 abbrev pub text : List Frame → List ℕ
 text fs = each line fs
 
--- "W or H not 1 to 8 (programs: 1 to 3)", turned round
+-- the opposite of "W or H not 1 to 8 (programs: 1 to 3)"
 pub record Small (w h : ℕ) : Type 0 where
   pub w-some : 1 ≤ w
   pub w-few : w ≤ 3
@@ -43,10 +45,12 @@ pub record Whole (s : List ℕ) (i : Input) : Type 0 where
 -- ---- what a routing table holds, by the names that the rest of the reader uses
 
 module _ (table : List ℕ) where
+  -- entry e of group g of the table is x
   pub record EntryHolds (g e : ℕ) (x : Entry) : Type 0 where
     pub pattern : patternAt logicTile table g e ≡ x .pattern
     pub source : sourceAt logicTile table g e ≡ x .source
 
+  -- group g of the table is x
   pub record GroupHolds (g : ℕ) (x : Group) : Type 0 where
     pub destination : destinationOf logicTile table g ≡ x .destination
     pub width : widthOf logicTile table g ≡ length (x .positions)
@@ -54,6 +58,7 @@ module _ (table : List ℕ) where
     pub count : entryCount logicTile table g ≡ length (x .entries)
     pub entries : EachFrom (EntryHolds g) 0 (x .entries)
 
+  -- the table has the fields, passive list and groups of input i
   pub record Holds (i : Input) : Type 0 where
     pub negclk : fieldAt table 0 ≡ i .a
     pub carryset : fieldAt table 1 ≡ i .b

@@ -5,6 +5,7 @@ use mathlib.Core.List.{List, _++_}
 use Rattle.texts.specs.Hex.{two, four}
 use Rattle.texts.specs.Pieces.{lineEnd}
 
+-- the lines 06 and 07
 abbrev pub switchLine : ℕ → ℕ → List ℕ
 switchLine wire source = two 6 ++ (four wire ++ (four source ++ lineEnd))
 

@@ -13,6 +13,7 @@ use Rattle.lines.specs.Lines.{switchLine, cellLine}
 abbrev pub switchPart : List ℕ → ℕ → List ℕ
 switchPart sources w = cond (eqb (getD sources w 0) 0) [] (switchLine w (getD sources w 0 - 1))
 
+-- those of the first n ports
 abbrev pub switchLines : List ℕ → ℕ → List ℕ
 switchLines sources n = joined (switchPart sources) n
 

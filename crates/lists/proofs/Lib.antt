@@ -1,6 +1,6 @@
 -- The laws that every loop cites. A search, a count or a fill of another crate is an instance of one of these.
 pub mod CaseLaws  -- cases, lt-or-le, eq-or-ne: a choice with its fact; and-true, and-left, and-right, or-is, or-false-left
-pub mod SearchLaws  -- first-exact: what the first is; first-turn-hit, -skip, -end: a turn of a loop that searches; the same for all
+pub mod SearchLaws  -- first-at, first-none, first-true, first-before: what the first is; first-turn-hit, -skip, -end: a turn of a loop that searches; the same for all
 pub mod SomeLaws  -- some-is, some-true, some-last: one number passes
 pub mod LowestLaws  -- lowest-exact, lowest-none-exact: the first is the lowest number with a property that a test decides
 pub mod GrowingSearch  -- grow-..: one number more to look at; more-..: a test that passes one number more

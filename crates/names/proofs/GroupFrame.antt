@@ -1,5 +1,5 @@
--- local_g0_0 by names is the group of the chip database's frame, so the lines on it speak of tables and bits that there are. Main laws:
--- `frame-has-group`, `pattern-somewhere`. Assumes nothing.
+-- What the lines on local_g0_0 assume can be met: a list of numbers has the group as the chip database's frame gives it, and bits have the
+-- patterns. The list has that group alone and is no lent table: its fields are one position. Main laws: `frame-has-group`, `pattern-somewhere`.
 use Prim.Native.Nat.{ℕ}
 use mathlib.Core.Path.{_≡_, refl}
 use mathlib.Core.List.{List, [], _∷_, _++_}

@@ -17,7 +17,7 @@ use Rattle.netlist.specs.declared.row.Row.{Row}
 abbrev pub uses : Row → ℕ → Bool
 uses row j = ltb j (arityOf row) || (eqb (row .kind) flipFlopKind && eqb j 0)
 
--- the sentence of ground 12 on one row, turned round; `wires` marks the block's
+-- ground 12 has nothing against row i; `wires` marks the block's wires
 pub record RowGood (list : List ℕ) (cells : ℕ) (wires : List ℕ) (i : ℕ) : Type 0 where
   -- "a row's kind is not 1 to 7"
   pub kind-low : 1 ≤ rowAt list i .kind
@@ -36,7 +36,7 @@ pub record RowGood (list : List ℕ) (cells : ℕ) (wires : List ℕ) (i : ℕ) 
 abbrev pub wireCount : List ℕ → ℕ
 wireCount wires = countBelow (listed wires) (length wires)
 
--- row i of all may stand where it does; "a row past the number of wires, is not 0": all seven numbers are looked at
+-- row i of the list may stand where it does; "or a row past the number of wires, is not 0": none of its seven numbers may be
 pub record RowStands (list : List ℕ) (cells : ℕ) (wires : List ℕ) (i : ℕ) : Type 0 where
   pub good : i < wireCount wires → RowGood list cells wires i
   pub zero-past : wireCount wires ≤ i → rowAt list i ≡ zeroRow

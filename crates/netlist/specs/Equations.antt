@@ -10,7 +10,7 @@ use Rattle.netlist.specs.Graph.{Graph, Reads}
 abbrev pub Solves : Graph → ℕ → (List ℕ → ℕ → ℕ) → List ℕ → Type 0
 Solves g n value x = (w : ℕ) → w < n → g .wire w ≡ true → getD x w 0 ≡ value x w
 
--- what an equation gives hangs on the wires that it reads alone
+-- what an equation gives depends only on the wires that it reads
 abbrev pub Local : Graph → (List ℕ → ℕ → ℕ) → Type 0
 Local g value = (w : ℕ) (x y : List ℕ) → ((d : ℕ) → Reads g w d → getD x d 0 ≡ getD y d 0) → value x w ≡ value y w
 

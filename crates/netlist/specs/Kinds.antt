@@ -2,6 +2,7 @@
 -- 0 is no kind: an unused row has it, and the row by wire of an index that is no wire.
 use Prim.Native.Nat.{ℕ}
 
+-- the kinds by their names
 abbrev pub lentKind : ℕ
 lentKind = 1
 

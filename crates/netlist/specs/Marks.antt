@@ -10,6 +10,7 @@ use lib.ListN.{getD, set}
 abbrev pub maxWires : ℕ
 maxWires = 65534
 
+-- w has a mark
 abbrev pub listed : List ℕ → ℕ → Bool
 listed marks w = not (eqb (getD marks w 0) 0)
 

@@ -16,6 +16,7 @@ use Rattle.netlist.specs.declared.row.Row.{Row}
 abbrev pub rowLength : ℕ
 rowLength = 7
 
+-- row i of a list
 unfoldable pub rowAt : List ℕ → ℕ → Row
 rowAt list i = record {
   kind = getD list (rowLength * i) 0;

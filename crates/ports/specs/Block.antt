@@ -14,6 +14,7 @@ size W H = record { w = W; h = H }
 abbrev pub block : ℕ → ℕ → Block
 block W H = record { w = W; h = H }
 
+-- the size of a block
 abbrev pub sizeOf : Block → Size
 sizeOf B = size (B .w) (B .h)
 

@@ -6,7 +6,7 @@ use lib.Dec.{ltb}
 use Rattle.ports.specs.declared.Port.{Port}
 use Rattle.ports.specs.declared.Port.the-variants.{Sp4HL, Sp4HR, Sp4VT, Sp4VB, Sp4RVB, Sp12HL, Sp12HR, Sp12VT, Sp12VB, Local, Glb2Local, In, Out, NeighOp, Clk, Cen, SR, GlbNetwk, CarryIn, CarryInMux, Cout, Lout, Ltin}
 
--- a portRange of ports: how many, and what each is
+-- a range of ports: how many there are, and what each is
 pub record PortRange : Type 0 where
   pub count : ℕ
   pub make : ℕ → Port
@@ -33,7 +33,7 @@ portTable =
     ∷ portRange 1 (λ k. CarryIn) ∷ portRange 1 (λ k. CarryInMux) ∷ portRange 8 Cout ∷ portRange 8 Lout ∷ portRange 1 (λ k. Ltin)
     ∷ []
 
--- what stands at place q of a table of ranges. Past the last portRange there is no port, and what is said there is never asked for.
+-- what stands at place q of a table of ranges. Past the last range there is no port, and nobody asks what is said there.
 abbrev pub find : List PortRange → ℕ → Port
 find [] q = Ltin
 find (r ∷ rs) q = cond (ltb q (r .count)) (r .make q) (find rs (q - r .count))

@@ -1,3 +1,3 @@
 -- What a refusal is and what it leaves behind.
-pub mod Grounds  -- numberOf, placeOf: the paper's columns; unless: one check in a chain; answerNumber, answerValue
-pub mod Memory  -- output, workRoom: lent memory after an answer
+pub mod Grounds  -- believed. numberOf, placeOf: the paper's columns; unless: one check in a chain; answerNumber, answerValue
+pub mod Memory  -- believed. output, workRoom: lent memory after an answer

@@ -1,5 +1,5 @@
--- Lent memory after an answer (demand 1; document 01, 'Grounds for a no'). It hangs on the answer's number alone, 0 for a yes, so every kind
--- of answer shares it.
+-- Lent memory after an answer (demand 1; document 01, 'Grounds for a no'). It depends only on the answer's number, 0 for a yes, so every
+-- kind of answer shares it.
 use Prim.Native.Nat.{ℕ}
 use mathlib.Core.Bool.{cond, _||_}
 use mathlib.Core.List.{List}

@@ -1,3 +1,3 @@
 -- The report of an input, as bytes to bytes.
-pub mod Report  -- acceptedLines; reportOf: what is printed for an input
-pub mod Meaning  -- WireSays: the lines 06, switch by switch
+pub mod Report  -- believed. reportOf: what is printed for an input; acceptedLines
+pub mod Meaning  -- believed. WireSays: the lines 06, switch by switch

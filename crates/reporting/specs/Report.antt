@@ -38,6 +38,7 @@ builtLines B t st (built.Refused refusal) = answerLine (builtNumber (built.Refus
 unfoldable pub blockLines : Block → List ℕ → List ℕ → List ℕ
 blockLines B t bits = builtLines B t (decoded t (tilesOf bits) (tiles B)) (buildAnswer B t (tilesOf bits) true)
 
+-- the report of what was parsed
 abbrev pub parsedLines : List ℕ → Parsed → List ℕ
 parsedLines s (parse.Block w h) = blockLines (block w h) (contents.tableOf s) (bitsOf s (h * w))
 parsedLines s (parse.Refused refusal) = answerLine (parsedNumber (parse.Refused refusal)) (parsedPlace (parse.Refused refusal))

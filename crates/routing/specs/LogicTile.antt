@@ -15,8 +15,8 @@ position row column = 54 * row + column
 abbrev pub lcPosition : ℕ → ℕ → ℕ
 lcPosition i k = cond (ltb k 10) (position (2 * i) (36 + k)) (position (2 * i + 1) (26 + k))
 
--- The order was compared with 000, entry by entry. "LUT_INIT 0 to 15 are LC bits 4, 14, 15, 5, 6, 16, 17, 7, 3, 13, 12, 2, 1, 11, 10, 0 [..]. Bit 8 enables carry, 9 the flip-flop, 18 sets
--- rather than resets, 19 makes that asynchronous."
+-- "LUT_INIT 0 to 15 are LC bits 4, 14, 15, 5, 6, 16, 17, 7, 3, 13, 12, 2, 1, 11, 10, 0 [..]. Bit 8 enables carry, 9 the flip-flop, 18 sets rather
+-- than resets, 19 makes that asynchronous." The order was compared with 000, entry by entry.
 abbrev pub lcBits : List ℕ
 lcBits =
     4 ∷ 14 ∷ 15 ∷ 5 ∷ 6 ∷ 16 ∷ 17 ∷ 7 ∷ 3 ∷ 13 ∷ 12 ∷ 2 ∷ 1 ∷ 11 ∷ 10 ∷ 0 ∷ 8 ∷ 9 ∷ 18 ∷ 19 ∷ []

@@ -44,6 +44,7 @@ pub record Owned (positions : ℕ) (S : Slots) (m : ℕ) (own : List ℕ) : Type
 -- ---- the slots of a tile: those of the cells, of the fields, 64 of the passive list, 8 for each of 512 groups
 
 module _ (K : TileKind) where
+  -- where the slots of the fields, of the passive list, of the groups and of group g begin, and how many slots there are
   abbrev pub fieldSlots : ℕ
   fieldSlots = bitsPerCell * K .cells
 
@@ -59,6 +60,7 @@ module _ (K : TileKind) where
   abbrev pub slotCount : ℕ
   slotCount = groupSlot maxGroups
 
+  -- the position that slot s stands at: a cell's bit, a field, a passive position or a group's position
   unfoldable pub slotAt : List ℕ → ℕ → ℕ
   slotAt table s =
       cond (ltb s fieldSlots) (K .cellBit (s / bitsPerCell) (s % bitsPerCell))
@@ -66,6 +68,7 @@ module _ (K : TileKind) where
       (cond (ltb s groupSlots) (passiveAt K table (s - passiveSlots))
       (positionAt K table ((s - groupSlots) / maxPositions) ((s - groupSlots) % maxPositions))))
 
+  -- whether slot s claims it: cells and fields always do, the others as far as the table's counts go
   unfoldable pub slotUsed : List ℕ → ℕ → Bool
   slotUsed table s =
       cond (ltb s passiveSlots) true

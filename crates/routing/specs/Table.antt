@@ -9,10 +9,12 @@ use Rattle.lists.specs.Search.{first}
 use Rattle.ports.specs.Lengths.{groupLength}
 use Rattle.routing.specs.TileKind.{TileKind}
 
+-- the position of field f
 abbrev pub fieldAt : List ℕ → ℕ → ℕ
 fieldAt table f = getD table f 0
 
 module _ (K : TileKind) where
+  -- how many passive positions the table has, passive position j, and how many groups it has
   abbrev pub passiveCount : List ℕ → ℕ
   passiveCount table = getD table (K .fields) 0
 

@@ -3,6 +3,7 @@ use Prim.Native.Nat.{ℕ, _<_}
 use mathlib.Core.Path.{_≡_}
 use mathlib.Core.Bool.{Bool}
 
+-- a kind of tile
 pub record TileKind : Type 0 where
   pub positions : ℕ  -- how many configuration bits a tile has
   pub cells : ℕ  -- how many logic cells, each with 20 bits of its own

@@ -1,5 +1,5 @@
--- Which wires are due to be looked at while the order is made, as the code holds them: a set of those that were woken, and a number from which on
--- none was looked at. What the functions that make the order promise each other.
+-- Which wires are due to be looked at while the order is made, as the code holds them: a set of those that were woken, and a number; no wire
+-- from that number on was looked at. What the functions that make the order promise each other.
 use mathlib.Core.Path.{_≡_}
 use mathlib.Core.Bool.{Bool, true, false, not, _||_}
 use mathlib.Core.Logic.{_⊎_}

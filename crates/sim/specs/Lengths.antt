@@ -31,6 +31,7 @@ inputsExact B lent =
     && (eqb (lent .list) (listLength B)
     && (eqb (lent .state) (stateLength (sizeOf B)) && (eqb (lent .before) (ports B) && eqb (lent .after) (ports B)))))
 
+-- these lengths are the exact ones
 pub record InputsLong (B : Block) (lent : InputsLent) : Type 0 where
   pub table-long : lent .table ≡ tableLength
   pub settings-long : lent .settings ≡ settingsTotal (sizeOf B)
@@ -58,6 +59,7 @@ stepRoomExact B lent =
     && (eqb (lent .wires) (ports B)
     && (eqb (lent .own) (ports B) && (eqb (lent .marks) (ports B) && (eqb (lent .first) (ports B) && eqb (lent .second) (ports B))))))
 
+-- these lengths are the exact ones
 pub record StepRoomLong (B : Block) (lent : StepRoomLent) : Type 0 where
   pub values-long : lent .values ≡ ports B
   pub next-long : lent .next ≡ stateLength (sizeOf B)
@@ -74,6 +76,7 @@ stepLent inputs room = record { inputs = inputs; room = room }
 abbrev pub stepExact : Block → StepLent → Bool
 stepExact B lent = inputsExact B (lent .inputs) && stepRoomExact B (lent .room)
 
+-- these lengths are the exact ones
 pub record StepLong (B : Block) (lent : StepLent) : Type 0 where
   pub inputs-long : InputsLong B (lent .inputs)
   pub room-long : StepRoomLong B (lent .room)

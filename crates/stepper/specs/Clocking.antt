@@ -15,6 +15,7 @@ use Rattle.equations.specs.Tiles.{tableOf, flagsAt, inverted}
 use Rattle.stepper.specs.Settling.{portValue}
 
 module _ (B : Block) (st : List ℕ) where
+  -- the value of port q of tile T, and cell i of tile T
   abbrev pub valueAt : List ℕ → ℕ → ℕ → ℕ
   valueAt values T q = portValue B values (tilePort B T q)
 
@@ -35,5 +36,6 @@ module _ (B : Block) (st : List ℕ) where
   unfoldable pub nextCell : List ℕ → List ℕ → List ℕ → ℕ → ℕ
   nextCell b a state c = nextState (cellAt (c / 8) (c % 8)) (controlOf b a (c / 8)) (lookupAt b (c / 8) (c % 8)) (getD state c 0)
 
+  -- the state after the step
   unfoldable pub nextStates : List ℕ → List ℕ → List ℕ → List ℕ
   nextStates b a state = tabulate (nextCell b a state) 0 (8 * tiles B)

@@ -23,6 +23,7 @@ settledBy B list state lent = runFrom list state lent 0 (wires B) (zeros (ports 
 abbrev pub portValue : Block → List ℕ → ℕ → ℕ
 portValue B values p = getD values (wireOf B p) 0
 
+-- the value of each port, one after another
 unfoldable pub portValues : Block → List ℕ → List ℕ
 portValues B values = tabulate (portValue B values) 0 (ports B)
 

@@ -1,4 +1,4 @@
 -- Bytes of text: hexadecimal digits, what stands at a position, what is put in at one.
-pub mod Hex  -- digitOf, two, four: digits of a number; isDigit, valueOf, pairAt, quadAt: the other way
-pub mod Each  -- each, Each, EachFrom: what is made of each of a list, and what holds of each
-pub mod Pieces  -- lineEnd; Stands: a piece stands at a position; placed: a text with a piece put in
+pub mod Hex  -- believed: two, four; the other way is computed: digit-back, value-back. Digits of a number, and the number of digits
+pub mod Each  -- believed. each, Each, EachFrom: what is made of each of a list, and what holds of each
+pub mod Pieces  -- believed. lineEnd; Stands: a piece stands at a position; placed: a text with a piece put in

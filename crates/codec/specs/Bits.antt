@@ -8,6 +8,7 @@ use lib.ListN.{getD, set}
 use Rattle.lists.specs.Search.{allFrom, countBelow}
 use Rattle.digits.specs.Digits.{digit, setDigit, fromDigits}
 use Rattle.ports.specs.Lengths.{tileNumbers}
+use Rattle.routing.specs.LogicTile.{logicTile}
 
 -- how many positions stand in one lent number; `tileNumbers` of them are a tile
 abbrev pub unit : ℕ
@@ -61,4 +62,4 @@ isEmpty bits = allFrom (isZeroAt bits) 0 tileNumbers
 
 -- "how many of its 864 bits are set"
 abbrev pub bitCount : (ℕ → ℕ) → ℕ
-bitCount bit = countBelow (isSetAt bit) 864
+bitCount bit = countBelow (isSetAt bit) (logicTile .positions)

@@ -36,4 +36,4 @@ module _ (table : List ℕ) (tile : TileBits) where
 
   -- the lowest position at fault; 864 where there is none
   abbrev pub tileFault : ℕ
-  tileFault = first faultAt 0 864
+  tileFault = first faultAt 0 (logicTile .positions)

@@ -15,8 +15,8 @@ use Rattle.ports.specs.Lengths.{settingsLength}
 -- 4 flags; what is past the table's counts is 0
 unfoldable pub limitAt : List ℕ → ℕ → ℕ
 limitAt table n =
-    cond (ltb n 3) 1
-    (cond (ltb n (groupsFrom logicTile)) (cond (ltb (n - 3) (passiveCount logicTile table)) 1 0)
+    cond (ltb n (logicTile .fields)) 1
+    (cond (ltb n (groupsFrom logicTile)) (cond (ltb (n - logicTile .fields) (passiveCount logicTile table)) 1 0)
     (cond (ltb n (cellsFrom logicTile)) (cond (ltb (n - groupsFrom logicTile) (groupCount logicTile table)) (entryCount logicTile table (n - groupsFrom logicTile)) 0)
     (cond (eqb ((n - cellsFrom logicTile) % 2) 0) 65535 15)))
 

@@ -34,7 +34,7 @@ module _ (table : List ℕ) (bit : ℕ → ℕ) where
   -- the settings that the bits read to
   pub record ReadsTo (settings : List ℕ) : Type 0 where
     pub long : length settings ≡ settingsLength
-    pub field : (f : ℕ) → f < 3 → fieldSetting settings f ≡ bit (fieldAt table f)
+    pub field : (f : ℕ) → f < logicTile .fields → fieldSetting settings f ≡ bit (fieldAt table f)
     pub passive : (j : ℕ) → j < passiveCount logicTile table → passiveSetting logicTile settings j ≡ bit (passiveAt logicTile table j)
     pub group-off : (g : ℕ) → g < groupCount logicTile table → Off g → groupSetting logicTile settings g ≡ 0
     pub group-entry : (g e : ℕ) → g < groupCount logicTile table → Listed g e → groupSetting logicTile settings g ≡ suc e
@@ -52,7 +52,7 @@ module _ (table : List ℕ) (tile : TileBits) where
   -- position for the carry pair" (document 02, W5; here it is what decides the lowest tile).
   pub data Faulty : ℕ → Type 0 where
     unlisted : (g : ℕ) → g < groupCount logicTile table → (Off table (tile .bit) g → ⊥) → ((e : ℕ) → Listed table (tile .bit) g e → ⊥) → Faulty (positionAt logicTile table g 0)
-    stray : (p : ℕ) → p < 864 → Unclaimed table p → tile .bit p ≡ 1 → Faulty p
+    stray : (p : ℕ) → p < logicTile .positions → Unclaimed table p → tile .bit p ≡ 1 → Faulty p
     carry-pair : CarryPair table (tile .bit) → Faulty (fieldAt table carryInSet)
 
   -- no position is at fault

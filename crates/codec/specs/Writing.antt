@@ -18,7 +18,7 @@ pub record Written (S : Slots) (value : ℕ → ℕ) (m : ℕ) (bits : List ℕ)
   pub long : length bits ≡ tileNumbers
   pub bytes : Bytes bits
   pub held : (s : ℕ) → s < m → S .used s ≡ true → bitAt bits (S .at s) ≡ value s
-  pub clear : (p : ℕ) → p < 864 → ((s : ℕ) → s < m → S .used s ≡ true → S .at s ≢ p) → bitAt bits p ≡ 0
+  pub clear : (p : ℕ) → p < logicTile .positions → ((s : ℕ) → s < m → S .used s ≡ true → S .at s ≢ p) → bitAt bits p ≡ 0
 
 abbrev pub TileWritten : List ℕ → List ℕ → ℕ → List ℕ → Type 0
 TileWritten table settings m bits = Written (slotsOf logicTile table) (slotValue table settings) m bits

@@ -14,12 +14,11 @@ use crate::bits::write_clear_bit;
 use crate::settings::GROUPS_FROM;
 use cell::logic::Cell;
 use ports::lengths::MAX_GROUPS;
+use routing::cells::BITS_PER_CELL;
 use routing::cells::COLUMNS;
 
 // Where the cells stand in a tile's settings: table and flags of each.
 pub const CELLS_FROM: usize = GROUPS_FROM + MAX_GROUPS;
-
-const BITS_PER_CELL: usize = 20;
 
 // A cell has two rows of a tile. Its logic cell bits 0 to 9 stand side by side in the first, 10 to 19 in the second.
 const CELL_POSITIONS: usize = 2 * COLUMNS;

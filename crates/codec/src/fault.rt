@@ -13,13 +13,14 @@ ghost use Rattle.codec.specs.Fault.{isUnlisted, carryPair, faultAt};
 use crate::bits::read_bit;
 use crate::groups::GroupRead;
 use crate::groups::read_group;
+use ports::lengths::MAX_POSITIONS;
+use routing::slots::FIELD_SLOTS;
+use routing::slots::GROUP_SLOTS;
 
 // In the ownership map: the CarryInSet field, the first position of group 0. A map's number is one more than the slot's.
-const CARRY_IN_SET: usize = 162;
+const CARRY_IN_SET: usize = FIELD_SLOTS + 2;
 
-const GROUPS: usize = 228;
-
-const MAX_POSITIONS: usize = 8;
+const GROUPS: usize = GROUP_SLOTS + 1;
 
 // Whether a group's pattern is neither zero nor listed.
 pub fn is_unlisted(table: &[u16], g: usize, bits: &[u8]) -> bool

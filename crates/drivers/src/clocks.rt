@@ -14,9 +14,8 @@ use crate::follow::driver_of;
 use equations::tiles::cell_at;
 use equations::tiles::tile_wire;
 use netlist::row::wide;
+use ports::lengths::CELLS_PER_TILE;
 use ports::size::Block;
-
-const CELLS: usize = 8;
 
 // Whether a driver is no cell. It goes on only for an open wire or a constant.
 // Rules out: a ring or a carry_in_mux that passes.
@@ -35,7 +34,7 @@ fn has_flop(st: &[u16], tile: usize) -> bool
     ensures { λ r. ⌜ r ≡ anyCell (flopOn (now (st .entry)) tile) ⌝ }
 {
     let mut i = 0;
-    while i < CELLS {
+    while i < CELLS_PER_TILE {
         let cell = cell_at(st, tile, i);
         if cell.flipflop {
             return true;
@@ -51,7 +50,7 @@ fn has_async_flop(st: &[u16], tile: usize) -> bool
     ensures { λ r. ⌜ r ≡ anyCell (asyncFlopOn (now (st .entry)) tile) ⌝ }
 {
     let mut i = 0;
-    while i < CELLS {
+    while i < CELLS_PER_TILE {
         let cell = cell_at(st, tile, i);
         if cell.flipflop && cell.asynchronous {
             return true;

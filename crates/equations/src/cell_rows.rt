@@ -13,6 +13,7 @@ use crate::tiles::tile_setting;
 use crate::tiles::tile_wire;
 use netlist::row;
 use netlist::row::Row;
+use ports::lengths::CELLS_PER_TILE;
 use ports::size::Block;
 
 // Which fields of a tile's settings say where carry_in_mux comes from.
@@ -21,8 +22,6 @@ const CARRY_IN_SET: usize = 1;
 const CARRY_CHAIN: usize = 2;
 
 // Cells in a tile.
-const CELLS: usize = 8;
-
 // A row with no table and at most one operand.
 pub fn plain_row(kind: u16, wire: u16, a: u16) -> Row
     ensures { λ r. ⌜ r ≡ plainRow kind wire a ⌝ }
@@ -98,7 +97,11 @@ pub fn out_row(b: Block, st: &[u16], wires: &[u16], w: u16, tile: usize, i: u32)
 {
     let cell = cell_at(st, tile, i as usize);
     if cell.flipflop {
-        return plain_row(row::FLIP_FLOP, w, (CELLS * tile + i as usize) as u16);
+        return plain_row(
+            row::FLIP_FLOP,
+            w,
+            (CELLS_PER_TILE * tile + i as usize) as u16,
+        );
     }
     lookup_row(b, st, wires, w, tile, i)
 }

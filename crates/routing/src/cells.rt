@@ -5,8 +5,6 @@ ghost use lib.ListN.{getD};
 ghost use Rattle.routing.specs.TileKind.{bitsPerCell};
 ghost use Rattle.routing.specs.LogicTile.{lcBits, cellPosition};
 
-pub const CELLS: usize = 8;
-
 pub const BITS_PER_CELL: usize = 20;
 
 pub const COLUMNS: usize = 54;

@@ -11,14 +11,8 @@ ghost use Rattle.routing.specs.Claiming.{SlotRun, TableOwned};
 ghost use Rattle.routing.specs.TableCheck.{positionOk};
 use crate::cells::BITS_PER_CELL;
 use crate::cells::cell_position;
+use crate::slots::FIELD_SLOTS;
 use crate::table::POSITIONS;
-
-// The first slot of the fields, of the passive list and of the groups (specs/Slots.antt).
-pub const FIELD_SLOTS: usize = 160;
-
-pub const PASSIVE_SLOTS: usize = 163;
-
-pub const GROUP_SLOTS: usize = 227;
 
 // The cells' own positions claimed in an empty map; no table has a say in them.
 pub fn claim_cells(own: &mut [u16])

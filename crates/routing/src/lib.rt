@@ -7,4 +7,5 @@ mod claims;
 pub mod ends;
 mod groups;
 pub mod rules;
+pub mod slots;
 pub mod table;

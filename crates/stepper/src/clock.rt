@@ -15,11 +15,10 @@ use equations::tiles::cell_at;
 use equations::tiles::tile_setting;
 use equations::tiles::tile_wire;
 use netlist::row::wide;
+use ports::lengths::CELLS_PER_TILE;
 use ports::size::Block;
 
 // Cells in a tile, and the field that inverts its clock.
-const CELLS: usize = 8;
-
 const NEG_CLK: usize = 0;
 
 // The value of port q of a tile.
@@ -87,8 +86,8 @@ fn next_cell(
         (length (now after) ≡ ports b) × (length (now state) ≡ 8 * tiles b) ⌝ }
     ensures { λ r. ⌜ r ≡ nextCell b (now (st .entry)) (now (before .entry)) (now (after .entry)) (now (state .entry)) c ⌝ }
 {
-    let tile = c / CELLS;
-    let i = c % CELLS;
+    let tile = c / CELLS_PER_TILE;
+    let i = c % CELLS_PER_TILE;
     let cell = cell_at(st, tile, i);
     let control = control_at(b, st, wires, before, after, tile);
     let lookup = lookup_at(b, st, wires, before, tile, i);

@@ -31,10 +31,9 @@ use codec::settings::group_setting;
 use codec::settings::has_both_carries;
 use codec::settings::setting_at;
 use ports::lengths::SETTINGS_LENGTH;
+use routing::table::POSITIONS;
 
 mod reading;
-
-const POSITIONS: usize = 864;
 
 // The lowest position at fault; 864 where the tile can be decoded. `own` is the ownership map of the table.
 pub fn tile_fault(table: &[u16], own: &[u16], bits: &[u8]) -> usize

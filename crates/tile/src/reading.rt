@@ -21,15 +21,16 @@ use codec::cells::put_cells;
 use codec::settings::GROUPS_FROM;
 use codec::settings::group_setting;
 use codec::settings::has_both_carries;
+use ports::lengths::MAX_POSITIONS;
 use ports::lengths::TILE_NUMBERS;
+use routing::slots::FIELD_SLOTS;
+use routing::slots::GROUP_SLOTS;
 
 // In the ownership map, whose number is one more than the slot's: the first field, after which come the others and the passive bits, as in
 // the settings; and the first position of group 0.
-const FIELDS: usize = 161;
+const FIELDS: usize = FIELD_SLOTS + 1;
 
-const GROUPS: usize = 228;
-
-const MAX_POSITIONS: usize = 8;
+const GROUPS: usize = GROUP_SLOTS + 1;
 
 // The set bit at p; whether it is in order. A group is read at its first set bit that is met. The cells are read as a whole, elsewhere.
 fn take_bit(table: &[u16], own: &[u16], bits: &[u8], p: usize, settings: &mut [u16]) -> bool

@@ -36,7 +36,7 @@ use Rattle.theorem.specs.Demand2.{Demand2}
 use Rattle.theorem.proofs.FightLaws.{fight-exactly, fight-lowest, follow-fight-exactly}
 
 module _ (S : Size) (table bits : List ℕ) (settings : ℕ) where
-  reads-exactly : (readAnswer S table bits settings ≡ Done)
+  pub reads-exactly : (readAnswer S table bits settings ≡ Done)
       ↔ (Checked S table (length bits) settings × ((T : ℕ) → T < tileCount S → Decodable table (tilesOf bits T)))
   reads-exactly = (
     λ done.

@@ -1,4 +1,8 @@
 -- The theorems of the three demands, and what they rest on.
+pub mod Demand1Laws  -- demand1: demand 1, closed
+pub mod EntryOrder  -- the grounds of wire_number, lookup, bit_count, read and write in their orders
+pub mod BlockOrder  -- those of build, follow and step
+pub mod AboveLaws  -- no-above: bytes of 0 and 1 are not above 1
 pub mod Demand2Laws  -- demand2: demand 2, closed
 pub mod Demand3Laws  -- demand3: demand 3, closed
 pub mod ReadableLaws  -- readable-of-four, readable-built, readable-routed: what checks 1 to 4 show

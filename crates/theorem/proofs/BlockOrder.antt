@@ -1,75 +1,37 @@
--- The grounds of `build`, `follow` and `step` in their orders. Assumes nothing.
-use Prim.Native.Nat.{ℕ, _<_}
-use mathlib.Core.Path.{_≡_, refl, sym}
+-- The grounds of `build` and `follow` in their orders. Main laws: `build-order`, `follow-order`. Assumes nothing.
+use Prim.Native.Nat.{ℕ}
+use mathlib.Core.Path.{refl}
 use mathlib.Core.Logic.{inl, inr, ⊎-elim}
-use mathlib.Core.List.{List, _++_}
+use mathlib.Core.List.{List}
 use native.Mathlib.Omega.{arith}
-use Rattle.refusal.specs.Grounds.{answerNumber, answerValue}
 use Rattle.refusal.specs.declared.Refusal.{Refusal}
-use Rattle.refusal.specs.declared.Answer.{Answer}
-use Rattle.refusal.specs.declared.Answer.the-variants as answers
 use Rattle.ports.specs.declared.size.Block.{Block}
-use Rattle.ports.specs.Block.{Sized, sizeOf, tiles}
-use Rattle.ports.specs.Lengths.{portsPerTile, ports, stateLength}
 use Rattle.fabric.specs.Count.{wires}
-use Rattle.routing.specs.LogicTile.{logicTile}
-use Rattle.routing.specs.Rules.{TableRules, FirstBroken}
-use Rattle.config.specs.Blocks.{tilesOf}
-use Rattle.config.specs.Facts.{LowestUndecodable, LowestBitless}
-use Rattle.netlist.specs.Running.{Bits}
-use Rattle.netlist.specs.Checking.{FirstBad}
-use Rattle.equations.specs.Switches.{NoContention, LowestContention}
-use Rattle.equations.specs.Equations.{NoLoop, LowestLooped, wire}
-use Rattle.equations.specs.DisabledCarry.{LowestDisabledCarry}
-use Rattle.drivers.specs.declared.follow.Driver.{Driver}
-use Rattle.drivers.specs.Clocks.{LowestFromCell}
-use Rattle.drivers.specs.Following.{DrivenBy}
 use Rattle.block.specs.declared.Built.{Built}
 use Rattle.block.specs.declared.Built.the-variants.{Listed, Refused}
 use Rattle.block.specs.declared.Followed.{Followed}
 use Rattle.block.specs.declared.Followed.the-variants as followeds
 use Rattle.block.specs.declared.lengths.RoomLent.{RoomLent}
-use Rattle.block.specs.Lengths.{buildLent, BuildLong, followLent, FollowLong}
+use Rattle.block.specs.Lengths.{buildLent, followLent}
 use Rattle.block.specs.Building.{builtNumber, builtValue}
-use Rattle.block.specs.Drivers.{followedNumber, followedValue, driverWire}
-use Rattle.block.specs.Meaning.{NoDisabledCarry, NoCellClock, Readable, ListNo, contention, disabled-carry, loop, cell-clock, BuildNo, BuildSays, wrong-size, wrong-length, broken, undecodable, unlisted}
+use Rattle.block.specs.Drivers.{followedNumber, followedValue}
+use Rattle.block.specs.Meaning.{ListNo, contention, disabled-carry, loop, cell-clock, BuildNo, BuildSays, wrong-size, wrong-length, broken, undecodable, unlisted}
 use Rattle.block.specs.DriverMeaning.{FollowNo, FollowSays}
 use Rattle.block.specs.DriverMeaning as following
 use Rattle.block.proofs.MeaningLaws.{build-says}
 use Rattle.block.proofs.DriverMeaningLaws.{follow-says}
-use Rattle.stepper.specs.Settling.{wireMarks}
-use Rattle.sim.specs.declared.lengths.StepLent.{StepLent}
-use Rattle.sim.specs.declared.lengths.StepRoomLent.{StepRoomLent}
-use Rattle.sim.specs.Lengths.{inputsLent, stepLent, StepLong}
-use Rattle.sim.specs.Meaning.{FirstAbove, Stands, StepNo, StepSays}
-use Rattle.sim.specs.Meaning as stepping
-use Rattle.sim.proofs.MeaningLaws.{step-says}
-use Rattle.theorem.specs.Calls.{built, followed, stepped, settingsRead}
-use Rattle.theorem.specs.Order.{Check, Yes, at, at0}
-use Rattle.theorem.specs.Demand1.{AllDecodable, AllHaveBits}
+use Rattle.theorem.specs.Calls.{built, followed, settingsRead}
+use Rattle.theorem.specs.BlockGrounds.{ListGrounds, BuildGrounds, FollowGrounds}
 use Rattle.theorem.proofs.EntryOrder.{no-broken}
-use Rattle.theorem.proofs.AboveLaws.{no-above}
 
 module _ (B : Block) (t bits settings : List ℕ) (room : RoomLent) where
   abbrev st : List ℕ
   st = settingsRead B t bits
 
-  -- grounds 5 to 8
-  abbrev ListOrder : ℕ → ℕ → Type 0
-  ListOrder =
-      Check 5 (NoContention B t st) (LowestContention B t st)
-      (Check 6 (NoDisabledCarry B t st) (LowestDisabledCarry B t st)
-      (Check 7 (NoLoop B t st) (LowestLooped B t st) (Check 8 (NoCellClock B t st) (LowestFromCell B t st) (Yes (at (wires B))))))
-
   abbrev BuildOrder : Built → Type 0
-  BuildOrder a =
-      Check 1 (Sized B) at0
-      (Check 2 (BuildLong B (buildLent t bits settings room)) at0
-      (Check 3 (TableRules logicTile t) (FirstBroken logicTile t)
-      (Check 4 (AllDecodable t bits (tiles B)) (LowestUndecodable t (tilesOf bits) (tiles B)) ListOrder)))
-      (builtNumber a) (builtValue a)
+  BuildOrder a = BuildGrounds B t bits st (buildLent t bits settings room) (builtNumber a) (builtValue a)
 
-  list-no : (refusal : Refusal) → ListNo B t st refusal → ListOrder (builtNumber (Refused refusal)) (builtValue (Refused refusal))
+  list-no : (refusal : Refusal) → ListNo B t st refusal → ListGrounds B t st (builtNumber (Refused refusal)) (builtValue (Refused refusal))
   list-no refusal (contention w low) = inl (λ free. free w (low .here), refl, low)
   list-no refusal (disabled-carry w free low) = inr (free, inl (λ unread. unread w (low .here), refl, low))
   list-no refusal (loop w free unread low) = inr (free, inr (unread, inl (λ straight. straight w (low .here), refl, low)))
@@ -107,20 +69,8 @@ module _ (B : Block) (t bits settings : List ℕ) (room : RoomLent) where
       go (Refused refusal) s = build-no refusal s
 
 module _ (B : Block) (t st : List ℕ) (tile port : ℕ) (wires sources marks : List ℕ) where
-  abbrev PortOrder : ℕ → ℕ → Type 0
-  PortOrder =
-      Check 5 (NoContention B t st) (LowestContention B t st)
-      (Check 20 (tile < tiles B) (at tile)
-      (Check 20 (port < portsPerTile) (at port)
-      (Yes (λ value. (driver : Driver) × DrivenBy B t st (wire B t st tile port) driver × (value ≡ driverWire driver)))))
-
   abbrev FollowOrder : Followed → Type 0
-  FollowOrder a =
-      Check 1 (Sized B) at0
-      (Check 2 (FollowLong B (followLent t st wires sources marks)) at0
-      (Check 3 (TableRules logicTile t) (FirstBroken logicTile t)
-      (Check 9 (AllHaveBits t st (tiles B)) (LowestBitless t st (tiles B)) PortOrder)))
-      (followedNumber a) (followedValue a)
+  FollowOrder a = FollowGrounds B t st tile port (followLent t st wires sources marks) (followedNumber a) (followedValue a)
 
   follow-no : (refusal : Refusal) → FollowNo B t st tile port (followLent t st wires sources marks) refusal → FollowOrder (followeds.Refused refusal)
   follow-no refusal (following.wrong-size n) = inl (n, refl, refl)
@@ -178,36 +128,3 @@ module _ (B : Block) (t st : List ℕ) (tile port : ℕ) (wires sources marks : 
             ),
           )
       go (followeds.Refused refusal) s = follow-no refusal s
-
-module _ (B : Block) (t st list state before after : List ℕ) (room : StepRoomLent) where
-  abbrev lent : StepLent
-  lent = stepLent (inputsLent t st list state before after) room
-
-  abbrev StepOrder : Answer → Type 0
-  StepOrder a =
-      Check 1 (Sized B) at0
-      (Check 2 (StepLong B lent) at0
-      (Check 3 (TableRules logicTile t) (FirstBroken logicTile t)
-      (Check 9 (AllHaveBits t st (tiles B)) (LowestBitless t st (tiles B))
-      (Check 12 (Stands B t st list state before after lent) (FirstBad list (stateLength (sizeOf B)) (wireMarks B) (ports B))
-      (Check 10 (Bits state × Bits before × Bits after) (FirstAbove (state ++ before ++ after)) (Yes at0))))))
-      (answerNumber a) (answerValue a)
-
-  step-no : (refusal : Refusal) → StepNo B t st list state before after lent refusal → StepOrder (answers.Refused refusal)
-  step-no refusal (stepping.wrong-size n) = inl (n, refl, refl)
-  step-no refusal (stepping.wrong-length s n) = inr (s, inl (n, refl, refl))
-  step-no refusal (stepping.broken part s L f) = inr (s, inr (L, inl (no-broken t part f, refl, f)))
-  step-no refusal (stepping.bitless T s L rules low) = inr (s, inr (L, inr (rules, inl (λ h. low .bitless (h T (low .within)), refl, low))))
-  step-no refusal (stepping.bad-row row C l bad) =
-      inr (C .size, inr (C .lengths, inr (C .rules, inr (C .has-bits, inl (λ stands. bad .here l (stands row l), refl, bad)))))
-  step-no refusal (stepping.not-a-bit index C stands above) =
-      inr (C .size, inr (C .lengths, inr (C .rules, inr (C .has-bits, inr (stands, inl (no-above state before after index above, refl, above))))))
-
-  pub step-order : StepOrder (stepped B t st list state before after room)
-  step-order = go (stepped B t st list state before after room) (step-says B t st list state before after room _ refl)
-    where
-      go : (a : Answer) → StepSays B t st list state before after lent a → StepOrder a
-      go answers.Done s =
-          let C = s .0 in
-          inr (C .size, inr (C .lengths, inr (C .rules, inr (C .has-bits, inr (s .1, inr ((s .2, s .3, s .4), (refl, refl)))))))
-      go (answers.Refused refusal) s = step-no refusal s

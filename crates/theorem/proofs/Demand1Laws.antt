@@ -3,14 +3,15 @@ use Prim.Native.Nat.{ℕ}
 use mathlib.Core.Path.{_≡_}
 use mathlib.Core.Logic.{_⊎_, inl, inr, _≢_}
 use mathlib.Core.List.{List}
-use borrow.Author.Tests.{eq-eqb, ne-eqb}
+use borrow.Author.Tests.{ne-eqb}
 use lib.ListN.{length}
 use Rattle.lists.specs.Tables.{zeros}
 use Rattle.refusal.specs.Memory.{workRoom}
 use Rattle.refusal.proofs.MemoryLaws.{output-refused}
 use Rattle.theorem.specs.Demand1.{Demand1}
 use Rattle.theorem.proofs.EntryOrder.{wire-number-order, lookup-order, bit-count-order, read-order, write-order}
-use Rattle.theorem.proofs.BlockOrder.{build-order, follow-order, step-order}
+use Rattle.theorem.proofs.BlockOrder.{build-order, follow-order}
+use Rattle.theorem.proofs.StepOrder.{step-order}
 
 room-untouched : (number : ℕ) → (number ≡ 1) ⊎ (number ≡ 2) → (old : List ℕ) → workRoom number old ≡ old
 room-untouched number (inl e) old = rw e

@@ -1,7 +1,7 @@
--- The grounds of `wire_number`, `lookup`, `bit_count`, `read` and `write` in their orders. Assumes nothing.
-use Prim.Native.Nat.{ℕ, _+_, _<_}
-use mathlib.Core.Path.{_≡_, refl, sym, subst}
-use mathlib.Core.Bool.{true, false}
+-- The grounds of `wire_number`, `lookup`, `bit_count`, `read` and `write` in their orders. Main laws: `wire-number-order`, `lookup-order`,
+-- `bit-count-order`, `read-order`, `write-order`. Assumes nothing.
+use Prim.Native.Nat.{ℕ}
+use mathlib.Core.Path.{_≡_, refl, sym}
 use mathlib.Core.Logic.{inl, inr}
 use mathlib.Core.List.{List}
 use native.Mathlib.Omega.{arith}
@@ -9,7 +9,6 @@ use borrow.Author.Tests.{eqb-true, eq-eqb, ltb-true, ltb-false}
 use lib.Dec.{eqb, ltb}
 use lib.ListN.{length}
 use Rattle.lists.proofs.CaseLaws.{clash}
-use Rattle.digits.specs.Digits.{digit}
 use Rattle.refusal.specs.Grounds.{answerNumber, answerValue}
 use Rattle.refusal.specs.declared.Refusal.{Refusal}
 use Rattle.refusal.specs.declared.Answer.{Answer}
@@ -17,10 +16,9 @@ use Rattle.refusal.specs.declared.Answer.the-variants.{Done, Refused}
 use Rattle.refusal.proofs.GroundsLaws.{unless-cases}
 use Rattle.ports.specs.declared.size.Size.{Size}
 use Rattle.ports.specs.declared.size.Block.{Block}
-use Rattle.ports.specs.Block.{Allowed, allowed, Sized, sized, tileCount, tiles, portOf}
+use Rattle.ports.specs.Block.{allowed, sized, tileCount, tiles, portOf}
 use Rattle.ports.specs.Lengths.{portsPerTile, bitsLength}
 use Rattle.ports.proofs.BlockLaws.{allowed-exact, allowed-true, sized-exact, sized-true, port-of-lt}
-use Rattle.fabric.specs.Joins.{Lowest}
 use Rattle.fabric.specs.declared.WireNumber.{WireNumber}
 use Rattle.fabric.specs.WireNumber.{wireNumber, wireAnswerNumber, wireAnswerValue}
 use Rattle.fabric.proofs.WireLaws.{wire-lowest}
@@ -28,19 +26,15 @@ use Rattle.cell.specs.declared.logic.Looked.{Looked}
 use Rattle.cell.specs.Lookup.{lookedUp, lookedNumber, lookedValue}
 use Rattle.routing.specs.LogicTile.{logicTile}
 use Rattle.routing.specs.Rules.{TableRules, FirstBroken}
-use Rattle.codec.specs.Bits.{bitCount, bitAt}
 use Rattle.config.specs.declared.BitCount.{BitCount}
-use Rattle.config.specs.Blocks.{bitsAt, tilesOf, decoded, encoded}
 use Rattle.config.specs.Entry.{readAnswer, writeAnswer, bitCountAnswer, bitCountNumber, bitCountValue}
-use Rattle.config.specs.Facts.{ExactLengths, LowestUndecodable, LowestBitless}
-use Rattle.config.specs.Meaning.{ReadNo, ReadSays, wrong-size, wrong-length, broken, undecodable}
-use Rattle.config.specs.WriteMeaning.{WriteNo, WriteSays}
+use Rattle.config.specs.Meaning.{ReadNo, wrong-size, wrong-length, broken, undecodable}
+use Rattle.config.specs.WriteMeaning.{WriteNo}
 use Rattle.config.specs.WriteMeaning as writing
 use Rattle.config.proofs.PassedLaws.{write-passed, write-fit}
 use Rattle.config.proofs.BlocksLaws.{fit-bits}
 use Rattle.config.proofs.MeaningLaws.{read-says, write-says}
-use Rattle.theorem.specs.Order.{Check, Yes, at, at0}
-use Rattle.theorem.specs.Demand1.{AllDecodable, AllHaveBits}
+use Rattle.theorem.specs.EntryGrounds.{AllHaveBits, WireGrounds, LookupGrounds, CountGrounds, ReadGrounds, WriteGrounds}
 use Rattle.theorem.proofs.Demand2Laws.{reads-exactly}
 
 -- a table that keeps the rules has no part that breaks one
@@ -57,9 +51,7 @@ no-broken table i f rules =
 
 module _ (B : Block) (tile port : ℕ) where
   abbrev WireOrder : WireNumber → Type 0
-  WireOrder r =
-      Check 1 (Sized B) at0 (Check 20 (tile < tiles B) (at tile) (Check 20 (port < portsPerTile) (at port) (Yes (Lowest B (portOf tile port)))))
-      (wireAnswerNumber r) (wireAnswerValue r)
+  WireOrder r = WireGrounds B tile port (wireAnswerNumber r) (wireAnswerValue r)
 
   pub wire-number-order : WireOrder (wireNumber B tile port)
   unfolding wireNumber
@@ -75,7 +67,7 @@ module _ (B : Block) (tile port : ℕ) where
 
 module _ (table inputs : ℕ) where
   abbrev LookupOrder : Looked → Type 0
-  LookupOrder r = Check 20 (inputs < 16) (at inputs) (Yes (at (digit table inputs))) (lookedNumber r) (lookedValue r)
+  LookupOrder r = LookupGrounds table inputs (lookedNumber r) (lookedValue r)
 
   pub lookup-order : LookupOrder (lookedUp table inputs)
   unfolding lookedUp
@@ -85,10 +77,7 @@ module _ (table inputs : ℕ) where
 
 module _ (S : Size) (bits : List ℕ) (tile : ℕ) where
   abbrev CountOrder : BitCount → Type 0
-  CountOrder r =
-      Check 1 (Allowed S) at0
-      (Check 2 (length bits ≡ bitsLength S) at0 (Check 20 (tile < tileCount S) (at tile) (Yes (at (bitCount (bitAt (bitsAt bits tile)))))))
-      (bitCountNumber r) (bitCountValue r)
+  CountOrder r = CountGrounds S bits tile (bitCountNumber r) (bitCountValue r)
 
   pub bit-count-order : CountOrder (bitCountAnswer S bits tile)
   unfolding bitCountAnswer
@@ -103,12 +92,7 @@ module _ (S : Size) (bits : List ℕ) (tile : ℕ) where
 
 module _ (S : Size) (table bits settings : List ℕ) where
   abbrev ReadOrder : Answer → Type 0
-  ReadOrder a =
-      Check 1 (Allowed S) at0
-      (Check 2 (ExactLengths S (length table) (length bits) (length settings)) at0
-      (Check 3 (TableRules logicTile table) (FirstBroken logicTile table)
-      (Check 4 (AllDecodable table bits (tileCount S)) (LowestUndecodable table (tilesOf bits) (tileCount S)) (Yes at0))))
-      (answerNumber a) (answerValue a)
+  ReadOrder a = ReadGrounds S table bits settings (answerNumber a) (answerValue a)
 
   read-no : (refusal : Refusal) → ReadNo S table bits (length settings) refusal → ReadOrder (Refused refusal)
   read-no refusal (wrong-size n) = inl (n, refl, refl)
@@ -126,12 +110,7 @@ module _ (S : Size) (table bits settings : List ℕ) where
 
 module _ (S : Size) (table settings bits : List ℕ) where
   abbrev WriteOrder : Answer → Type 0
-  WriteOrder a =
-      Check 1 (Allowed S) at0
-      (Check 2 (ExactLengths S (length table) (length bits) (length settings)) at0
-      (Check 3 (TableRules logicTile table) (FirstBroken logicTile table)
-      (Check 9 (AllHaveBits table settings (tileCount S)) (LowestBitless table settings (tileCount S)) (Yes at0))))
-      (answerNumber a) (answerValue a)
+  WriteOrder a = WriteGrounds S table settings bits (answerNumber a) (answerValue a)
 
   write-no : (refusal : Refusal) → WriteNo S table settings (length bits) refusal → WriteOrder (Refused refusal)
   write-no refusal (writing.wrong-size n) = inl (n, refl, refl)

@@ -13,7 +13,7 @@ use Rattle.refusal.proofs.GroundsLaws.{unless-passed}
 use Rattle.refusal.specs.declared.Answer.the-variants.{Done}
 use Rattle.ports.specs.declared.size.Size.{Size}
 use Rattle.ports.specs.declared.size.Block.{Block}
-use Rattle.ports.specs.Block.{tileCount, tiles, sized, Sized, portOf}
+use Rattle.ports.specs.Block.{tileCount, tiles, sized, portOf}
 use Rattle.ports.specs.Lengths.{ports, portsPerTile, settingsLength, settingsTotal}
 use Rattle.ports.proofs.BlockLaws.{port-of-lt}
 use Rattle.fabric.specs.declared.WireNumber.the-variants.{Wire}
@@ -33,10 +33,10 @@ use Rattle.config.proofs.BlocksLaws.{clean-decodable, decodable-clean}
 use Rattle.config.proofs.MeaningLaws.{read-means}
 use Rattle.config.proofs.RoundTrip.{written-reads, read-writes}
 use Rattle.theorem.specs.Demand2.{Demand2}
-use Rattle.theorem.proofs.FightLaws.{fight-exactly, fight-lowest, follow-fight-exactly}
+use Rattle.theorem.proofs.FightLaws.{fight-exactly, fight-lowest, follow-fight-exactly, follow-fight-lowest}
 
 module _ (S : Size) (table bits : List ℕ) (settings : ℕ) where
-  reads-exactly : (readAnswer S table bits settings ≡ Done)
+  pub reads-exactly : (readAnswer S table bits settings ≡ Done)
       ↔ (Checked S table (length bits) settings × ((T : ℕ) → T < tileCount S → Decodable table (tilesOf bits T)))
   reads-exactly = (
     λ done.
@@ -89,4 +89,5 @@ demand2 = record {
   fight-exactly = fight-exactly;
   fight-lowest = fight-lowest;
   follow-fight-exactly = follow-fight-exactly;
+  follow-fight-lowest = follow-fight-lowest;
 }

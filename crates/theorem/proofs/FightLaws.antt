@@ -1,7 +1,8 @@
--- Fights, over the answers of `build` and `follow`. Main laws: `fight-exactly`, `fight-lowest`, `follow-fight-exactly`. Assumes nothing.
+-- Fights, over the answers of `build` and `follow`. Main laws: `fight-exactly`, `fight-lowest`, `follow-fight-exactly`, `follow-fight-lowest`.
+-- Assumes nothing.
 use Prim.Native.Nat.{ℕ, _≤_, _<_}
-use mathlib.Core.Path.{_≡_, refl, sym, ap, subst, _∙_}
-use mathlib.Core.Bool.{true, not}
+use mathlib.Core.Path.{_≡_, refl, sym, ap, _∙_}
+use mathlib.Core.Bool.{not}
 use mathlib.Core.Logic.{_↔_, ⊎-elim}
 use mathlib.Core.List.{List}
 use native.Mathlib.Omega.{arith}
@@ -100,12 +101,12 @@ module _ (B : Block) (t st wires sources marks : List ℕ) (tile port : ℕ) whe
         ⊎-elim (λ (l : contendedWire B t st < ports B). (contendedWire B t st, followed-port ∙ sym (port-contended B t st tile port _ refl l)))
         (λ (l : ports B ≤ contendedWire B t st). absurd (contended-none-exact B t st ok .1 (omega arith) w c)) (lt-or-le (contendedWire B t st) (ports B))
 
+  pub follow-fight-lowest : (w : ℕ) → followed B t st tile port wires sources marks ≡ followeds.Refused (refusals.Contention w) → LowestContention B t st w
+  follow-fight-lowest w e = said w (follow-says B t st tile port wires sources marks (followeds.Refused (refusals.Contention w)) (sym e))
+    where
+      said : (x : ℕ) → FollowNo B t st tile port (followLent t st wires sources marks) (refusals.Contention x) → LowestContention B t st x
+      said x (following.contention v F s) = s
+
   pub follow-fight-exactly : PassesNine B t st wires sources marks
       → ((w : ℕ) × (followed B t st tile port wires sources marks ≡ followeds.Refused (refusals.Contention w))) ↔ ((w : ℕ) × Contention B t st w)
-  follow-fight-exactly p = (
-    λ r. (r .0, said (r .0) (follow-says B t st tile port wires sources marks (followeds.Refused (refusals.Contention (r .0))) (sym (r .1)))),
-    λ c. refused-of p (c .0) (c .1),
-  )
-    where
-      said : (x : ℕ) → FollowNo B t st tile port (followLent t st wires sources marks) (refusals.Contention x) → Contention B t st x
-      said x (following.contention v F s) = s .here
+  follow-fight-exactly p = (λ r. (r .0, follow-fight-lowest (r .0) (r .1) .here), λ c. refused-of p (c .0) (c .1))

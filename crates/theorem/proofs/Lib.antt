@@ -1,4 +1,8 @@
 -- The theorems of the three demands, and what they rest on.
+pub mod Demand1Laws  -- demand1: demand 1, closed
+pub mod EntryOrder  -- the grounds of wire_number, lookup, bit_count, read and write in their orders
+pub mod BlockOrder  -- those of build and follow
+pub mod StepOrder  -- those of step
 pub mod Demand2Laws  -- demand2: demand 2, closed
 pub mod Demand3Laws  -- demand3: demand 3, closed
 pub mod ReadableLaws  -- readable-of-four, readable-built, readable-routed: what checks 1 to 4 show
@@ -8,4 +12,5 @@ pub mod StepDone  -- step-done, step-meant: a step with an accepted block's own 
 pub mod StepUnique  -- step-unique: what a step gives is determined by the equations
 pub mod ListingLaws  -- listing: one row for each wire, in document 01's order
 pub mod OrderLowest  -- order-lowest: the order in the paper's words
+pub mod ShapeLaws  -- shaped: the numbers that a row's kind does not use are 0
 pub mod OwnListLaws  -- own-list-passes: ground 12 lets a block's own list pass

@@ -5,7 +5,6 @@ use mathlib.Core.Path.{_≡_, sym, ap, _∙_}
 use mathlib.Core.Bool.{not}
 use mathlib.Core.List.{List}
 use native.Mathlib.Omega.{arith}
-use lib.ListN.{length}
 use Rattle.lists.proofs.SearchLaws.{first-none}
 use Rattle.refusal.specs.declared.Answer.the-variants.{Done}
 use Rattle.ports.specs.declared.size.Block.{Block}
@@ -17,14 +16,13 @@ use Rattle.routing.specs.LogicTile.{logicTile}
 use Rattle.routing.proofs.TableCheckLaws.{table-exact}
 use Rattle.config.specs.Blocks.{bitlessAt, bitlessTile}
 use Rattle.config.proofs.BlocksLaws.{decoded-length}
-use Rattle.equations.specs.Settling.{Inputs}
 use Rattle.block.specs.declared.Built.the-variants.{Listed}
 use Rattle.block.specs.declared.lengths.RoomLent.{RoomLent}
 use Rattle.block.specs.Lengths.{buildLent}
 use Rattle.block.specs.Building.{listAnswer}
 use Rattle.block.specs.Meaning.{Readable}
 use Rattle.sim.specs.declared.lengths.StepRoomLent.{StepRoomLent}
-use Rattle.sim.specs.Lengths.{inputsLent, stepLent, stepExact, StepRoomLong}
+use Rattle.sim.specs.Lengths.{inputsLent, stepLent, StepRoomLong}
 use Rattle.sim.specs.Meaning.{StepSays}
 use Rattle.sim.proofs.ByteLaws.{joined-of-bits}
 use Rattle.sim.proofs.LengthLaws.{step-long-exact}

@@ -61,3 +61,5 @@ pub record Demand2 : Type 0 where
       → PassesNine B table settings wires sources marks
       → ((w : ℕ) × (followed B table settings tile port wires sources marks ≡ followeds.Refused (refusals.Contention w)))
       ↔ ((w : ℕ) × Contention B table settings w)
+  pub follow-fight-lowest : (B : Block) (table settings wires sources marks : List ℕ) (tile port w : ℕ)
+      → followed B table settings tile port wires sources marks ≡ followeds.Refused (refusals.Contention w) → LowestContention B table settings w

@@ -2,5 +2,9 @@
 pub mod Calls  -- built, stepped, ..: what the calls answer and write, over what is lent
 pub mod Choice  -- OnlyChoice: the one choice of values that the equations allow; StepMeans: what a step does with it
 pub mod Listing  -- Listing: one row for each wire, in document 01's order
+pub mod Order  -- Check, Yes: a chain of checks in front of an answer, with number, ground and place
+pub mod EntryGrounds  -- the grounds of wire_number, lookup, bit_count, read and write in their orders
+pub mod BlockGrounds  -- those of build, follow and step
+pub mod Demand1  -- Demand1
 pub mod Demand2  -- Demand2
 pub mod Demand3  -- Demand3

@@ -1,0 +1,130 @@
+-- The grounds of `build` and `follow` in their orders. Main laws: `build-order`, `follow-order`. Assumes nothing.
+use Prim.Native.Nat.{ℕ}
+use mathlib.Core.Path.{refl}
+use mathlib.Core.Logic.{inl, inr, ⊎-elim}
+use mathlib.Core.List.{List}
+use native.Mathlib.Omega.{arith}
+use Rattle.refusal.specs.declared.Refusal.{Refusal}
+use Rattle.ports.specs.declared.size.Block.{Block}
+use Rattle.fabric.specs.Count.{wires}
+use Rattle.block.specs.declared.Built.{Built}
+use Rattle.block.specs.declared.Built.the-variants.{Listed, Refused}
+use Rattle.block.specs.declared.Followed.{Followed}
+use Rattle.block.specs.declared.Followed.the-variants as followeds
+use Rattle.block.specs.declared.lengths.RoomLent.{RoomLent}
+use Rattle.block.specs.Lengths.{buildLent, followLent}
+use Rattle.block.specs.Building.{builtNumber, builtValue}
+use Rattle.block.specs.Drivers.{followedNumber, followedValue}
+use Rattle.block.specs.Meaning.{ListNo, contention, disabled-carry, loop, cell-clock, BuildNo, BuildSays, wrong-size, wrong-length, broken, undecodable, unlisted}
+use Rattle.block.specs.DriverMeaning.{FollowNo, FollowSays}
+use Rattle.block.specs.DriverMeaning as following
+use Rattle.block.proofs.MeaningLaws.{build-says}
+use Rattle.block.proofs.DriverMeaningLaws.{follow-says}
+use Rattle.theorem.specs.Calls.{built, followed, settingsRead}
+use Rattle.theorem.specs.BlockGrounds.{ListGrounds, BuildGrounds, FollowGrounds}
+use Rattle.theorem.proofs.EntryOrder.{no-broken}
+
+module _ (B : Block) (t bits settings : List ℕ) (room : RoomLent) where
+  abbrev st : List ℕ
+  st = settingsRead B t bits
+
+  abbrev BuildOrder : Built → Type 0
+  BuildOrder a = BuildGrounds B t bits st (buildLent t bits settings room) (builtNumber a) (builtValue a)
+
+  list-no : (refusal : Refusal) → ListNo B t st refusal → ListGrounds B t st (builtNumber (Refused refusal)) (builtValue (Refused refusal))
+  list-no refusal (contention w low) = inl (λ free. free w (low .here), refl, low)
+  list-no refusal (disabled-carry w free low) = inr (free, inl (λ unread. unread w (low .here), refl, low))
+  list-no refusal (loop w free unread low) = inr (free, inr (unread, inl (λ straight. straight w (low .here), refl, low)))
+  list-no refusal (cell-clock T free unread straight low) =
+      inr (free, inr (unread, inr (straight, inl (λ clean. clean T (low .within) (low .here), refl, low))))
+
+  build-no : (refusal : Refusal) → BuildNo B t bits (buildLent t bits settings room) refusal → BuildOrder (Refused refusal)
+  build-no refusal (wrong-size n) = inl (n, refl, refl)
+  build-no refusal (wrong-length s n) = inr (s, inl (n, refl, refl))
+  build-no refusal (broken part s L f) = inr (s, inr (L, inl (no-broken t part f, refl, f)))
+  build-no refusal (undecodable T s L rules low) =
+      inr (s, inr (L, inr (rules, inl (λ d. d T (low .within) (low .position) (low .faulty), refl, low))))
+  build-no refusal (unlisted r R n) = inr (R .size, inr (R .lengths, inr (R .rules, inr (R .tiles-read .decodable, list-no r n))))
+
+  pub build-order : BuildOrder (built B t bits settings room)
+  build-order = go (built B t bits settings room) (build-says B t bits settings room _ refl)
+    where
+      go : (a : Built) → BuildSays B t bits (buildLent t bits settings room) a → BuildOrder a
+      go (Listed rows) s =
+          let R = s .0 in
+          let A = s .2 in
+          inr (
+            R .size,
+            inr (
+              R .lengths,
+              inr (
+                R .rules,
+                inr (
+                  R .tiles-read .decodable,
+                  inr (A .no-contention, inr (A .no-carry, inr (A .no-loop, inr (A .no-clock, (refl, s .1))))),
+                ),
+              ),
+            ),
+          )
+      go (Refused refusal) s = build-no refusal s
+
+module _ (B : Block) (t st : List ℕ) (tile port : ℕ) (wires sources marks : List ℕ) where
+  abbrev FollowOrder : Followed → Type 0
+  FollowOrder a = FollowGrounds B t st tile port (followLent t st wires sources marks) (followedNumber a) (followedValue a)
+
+  follow-no : (refusal : Refusal) → FollowNo B t st tile port (followLent t st wires sources marks) refusal → FollowOrder (followeds.Refused refusal)
+  follow-no refusal (following.wrong-size n) = inl (n, refl, refl)
+  follow-no refusal (following.wrong-length s n) = inr (s, inl (n, refl, refl))
+  follow-no refusal (following.broken part s L f) = inr (s, inr (L, inl (no-broken t part f, refl, f)))
+  follow-no refusal (following.bitless T s L rules low) = inr (s, inr (L, inr (rules, inl (λ h. low .bitless (h T (low .within)), refl, low))))
+  follow-no refusal (following.contention x F low) =
+      inr (F .size, inr (F .lengths, inr (F .rules, inr (F .has-bits, inl (λ free. free x (low .here), refl, low)))))
+  follow-no refusal (following.out-of-range number F free out) =
+      inr (
+        F .size,
+        inr (
+          F .lengths,
+          inr (
+            F .rules,
+            inr (
+              F .has-bits,
+              inr (
+                free,
+                ⊎-elim (λ o. inl (λ l. let k = o .0 in omega arith, refl, o .1))
+                    (λ o. inr (o .0, inl (λ l. let k = o .1 in omega arith, refl, o .2))) out,
+              ),
+            ),
+          ),
+        ),
+      )
+
+  pub follow-order : FollowOrder (followed B t st tile port wires sources marks)
+  follow-order = go (followed B t st tile port wires sources marks) (follow-says B t st tile port wires sources marks _ refl)
+    where
+      go : (a : Followed) → FollowSays B t st tile port (followLent t st wires sources marks) a → FollowOrder a
+      go (followeds.Driven driver) s =
+          let F = s .0 in
+          let D = s .1 in
+          inr (
+            F .size,
+            inr (
+              F .lengths,
+              inr (
+                F .rules,
+                inr (
+                  F .has-bits,
+                  inr (
+                    D .no-contention,
+                    inr (
+                      D .tile-within,
+                      inr (
+                        D .port-within,
+                        (refl, (driver, D .driven, refl)),
+                      ),
+                    ),
+                  ),
+                ),
+              ),
+            ),
+          )
+      go (followeds.Refused refusal) s = follow-no refusal s

@@ -1,0 +1,36 @@
+-- Demand 1, closed: `demand1`. Assumes nothing.
+use Prim.Native.Nat.{ℕ}
+use mathlib.Core.Path.{_≡_}
+use mathlib.Core.Logic.{_⊎_, inl, inr, _≢_}
+use mathlib.Core.List.{List}
+use borrow.Author.Tests.{ne-eqb}
+use lib.ListN.{length}
+use Rattle.lists.specs.Tables.{zeros}
+use Rattle.refusal.specs.Memory.{workRoom}
+use Rattle.refusal.proofs.MemoryLaws.{output-refused}
+use Rattle.theorem.specs.Demand1.{Demand1}
+use Rattle.theorem.proofs.EntryOrder.{wire-number-order, lookup-order, bit-count-order, read-order, write-order}
+use Rattle.theorem.proofs.BlockOrder.{build-order, follow-order}
+use Rattle.theorem.proofs.StepOrder.{step-order}
+
+room-untouched : (number : ℕ) → (number ≡ 1) ⊎ (number ≡ 2) → (old : List ℕ) → workRoom number old ≡ old
+room-untouched number (inl e) old = rw e
+room-untouched number (inr e) old = rw e
+
+room-zeroed : (number : ℕ) → number ≢ 1 → number ≢ 2 → (old : List ℕ) → workRoom number old ≡ zeros (length old)
+room-zeroed number a b old = rw (ne-eqb number 1 a, ne-eqb number 2 b)
+
+pub demand1 : Demand1
+demand1 = record {
+  wire-number = wire-number-order;
+  lookup = lookup-order;
+  bit-count = bit-count-order;
+  read = read-order;
+  write = write-order;
+  build = build-order;
+  follow = follow-order;
+  step = step-order;
+  outputs-kept = λ refusal old new. output-refused old new refusal;
+  room-untouched = room-untouched;
+  room-zeroed = room-zeroed;
+}

@@ -1,0 +1,53 @@
+-- Demand 1: "It refuses only on the grounds numbered in document 01 [..], in the orders given there. On a refusal the outputs keep their old contents; the
+-- work room comes back zeroed, or untouched under refusals 1 and 2." Proved, with no hypothesis, by `demand1` (proofs/Demand1Laws.antt). That every call
+-- takes whatever it is handed and ends is in its contract: none has a `requires`.
+use Prim.Native.Nat.{ℕ}
+use mathlib.Core.Path.{_≡_}
+use mathlib.Core.Logic.{_⊎_, _≢_}
+use mathlib.Core.List.{List}
+use lib.ListN.{length}
+use Rattle.lists.specs.Tables.{zeros}
+use Rattle.refusal.specs.declared.Refusal.{Refusal}
+use Rattle.refusal.specs.Grounds.{numberOf, answerNumber, answerValue}
+use Rattle.refusal.specs.Memory.{output, workRoom}
+use Rattle.ports.specs.declared.size.Size.{Size}
+use Rattle.ports.specs.declared.size.Block.{Block}
+use Rattle.fabric.specs.WireNumber.{wireNumber, wireAnswerNumber, wireAnswerValue}
+use Rattle.cell.specs.Lookup.{lookedUp, lookedNumber, lookedValue}
+use Rattle.config.specs.Entry.{readAnswer, writeAnswer, bitCountAnswer, bitCountNumber, bitCountValue}
+use Rattle.block.specs.declared.lengths.RoomLent.{RoomLent}
+use Rattle.block.specs.Lengths.{buildLent, followLent}
+use Rattle.block.specs.Building.{builtNumber, builtValue}
+use Rattle.block.specs.Drivers.{followedNumber, followedValue}
+use Rattle.sim.specs.declared.lengths.StepRoomLent.{StepRoomLent}
+use Rattle.sim.specs.Lengths.{inputsLent, stepLent}
+use Rattle.theorem.specs.Calls.{built, followed, stepped, settingsRead}
+use Rattle.theorem.specs.EntryGrounds.{WireGrounds, LookupGrounds, CountGrounds, ReadGrounds, WriteGrounds}
+use Rattle.theorem.specs.BlockGrounds.{BuildGrounds, FollowGrounds, StepGrounds}
+
+pub record Demand1 : Type 0 where
+  -- "It refuses only on the grounds numbered in document 01 [..], in the orders given there": each call's table of grounds, over the number of its answer
+  -- and what comes with it
+  pub wire-number : (B : Block) (tile port : ℕ) → WireGrounds B tile port (wireAnswerNumber (wireNumber B tile port)) (wireAnswerValue (wireNumber B tile port))
+  pub lookup : (table inputs : ℕ) → LookupGrounds table inputs (lookedNumber (lookedUp table inputs)) (lookedValue (lookedUp table inputs))
+  pub bit-count : (S : Size) (bits : List ℕ) (tile : ℕ)
+      → CountGrounds S bits tile (bitCountNumber (bitCountAnswer S bits tile)) (bitCountValue (bitCountAnswer S bits tile))
+  pub read : (S : Size) (table bits settings : List ℕ)
+      → ReadGrounds S table bits settings (answerNumber (readAnswer S table bits (length settings))) (answerValue (readAnswer S table bits (length settings)))
+  pub write : (S : Size) (table settings bits : List ℕ)
+      → WriteGrounds S table settings bits (answerNumber (writeAnswer S table settings (length bits)))
+      (answerValue (writeAnswer S table settings (length bits)))
+  pub build : (B : Block) (table bits settings : List ℕ) (room : RoomLent)
+      → BuildGrounds B table bits (settingsRead B table bits) (buildLent table bits settings room)
+      (builtNumber (built B table bits settings room)) (builtValue (built B table bits settings room))
+  pub follow : (B : Block) (table settings : List ℕ) (tile port : ℕ) (wires sources marks : List ℕ)
+      → FollowGrounds B table settings tile port (followLent table settings wires sources marks)
+      (followedNumber (followed B table settings tile port wires sources marks)) (followedValue (followed B table settings tile port wires sources marks))
+  pub step : (B : Block) (table settings list state before after : List ℕ) (room : StepRoomLent)
+      → StepGrounds B table settings list state before after (stepLent (inputsLent table settings list state before after) room)
+      (answerNumber (stepped B table settings list state before after room)) (answerValue (stepped B table settings list state before after room))
+  -- "On a refusal the outputs keep their old contents": every output's clause is `output` of the answer's number
+  pub outputs-kept : (refusal : Refusal) (old new : List ℕ) → output (numberOf refusal) old new ≡ old
+  -- "the work room comes back zeroed, or untouched under refusals 1 and 2": every part's clause is `workRoom` of the answer's number
+  pub room-untouched : (number : ℕ) → (number ≡ 1) ⊎ (number ≡ 2) → (old : List ℕ) → workRoom number old ≡ old
+  pub room-zeroed : (number : ℕ) → number ≢ 1 → number ≢ 2 → (old : List ℕ) → workRoom number old ≡ zeros (length old)

@@ -1,0 +1,19 @@
+-- "in these orders": a chain of checks in front of a call's answer, each with the columns of document 01's table, number, ground and place.
+--   Check == a check that passes, or gives its number and place      Yes == the answer's number is 0      at0, at == places 0 and `number`
+use Prim.Native.Nat.{ℕ}
+use mathlib.Core.Path.{_≡_}
+use mathlib.Core.Logic.{_⊎_}
+
+-- where the check does not pass, its number is the answer's and what comes with it is its place; where it passes, the later checks decide
+abbrev pub Check : ℕ → Type 0 → (ℕ → Type 0) → (ℕ → ℕ → Type 0) → ℕ → ℕ → Type 0
+Check ground passes place later number value = ((passes → ⊥) × (number ≡ ground) × place value) ⊎ (passes × later number value)
+
+-- a yes, and what comes with it
+abbrev pub Yes : (ℕ → Type 0) → ℕ → ℕ → Type 0
+Yes says number value = (number ≡ 0) × says value
+
+abbrev pub at : ℕ → ℕ → Type 0
+at place value = value ≡ place
+
+abbrev pub at0 : ℕ → Type 0
+at0 = at 0

@@ -3,6 +3,7 @@ ghost use mathlib.Core.Path.{_≡_};
 ghost use mathlib.Core.Bool.{not, _&&_};
 ghost use Prim.Native.Nat.{_<_};
 ghost use lib.ListN.{length};
+ghost use Rattle.lists.specs.Tables.{zeros};
 ghost use Rattle.ports.specs.Block.{tiles};
 ghost use Rattle.ports.specs.Lengths.{ports, portsPerTile};
 ghost use Rattle.equations.specs.Tiles.{TileInside, flopOn};
@@ -10,7 +11,7 @@ ghost use Rattle.equations.specs.Routed.{Mapped};
 ghost use Rattle.drivers.specs.Following.{Bounded};
 ghost use Rattle.drivers.specs.Clocks.{asyncFlopOn, isOutside, anyCell, drivenOutside, clockedAt, clockedTile};
 use crate::follow::Driver;
-use crate::follow::driver_of;
+use crate::follow::clear_driver;
 use equations::tiles::cell_at;
 use equations::tiles::tile_wire;
 use netlist::row::wide;
@@ -72,14 +73,15 @@ fn is_from_cell(
     marks: &mut [u16],
 ) -> bool
     requires { ⌜ Mapped b (now st) (now wires) × (length (now sources) ≡ ports b) × Bounded (now sources) × (tile < tiles b) ×
-        (q < portsPerTile) × (length (now marks) ≡ ports b) ⌝ }
-    ensures { λ r. ⌜ r ≡ asked && not (drivenOutside b (now (st .entry)) (now (sources .entry)) tile q) ⌝ }
+        (q < portsPerTile) × (now marks ≡ zeros (ports b)) ⌝ }
+    ensures answer { λ r. ⌜ r ≡ asked && not (drivenOutside b (now (st .entry)) (now (sources .entry)) tile q) ⌝ }
+    ensures marks { λ r. ⌜ now (marks .exit) ≡ zeros (ports b) ⌝ }
 {
     if !asked {
         return false;
     }
     let wire = wide(tile_wire(b, wires, tile, q));
-    let d = driver_of(b, sources, wire, marks);
+    let d = clear_driver(b, sources, wire, marks);
     !clock_ok(d)
 }
 
@@ -93,8 +95,9 @@ fn is_clocked(
     marks: &mut [u16],
 ) -> bool
     requires { ⌜ Mapped b (now st) (now wires) × (length (now sources) ≡ ports b) × Bounded (now sources) × (tile < tiles b) ×
-        (length (now marks) ≡ ports b) ⌝ }
-    ensures { λ r. ⌜ r ≡ clockedAt b (now (st .entry)) (now (sources .entry)) tile ⌝ }
+        (now marks ≡ zeros (ports b)) ⌝ }
+    ensures answer { λ r. ⌜ r ≡ clockedAt b (now (st .entry)) (now (sources .entry)) tile ⌝ }
+    ensures marks { λ r. ⌜ now (marks .exit) ≡ zeros (ports b) ⌝ }
 {
     let flop = has_flop(st, tile);
     if is_from_cell(b, st, wires, sources, tile, ports::CLK, flop, marks) {
@@ -104,7 +107,7 @@ fn is_clocked(
     is_from_cell(b, st, wires, sources, tile, ports::S_R, async_flop, marks)
 }
 
-// The lowest tile whose clock or reset comes from a cell, or the number of tiles. `marks` is work room, and holds marks afterwards.
+// The lowest tile whose clock or reset comes from a cell, or the number of tiles. `marks` is work room, and is left clear.
 // Rules out: asking for a clock where no cell has a flip-flop; bit 19 without bit 9 taken as a flip-flop.
 pub fn clocked_tile(
     b: Block,
@@ -114,9 +117,11 @@ pub fn clocked_tile(
     marks: &mut [u16],
 ) -> usize
     requires { ⌜ Mapped b (now st) (now wires) × (length (now sources) ≡ ports b) × Bounded (now sources) × (length (now marks) ≡ ports b) ⌝ }
-    ensures { λ r. ⌜ r ≡ clockedTile b (now (st .entry)) (now (sources .entry)) ⌝ }
+    ensures answer { λ r. ⌜ r ≡ clockedTile b (now (st .entry)) (now (sources .entry)) ⌝ }
+    ensures marks { λ r. ⌜ now (marks .exit) ≡ zeros (ports b) ⌝ }
 {
     let tiles = (b.h * b.w) as usize;
+    lists::clear(marks);
     let mut tile = 0;
     while tile < tiles {
         if is_clocked(b, st, wires, sources, tile, marks) {

@@ -124,16 +124,29 @@ fn marked_driver(b: Block, sources: &[u16], wire: usize, marks: &mut [u16]) -> D
     }
 }
 
-// Where following a wire ends. `sources` has one more than the wire that a wire's switch comes from, 0 where it has none. `marks` is work room,
-// and holds marks afterwards.
+// Where following a wire ends, with marks that are clear and stay so.
 // Rules out: going on through carry_in_mux; the wire where a ring was met, which need not be its lowest.
-pub fn driver_of(b: Block, sources: &[u16], wire: usize, marks: &mut [u16]) -> Driver
-    requires { ⌜ Sized b × (length (now sources) ≡ ports b) × Bounded (now sources) × (wire < ports b) × (length (now marks) ≡ ports b) ⌝ }
-    ensures { λ r. ⌜ r ≡ driverOf b (now (sources .entry)) wire ⌝ }
+pub fn clear_driver(b: Block, sources: &[u16], wire: usize, marks: &mut [u16]) -> Driver
+    requires { ⌜ Sized b × (length (now sources) ≡ ports b) × Bounded (now sources) × (wire < ports b) × (now marks ≡ zeros (ports b)) ⌝ }
+    ensures answer { λ r. ⌜ r ≡ driverOf b (now (sources .entry)) wire ⌝ }
+    ensures marks { λ r. ⌜ now (marks .exit) ≡ zeros (ports b) ⌝ }
 {
     let u = short_walk(sources, wire);
     if sources[u] == 0 {
         return end_driver(u as u16, drive_of(b, u as u32));
     }
-    marked_driver(b, sources, wire, marks)
+    let d = marked_driver(b, sources, wire, marks);
+    lists::clear(marks);
+    d
+}
+
+// Where following a wire ends. `sources` has one more than the wire that a wire's switch comes from, 0 where it has none. `marks` is work room,
+// and is left clear.
+pub fn driver_of(b: Block, sources: &[u16], wire: usize, marks: &mut [u16]) -> Driver
+    requires { ⌜ Sized b × (length (now sources) ≡ ports b) × Bounded (now sources) × (wire < ports b) × (length (now marks) ≡ ports b) ⌝ }
+    ensures answer { λ r. ⌜ r ≡ driverOf b (now (sources .entry)) wire ⌝ }
+    ensures marks { λ r. ⌜ now (marks .exit) ≡ zeros (ports b) ⌝ }
+{
+    lists::clear(marks);
+    clear_driver(b, sources, wire, marks)
 }

@@ -3,6 +3,7 @@ use Prim.Native.Nat.{ℕ}
 use mathlib.Core.List.{List}
 use mathlib.Core.Path.{sym, _∙_, ap, ap₂, subst}
 use native.Mathlib.Omega.{arith}
+use borrow.Author.Needs.{needs}
 use lib.ListN.{length}
 use Rattle.ports.proofs.BlockLaws.{ports-le}
 use Rattle.netlist.specs.Checking.{wireCount}
@@ -30,7 +31,7 @@ settle-requires-2 c κs =
     let at-count-wires = c .before .before .before .before .before in
     let at-start = at-count-wires .before .before .before .before .before .before .before .before .before .before .before .before in
     let p = at-start .pre in
-    (p .3, at-count-wires .count-wires .ensures ∙ ap wireCount (p .1) ∙ marks-count (at-start .args .b), p .7)
+    (search needs, at-count-wires .count-wires .ensures ∙ ap wireCount (p .1) ∙ marks-count (at-start .args .b), p .7)
 
 write-values-requires : tie.Need-write-values-requires
 write-values-requires c κs =

@@ -195,7 +195,7 @@ returns-4 c =
     let wire = wires-at B (at-fill-wires .fill-wires .last .1 .0) (at-fill-wires .fill-wires .ensures) (portOf tile port) lt in
     let within = wire-within B (portOf tile port) lt in
     let same = ap (λ (s : List ℕ). driverOf B s (getD (at-fill-wires .fill-wires .last .1 .0) (portOf tile port) 0)) (at-find-sources .find-sources .ensures .1) in
-    ap Driven (at-driver-of .driver-of .ensures ∙ same ∙ ap (driverOf B (sourcesOf B table st)) wire) ∙ port-driven B table st tile port free in-tile in-port
+    ap Driven (at-driver-of .driver-of .ensures .0 ∙ same ∙ ap (driverOf B (sourcesOf B table st)) wire) ∙ port-driven B table st tile port free in-tile in-port
 
 pub follow-port-spec : {M : Type 1} → statement M
 follow-port-spec =

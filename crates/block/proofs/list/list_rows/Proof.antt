@@ -131,7 +131,7 @@ returns c =
     let few = tiles-le B (ok .size) in
     let long = marks-long at-marks in
     let listed = listed-rows B table st ok rows (length marks) (at-start .pre .1 .0 .2) long (at-schedule .schedule .result) (at-schedule .schedule .ensures .0) (at-s2 .s2 .given .0 .0) (at-s2 .s2 .given .1) (at-start .args .queue .now) (at-schedule .schedule .last .1 .1 .0) (at-schedule .schedule .ensures .1) in
-    let found = at-clocked-tile .clocked-tile .ensures ∙ ap (clockedTile B st) (at-start .pre .1 .0 .1) in
+    let found = at-clocked-tile .clocked-tile .ensures .0 ∙ ap (clockedTile B st) (at-start .pre .1 .0 .1) in
     (list-clocked B table st (at-start .pre .0 .1) (at-start .pre .0 .2) (listed .straight) (at-clocked-tile .clocked-tile .result) found (c .if1 .taken), refl)
 
 write-list-requires : tie.Need-write-list-requires
@@ -250,7 +250,7 @@ returns-3 c =
     let few = tiles-le B (ok .size) in
     let long = marks-long at-marks in
     let listed = listed-rows B table st ok rows (length marks) (at-start .pre .1 .0 .2) long (at-schedule .schedule .result) (at-schedule .schedule .ensures .0) (at-s2 .s2 .given .0 .0) (at-s2 .s2 .given .1) (at-start .args .queue .now) (at-schedule .schedule .last .1 .1 .0) (at-schedule .schedule .ensures .1) in
-    let found = at-clocked-tile .clocked-tile .ensures ∙ ap (clockedTile B st) (at-start .pre .1 .0 .1) in
+    let found = at-clocked-tile .clocked-tile .ensures .0 ∙ ap (clockedTile B st) (at-start .pre .1 .0 .1) in
     (list-listed B table st (at-start .pre .0 .1) (at-start .pre .0 .2) (listed .straight) (at-clocked-tile .clocked-tile .result) found (at-if1 .if1 .left) _ (listed .count), at-write-list .write-list .ensures ∙ listed .writes (length (at-start .args .wires .now)) (omega (arith, room .wires-long)))
 
 pub list-rows-spec : {M : Type 1} → statement M

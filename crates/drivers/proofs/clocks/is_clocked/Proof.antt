@@ -29,8 +29,8 @@ returns c =
     let st = a .st .now in
     let s = a .sources .now in
     let T = a .tile in
-    let clock = c .before .before .before .is-from-cell .ensures ∙ ap (λ (b : Bool). b && not (drivenOutside B st s T clk)) (c .before .before .before .before .before .has-flop .ensures) in
-    clocked-clock B st s T (sym clock ∙ c .if1 .taken)
+    let clock = c .before .before .before .is-from-cell .ensures .0 ∙ ap (λ (b : Bool). b && not (drivenOutside B st s T clk)) (c .before .before .before .before .before .has-flop .ensures) in
+    (clocked-clock B st s T (sym clock ∙ c .if1 .taken), c .before .before .before .is-from-cell .ensures .1)
 
 has-async-flop-requires : tie.Need-has-async-flop-requires
 has-async-flop-requires c κs = search needs
@@ -39,7 +39,7 @@ is-from-cell-requires-2 : tie.Need-is-from-cell-requires-2
 is-from-cell-requires-2 c κs =
     let at-start = c .before .before .before .before .before .before .before .before .before .before .before .before in
     let p = at-start .pre in
-    (p .0, p .1, p .2, p .3, omega arith, omega arith)
+    (p .0, p .1, p .2, p .3, omega arith, c .before .before .before .before .before .is-from-cell .ensures .1)
 
 same-length-2 : tie.Need-same-length-2
 same-length-2 c = search needs
@@ -52,8 +52,8 @@ returns-2 c =
     let st = a .st .now in
     let s = a .sources .now in
     let T = a .tile in
-    let clock = c .before .before .before .before .before .before .before .before .is-from-cell .ensures ∙ ap (λ (b : Bool). b && not (drivenOutside B st s T clk)) (c .before .before .before .before .before .before .before .before .before .before .has-flop .ensures) in
-    c .before .before .is-from-cell2 .ensures ∙ ap (λ (b : Bool). b && not (drivenOutside B st s T sR)) (c .before .before .before .before .has-async-flop .ensures) ∙ clocked-reset B st s T (sym clock ∙ c .before .before .before .before .before .if1 .left)
+    let clock = c .before .before .before .before .before .before .before .before .is-from-cell .ensures .0 ∙ ap (λ (b : Bool). b && not (drivenOutside B st s T clk)) (c .before .before .before .before .before .before .before .before .before .before .has-flop .ensures) in
+    (c .before .before .is-from-cell2 .ensures .0 ∙ ap (λ (b : Bool). b && not (drivenOutside B st s T sR)) (c .before .before .before .before .has-async-flop .ensures) ∙ clocked-reset B st s T (sym clock ∙ c .before .before .before .before .before .if1 .left), c .before .before .is-from-cell2 .ensures .1)
 
 pub is-clocked-spec : {M : Type 1} → statement M
 is-clocked-spec =

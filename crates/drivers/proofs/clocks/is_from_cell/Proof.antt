@@ -17,8 +17,9 @@ use Rattle.drivers.proofs.clocks.is_from_cell.Tie as tie
 
 returns : tie.Need-returns
 returns c =
-    let a = c .before .before .before .before .before .args in
-    sym (and-false-left (a .asked) (not (drivenOutside (a .b) (a .st .now) (a .sources .now) (a .tile) (a .q))) (not-true (a .asked) (c .if1 .taken)))
+    let at-start = c .before .before .before .before .before in
+    let a = at-start .args in
+    (sym (and-false-left (a .asked) (not (drivenOutside (a .b) (a .st .now) (a .sources .now) (a .tile) (a .q))) (not-true (a .asked) (c .if1 .taken))), at-start .pre .5)
 
 tile-wire-requires : tie.Need-tile-wire-requires
 tile-wire-requires c κs =
@@ -32,8 +33,8 @@ tile-wire-requires c κs =
 wide-requires : tie.Need-wide-requires
 wide-requires c κs = search needs
 
-driver-of-requires : tie.Need-driver-of-requires
-driver-of-requires c κs =
+clear-driver-requires : tie.Need-clear-driver-requires
+clear-driver-requires c κs =
     let at-start = c .before .before .before .before .before .before .before .before in
     let a = at-start .args in
     let B = a .b in
@@ -54,7 +55,8 @@ returns-2 c =
     let a = at-start .args in
     let B = a .b in
     let is : c .before .before .before .before .before .wide .result ≡ wireOf B (portOf (a .tile) (a .q)) = c .before .before .before .before .before .wide .ensures ∙ c .before .before .before .before .before .before .tile-wire .ensures in
-    ap not (c .clock-ok .ensures ∙ ap isOutside (c .before .before .before .driver-of .ensures ∙ ap (driverOf B (a .sources .now)) is)) ∙ ap (λ (b : Bool). b && not (drivenOutside B (a .st .now) (a .sources .now) (a .tile) (a .q))) (sym (not-false (a .asked) (c .before .before .before .before .before .before .before .if1 .left)))
+    let at-clear-driver = c .before .before .before in
+    (ap not (c .clock-ok .ensures ∙ ap isOutside (at-clear-driver .clear-driver .ensures .0 ∙ ap (driverOf B (a .sources .now)) is)) ∙ ap (λ (b : Bool). b && not (drivenOutside B (a .st .now) (a .sources .now) (a .tile) (a .q))) (sym (not-false (a .asked) (c .before .before .before .before .before .before .before .if1 .left))), at-clear-driver .clear-driver .ensures .1)
 
 pub is-from-cell-spec : {M : Type 1} → statement M
 is-from-cell-spec =
@@ -63,7 +65,7 @@ is-from-cell-spec =
     returns
     tile-wire-requires
     wide-requires
-    driver-of-requires
+    clear-driver-requires
     clock-ok-requires
     same-length
     returns-2)

@@ -3,6 +3,10 @@ use Rattle.drivers.proofs.Tracing.{driver-trace}
 use Rattle.drivers.specs.Following.{endDriver}
 use Rattle.drivers.specs.declared.follow.Trace.the-variants.{End}
 use Rattle.ports.proofs.BlockLaws.{ports-le}
+use Rattle.ports.specs.Lengths.{ports}
+use Rattle.lists.proofs.TableLaws.{zeros-length}
+use Rattle.lists.specs.Tables.{zeros}
+use lib.ListN.{length}
 use native.Mathlib.Omega.{arith}
 use mathlib.Core.Path.{sym, ap, _∙_}
 use borrow.Author.Needs.{needs}
@@ -49,7 +53,10 @@ returns c =
     )
 
 marked-driver-requires : tie.Need-marked-driver-requires
-marked-driver-requires c κs = ?
+marked-driver-requires c κs =
+    let at-start = c .before .before .before .before .before .before in
+    let pre = at-start .pre in
+    (pre .0, pre .1, pre .2, pre .3, ap length (pre .4) ∙ zeros-length (ports (at-start .args .b)))
 
 clear-requires : tie.Need-clear-requires
 clear-requires c κs = search needs
@@ -58,7 +65,12 @@ same-length : tie.Need-same-length
 same-length c = search needs
 
 returns-2 : tie.Need-returns-2
-returns-2 c = ?
+returns-2 c =
+    let at-clear = c .before .before in
+    let at-marked-driver = at-clear .before .before .before .before in
+    let at-start = at-marked-driver .before .before .before .before .before .before .before in
+    let long = at-marked-driver .marked-driver .kept .1 .1 .1 .0 ∙ ap length (at-start .pre .4) ∙ zeros-length (ports (at-start .args .b)) in
+    (at-marked-driver .marked-driver .ensures, at-clear .clear .ensures ∙ ap zeros long)
 
 pub clear-driver-spec : {M : Type 1} → statement M
 clear-driver-spec =

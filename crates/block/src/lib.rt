@@ -24,7 +24,7 @@ use refusal::Refusal;
 
 mod driver;
 pub mod lengths;
-pub mod list;
+mod list;
 
 // So many rows, or why there is no list.
 pub enum Built {

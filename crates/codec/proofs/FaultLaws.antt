@@ -94,7 +94,7 @@ module _ (table bits : List ℕ) (p : ℕ) where
   -- ---- by the map, whose number is one more than the slot's
 
   module _ (own : List ℕ) (O : Owned 864 (slotsOf logicTile table) (slotCount logicTile) own) (h : p < 864) where
-    owner-none : getD own p 0 ≡ 0 → owner (slotsOf logicTile table) p ≡ slotCount logicTile
+    pub owner-none : getD own p 0 ≡ 0 → owner (slotsOf logicTile table) p ≡ slotCount logicTile
     owner-none z =
         ⊎-elim
         (λ (l : mine < slotCount logicTile).

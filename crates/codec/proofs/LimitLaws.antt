@@ -1,9 +1,9 @@
 -- The largest value of each setting, one law for each way through `limitAt`, the test of all, and what settings that fit keep
--- to. Main laws: `fit-within`, `fit-at`.
+-- to. Main laws: `within-fits`, `fit-at`.
 -- Assumes nothing.
 use mathlib.Core.Path.{_≡_, refl, sym, ap, _∙_, subst}
 use mathlib.Core.Logic.{_≢_}
-use mathlib.Core.Bool.{Bool, true, false, not}
+use mathlib.Core.Bool.{Bool, true, false, not, _&&_}
 use mathlib.Core.List.{List}
 use Prim.Native.Nat.{ℕ, _+_, _-_, _*_, _%_, _<_, _≤_}
 use native.Mathlib.Omega.{arith}
@@ -18,7 +18,7 @@ use Rattle.routing.specs.LogicTile.{logicTile}
 use Rattle.ports.specs.Lengths.{maxPassives, maxGroups, settingsLength}
 use Rattle.routing.specs.Table.{passiveCount, groupCount, entryCount}
 use Rattle.codec.specs.Settings.{fieldSetting, passiveSetting, groupSetting, groupsFrom, cellsFrom, cellTable, cellFlags}
-use Rattle.codec.specs.Limits.{limitAt, withinLimit, limitsOf, withinAt, bothCarries, settingsFit}
+use Rattle.codec.specs.Limits.{limitAt, withinLimit, limitsOf, withinAt, bothCarries, settingsFit, fitsWithin}
 
 module _ (table : List ℕ) (n : ℕ) where
   pub limit-field : n < 3 → limitAt table n ≡ 1
@@ -78,19 +78,23 @@ module _ (table : List ℕ) (n : ℕ) where
 
 -- ---- settings held against the largest values, as the code does it
 
-module _ (table settings : List ℕ) where
-  pub fit-carry-pair : bothCarries settings ≡ true → false ≡ settingsFit table settings
-  unfolding settingsFit
-  fit-carry-pair e = rw e
+module _ (limits settings : List ℕ) where
+  pub within-carry-pair : bothCarries settings ≡ true → false ≡ fitsWithin limits settings
+  unfolding fitsWithin
+  within-carry-pair e = rw e
 
-  pub fit-within : (limits : List ℕ) → limits ≡ limitsOf table → bothCarries settings ≡ false
-      → allFrom (withinAt limits settings) 0 settingsLength ≡ settingsFit table settings
-  unfolding settingsFit
-  fit-within limits e b =
-      rw b
-      (all-ext (withinAt limits settings) (withinLimit table settings) 0 settingsLength
-      (λ k a l. ap (leb (getD settings k 0))
-      (ap (λ (x : List ℕ). getD x k 0) e ∙ tabulate-zero (limitAt table) 0 settingsLength k (omega arith))))
+  pub within-all : bothCarries settings ≡ false → allFrom (withinAt limits settings) 0 settingsLength ≡ fitsWithin limits settings
+  unfolding fitsWithin
+  within-all e = rw e
+
+-- against the limits of a table
+pub within-fits : (table limits settings : List ℕ) → limits ≡ limitsOf table → fitsWithin limits settings ≡ settingsFit table settings
+unfolding fitsWithin settingsFit
+within-fits table limits settings e =
+    ap (_&&_ (not (bothCarries settings)))
+    (all-ext (withinAt limits settings) (withinLimit table settings) 0 settingsLength
+    (λ k a l. ap (leb (getD settings k 0))
+    (ap (λ (x : List ℕ). getD x k 0) e ∙ tabulate-zero (limitAt table) 0 settingsLength k (omega arith))))
 
 -- ---- settings that fit
 

@@ -36,3 +36,7 @@ withinLimit table settings n = leb (getD settings n 0) (limitAt table n)
 
 unfoldable pub settingsFit : List ℕ → List ℕ → Bool
 settingsFit table settings = not (bothCarries settings) && allFrom (withinLimit table settings) 0 settingsLength
+
+-- the same against a list of largest values
+unfoldable pub fitsWithin : List ℕ → List ℕ → Bool
+fitsWithin limits settings = not (bothCarries settings) && allFrom (withinAt limits settings) 0 settingsLength

@@ -3,6 +3,7 @@ ghost use mathlib.Core.Path.{_≡_};
 ghost use Prim.Native.Nat.{ℕ, _*_, _<_, _≤_};
 ghost use mathlib.Core.Bool.{true};
 ghost use lib.ListN.{length};
+ghost use Rattle.lists.specs.Tables.{zeros};
 ghost use Rattle.routing.specs.LogicTile.{logicTile};
 ghost use Rattle.routing.specs.Rules.{TableRules};
 ghost use Rattle.routing.specs.Slots.{slotCount};
@@ -14,12 +15,13 @@ use ports::lengths::SETTINGS_LENGTH;
 use ports::lengths::TILE_NUMBERS;
 use routing::table::POSITIONS;
 
-// The lowest tile that cannot be decoded; where all n can, n with their settings.
+// The lowest tile that cannot be decoded, with cleared settings; where all n can, n with their settings.
 pub fn read_block(table: &[u16], own: &[u16], bits: &[u8], settings: &mut [u16], n: usize) -> usize
     requires { ⌜ (n ≤ 64) × TableRules logicTile (now table) × TableOwned logicTile (now table) (slotCount logicTile) (now own) ×
         (length (now bits) ≡ tileNumbers * n) × (length (now settings) ≡ settingsLength * n) ⌝ }
     ensures tile { λ r. ⌜ r ≡ undecodableTile (now (table .entry)) (tilesOf (now (bits .entry))) n ⌝ }
     ensures settings { λ r. ⌜ (r ≡ n → now (settings .exit) ≡ decoded (now (table .entry)) (tilesOf (now (bits .entry))) n) ⌝ }
+    ensures cleared { λ r. ⌜ (r < n → now (settings .exit) ≡ zeros (settingsLength * n)) ⌝ }
 {
     let mut t = 0;
     while t < n {
@@ -29,6 +31,7 @@ pub fn read_block(table: &[u16], own: &[u16], bits: &[u8], settings: &mut [u16],
         let end = start + SETTINGS_LENGTH;
         let fault = tile::read_tile(table, own, &bits[from..to], &mut settings[start..end]);
         if fault < POSITIONS {
+            lists::clear(settings);
             return t;
         }
         t += 1;

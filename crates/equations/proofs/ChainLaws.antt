@@ -24,11 +24,12 @@ use Rattle.equations.specs.Switches.{origin, NoContention}
 use Rattle.equations.specs.Routed.{Routed}
 use Rattle.equations.specs.Equations.{wire, carryPort, ReadsWire, switch-reads, lout-reads, out-reads, cout-reads-in1, cout-reads-in2, cout-reads-carry, mux-reads, Depends, reads as reads-wire, via as via-wire}
 use Rattle.equations.specs.Drives.{driveOf}
-use Rattle.equations.specs.WireRows.{plainRow, inWire, lookupRow, driveRow, rowOf, wireRows}
+use Rattle.equations.specs.RowMeaning.{plainRow, inWire, lookupRow, RowSays, switch-copies, open-lent, no-switch-zero, no-switch-one, out-flip-flop, out-lookup, lout-lookup, cout-majority, cout-zero, mux-one, mux-copies, mux-zero}
+use Rattle.equations.specs.WireRows.{driveRow, rowOf, wireRows}
 use Rattle.equations.proofs.DriveLaws.{out-drive, lout-drive, cout-drive, mux-drive}
 use Rattle.equations.proofs.RoleLaws.{ofCell}
 use Rattle.equations.proofs.SwitchLaws.{target-lt, target-own, origin-port}
-use Rattle.equations.proofs.RowReasons.{Why, why-none, why-switch, why-lent, why-zero, why-one, why-flop, why-out, why-lout, why-carry, why-no-carry, why-set, why-chain, why-unset, why, row-switch, row-cell}
+use Rattle.equations.proofs.RowReasons.{Why, no-wire, says, why, row-switch, row-cell}
 use Rattle.equations.proofs.WireRowLaws.{graph, row-is, kind-past, own-wire, out-row, lout-row, carry-row, chain-row}
 
 pub carry-port-lt : (i : ℕ) → i < 8 → carryPort i < portsPerTile
@@ -49,24 +50,24 @@ module _ (B : Block) (t st : List ℕ) where
 
   row-reads : (w : ℕ) (r : Row) → Why B t st w r → (j : ℕ) → j < arityOf r → ReadsWire B t st w (operandOf r j)
   unfolding arityOf operandOf
-  row-reads w r (why-none n) j h = absurd (omega arith)
-  row-reads w r (why-switch s e) zero h = subst (λ (u : ℕ). ReadsWire B t st u (origin B t st s)) (e .onto) (switch-reads s (e .within) (e .on))
-  row-reads w r (why-switch s e) (suc j) h = absurd (omega arith)
-  row-reads w r (why-lent o f) j h = absurd (omega arith)
-  row-reads w r (why-zero o f) j h = absurd (omega arith)
-  row-reads w r (why-one o f) j h = absurd (omega arith)
-  row-reads w r (why-flop T i l k q b) j h = absurd (omega arith)
-  row-reads w r (why-out T i l k q b) j h = rw (lookup-operand B st w T i j h, ← q) (out-reads T i j l k h b)
-  row-reads w r (why-lout T i l k q) j h = rw (lookup-operand B st w T i j h, ← q) (lout-reads T i j l k h)
-  row-reads w r (why-carry T i l k q b) zero h = rw (← q) (cout-reads-in1 T i l k b)
-  row-reads w r (why-carry T i l k q b) (suc zero) h = rw (← q) (cout-reads-in2 T i l k b)
-  row-reads w r (why-carry T i l k q b) (suc (suc zero)) h = rw (← q) (cout-reads-carry T i l k b)
-  row-reads w r (why-carry T i l k q b) (suc (suc (suc j))) h = absurd (omega arith)
-  row-reads w r (why-no-carry T i l k q b) j h = absurd (omega arith)
-  row-reads w r (why-set T l q b) j h = absurd (omega arith)
-  row-reads w r (why-chain T l q b c) zero h = rw (← q) (mux-reads T l b c)
-  row-reads w r (why-chain T l q b c) (suc j) h = absurd (omega arith)
-  row-reads w r (why-unset T l q b c) j h = absurd (omega arith)
+  row-reads w r (no-wire n) j h = absurd (omega arith)
+  row-reads w r (says (switch-copies s e)) zero h = subst (λ (u : ℕ). ReadsWire B t st u (origin B t st s)) (e .onto) (switch-reads s (e .within) (e .on))
+  row-reads w r (says (switch-copies s e)) (suc j) h = absurd (omega arith)
+  row-reads w r (says (open-lent o f)) j h = absurd (omega arith)
+  row-reads w r (says (no-switch-zero o f)) j h = absurd (omega arith)
+  row-reads w r (says (no-switch-one o f)) j h = absurd (omega arith)
+  row-reads w r (says (out-flip-flop T i l k q b)) j h = absurd (omega arith)
+  row-reads w r (says (out-lookup T i l k q b)) j h = rw (lookup-operand B st w T i j h, ← q) (out-reads T i j l k h b)
+  row-reads w r (says (lout-lookup T i l k q)) j h = rw (lookup-operand B st w T i j h, ← q) (lout-reads T i j l k h)
+  row-reads w r (says (cout-majority T i l k q b)) zero h = rw (← q) (cout-reads-in1 T i l k b)
+  row-reads w r (says (cout-majority T i l k q b)) (suc zero) h = rw (← q) (cout-reads-in2 T i l k b)
+  row-reads w r (says (cout-majority T i l k q b)) (suc (suc zero)) h = rw (← q) (cout-reads-carry T i l k b)
+  row-reads w r (says (cout-majority T i l k q b)) (suc (suc (suc j))) h = absurd (omega arith)
+  row-reads w r (says (cout-zero T i l k q b)) j h = absurd (omega arith)
+  row-reads w r (says (mux-one T l q b)) j h = absurd (omega arith)
+  row-reads w r (says (mux-copies T l q b c)) zero h = rw (← q) (mux-reads T l b c)
+  row-reads w r (says (mux-copies T l q b c)) (suc j) h = absurd (omega arith)
+  row-reads w r (says (mux-zero T l q b c)) j h = absurd (omega arith)
 
   arity-past : (w : ℕ) → ports B ≤ w → arityOf (rowAt (wireRows B t st) w) ≡ 0
   unfolding arityOf

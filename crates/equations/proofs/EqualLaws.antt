@@ -28,7 +28,8 @@ use Rattle.equations.proofs.DriveLaws.{out-drive, lout-drive, cout-driv
 use Rattle.equations.proofs.PortKindLaws.{open-zero, open-cen, open-lt, zero-lt}
 use Rattle.equations.proofs.RoleLaws.{Role, role-all, ofCell}
 use Rattle.equations.proofs.SwitchLaws.{target-lt, target-own}
-use Rattle.equations.proofs.RowReasons.{Why, why-none, why-switch, why-lent, why-zero, why-one, why-flop, why-out, why-lout, why-carry, why-no-carry, why-set, why-chain, why-unset, why, row-switch, row-port, row-cell}
+use Rattle.equations.specs.RowMeaning.{RowSays, switch-copies, open-lent, no-switch-zero, no-switch-one, out-flip-flop, out-lookup, lout-lookup, cout-majority, cout-zero, mux-one, mux-copies, mux-zero}
+use Rattle.equations.proofs.RowReasons.{Why, no-wire, says, why, row-switch, row-port, row-cell}
 use Rattle.equations.proofs.WireRowLaws.{graph, row-is, own-wire, wire-own, flop-row, out-row, lout-row, carry-row, no-carry-row, set-row, chain-row, unset-row}
 
 module _ (B : Block) (t st state lent v : List ℕ) where
@@ -41,31 +42,31 @@ module _ (B : Block) (t st state lent v : List ℕ) where
   module _ (m : Meets B t st state lent v) where
     holds : (w : ℕ) (r : Row) → Why B t st w r → w < ports B → wireOf B w ≡ w → getD v w 0 ≡ rowValue r state lent v
     unfolding rowValue operandOf
-    holds w r (why-none n) l own = absurd (n own)
-    holds w r (why-switch s h) l own = subst (λ (u : ℕ). getD v u 0 ≡ getD v (origin B t st s) 0) (h .onto) (m .switch s (h .within) (h .on))
-    holds w r (why-lent o f) l own =
+    holds w r (no-wire n) l own = absurd (n own)
+    holds w r (says (switch-copies s h)) l own = subst (λ (u : ℕ). getD v u 0 ≡ getD v (origin B t st s) 0) (h .onto) (m .switch s (h .within) (h .on))
+    holds w r (says (open-lent o f)) l own =
         let e : portOf (w / portsPerTile) (w % portsPerTile) ≡ w = omega arith in
         subst (λ (u : ℕ). Undriven B t st u → getD v u 0 ≡ getD lent u 0) (ap (wireOf B) e ∙ own)
         (m .open-wires (w / portsPerTile) (w % portsPerTile) (omega arith) o) f
-    holds w r (why-zero o f) l own =
+    holds w r (says (no-switch-zero o f)) l own =
         let e : portOf (w / portsPerTile) (w % portsPerTile) ≡ w = omega arith in
         subst (λ (u : ℕ). NoSwitch B t st u → getD v u 0 ≡ 0) (ap (wireOf B) e ∙ own) (m .zeros (w / portsPerTile) (w % portsPerTile) (omega arith) o) f
-    holds w r (why-one o f) l own =
+    holds w r (says (no-switch-one o f)) l own =
         let e : portOf (w / portsPerTile) cen ≡ w = omega arith in
         subst (λ (u : ℕ). NoSwitch B t st u → getD v u 0 ≡ 1) (ap (wireOf B) e ∙ own) (m .ones (w / portsPerTile) (omega arith)) f
-    holds w r (why-flop T i l h q b) lw own = subst (λ (u : ℕ). getD v u 0 ≡ getD state (8 * T + i) 0) q (m .out-flop T i l h b)
-    holds w r (why-out T i l h q b) lw own = subst (λ (u : ℕ). getD v u 0 ≡ looked B t st state lent v T i) q (m .out-look T i l h b)
-    holds w r (why-lout T i l h q) lw own = subst (λ (u : ℕ). getD v u 0 ≡ looked B t st state lent v T i) q (m .lout T i l h)
-    holds w r (why-carry T i l h q b) lw own =
+    holds w r (says (out-flip-flop T i l h q b)) lw own = subst (λ (u : ℕ). getD v u 0 ≡ getD state (8 * T + i) 0) q (m .out-flop T i l h b)
+    holds w r (says (out-lookup T i l h q b)) lw own = subst (λ (u : ℕ). getD v u 0 ≡ looked B t st state lent v T i) q (m .out-look T i l h b)
+    holds w r (says (lout-lookup T i l h q)) lw own = subst (λ (u : ℕ). getD v u 0 ≡ looked B t st state lent v T i) q (m .lout T i l h)
+    holds w r (says (cout-majority T i l h q b)) lw own =
         subst
         (λ (u : ℕ).
         getD v u 0
         ≡ majority (val B t st state lent v T (inPort i 1)) (val B t st state lent v T (inPort i 2)) (val B t st state lent v T (carryPort i)))
         q (m .cout-on T i l h b)
-    holds w r (why-no-carry T i l h q b) lw own = subst (λ (u : ℕ). getD v u 0 ≡ 0) q (m .cout-off T i l h b)
-    holds w r (why-set T l q b) lw own = subst (λ (u : ℕ). getD v u 0 ≡ 1) q (m .mux-set T l b)
-    holds w r (why-chain T l q b c) lw own = subst (λ (u : ℕ). getD v u 0 ≡ val B t st state lent v T carryIn) q (m .mux-chain T l b c)
-    holds w r (why-unset T l q b c) lw own = subst (λ (u : ℕ). getD v u 0 ≡ 0) q (m .mux-none T l b c)
+    holds w r (says (cout-zero T i l h q b)) lw own = subst (λ (u : ℕ). getD v u 0 ≡ 0) q (m .cout-off T i l h b)
+    holds w r (says (mux-one T l q b)) lw own = subst (λ (u : ℕ). getD v u 0 ≡ 1) q (m .mux-set T l b)
+    holds w r (says (mux-copies T l q b c)) lw own = subst (λ (u : ℕ). getD v u 0 ≡ val B t st state lent v T carryIn) q (m .mux-chain T l b c)
+    holds w r (says (mux-zero T l q b c)) lw own = subst (λ (u : ℕ). getD v u 0 ≡ 0) q (m .mux-none T l b c)
 
     pub meets-solves : SolvesRows
     meets-solves w l iw = holds w _ (why B t st w l) l (wire-own B t st w iw .1) ∙ ap (λ (r : Row). rowValue r state lent v) (sym (row-is B t st w l))

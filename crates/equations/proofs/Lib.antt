@@ -7,7 +7,7 @@ pub mod SourceLaws  -- contended-exact, contended-none-exact: ground 5. rows-fro
 pub mod Sourcing  -- sourced-start, -skip, -new, -lower, -higher, -end: the pass over the switches
 pub mod Example  -- sample-rows, looping-depends: the paper's sample
 pub mod WireRowLaws  -- row-is, rows-named: the list of rows, row by row
-pub mod RowReasons  -- why: the row of each wire, with the reason for it. row-switch, row-port, row-cell: the row that a sentence gives
+pub mod RowReasons  -- row-says: the row of each wire is the one of specs/RowMeaning.antt. row-switch, row-port, row-cell: the row that a sentence gives
 pub mod SwitchLaws  -- driver-ends, driver-none, driver-is: the switch that drives a wire. cell-free: none ends where a cell does
 pub mod DriveLaws  -- drive-wire: a wire's drive is that of each of its ports. join-drive: each join keeps it
 pub mod RoleLaws  -- role-all: what a port's drive says of the port. span-drive, input-drive: the drives of spans and inputs

@@ -19,7 +19,8 @@ use Rattle.equations.specs.declared.drives.Drive.the-variants.{Nothing, 
 use Rattle.equations.specs.Equations.{carryPort}
 use Rattle.equations.specs.Routed.{Driven}
 use Rattle.equations.specs.Drives.{driveOf}
-use Rattle.equations.specs.WireRows.{plainRow, inWire, driveRow}
+use Rattle.equations.specs.RowMeaning.{plainRow, inWire}
+use Rattle.equations.specs.WireRows.{driveRow}
 use Rattle.equations.specs.Sources.{rowFrom}
 use Rattle.equations.proofs.RoleLaws.{Role, role-all}
 

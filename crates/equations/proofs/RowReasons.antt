@@ -1,5 +1,5 @@
--- The row of a wire, with the reason for it (`Why`, `why`); and the other way round, the row that a sentence of the equations gives (`row-switch`,
--- `row-port`, `row-cell`). What is shown of every row goes by cases on the reason, and no test is looked at again.
+-- The computed row of a wire is the one of specs/RowMeaning.antt (`row-says`; `why` of any port); and the other way round, the row that a sentence of
+-- the equations gives (`row-switch`, `row-port`, `row-cell`). What is shown of every row goes by cases on the reason, and no test is looked at again.
 use Prim.Native.Nat.{ℕ, _+_, _*_, _%_, _≤_, _<_}
 use mathlib.Core.Path.{_≡_, refl, sym, _∙_, ap}
 use mathlib.Core.Bool.{Bool, true, false, cond}
@@ -26,7 +26,8 @@ use Rattle.equations.specs.Switches.{switches, origin, Ends, NoSwitch, N
 use Rattle.equations.specs.Routed.{Routed}
 use Rattle.equations.specs.Equations.{wire, ZeroPort, OpenPort, NoCell, Undriven}
 use Rattle.equations.specs.Drives.{driveOf}
-use Rattle.equations.specs.WireRows.{plainRow, lookupRow, majorityRow, driveRow, driver, rowOf}
+use Rattle.equations.specs.RowMeaning.{plainRow, lookupRow, majorityRow, RowSays, switch-copies, open-lent, no-switch-zero, no-switch-one, out-flip-flop, out-lookup, lout-lookup, cout-majority, cout-zero, mux-one, mux-copies, mux-zero}
+use Rattle.equations.specs.WireRows.{driveRow, driver, rowOf}
 use Rattle.equations.proofs.DriveLaws.{drive-wire, out-drive, lout-drive, cout-drive, mux-drive}
 use Rattle.equations.proofs.RoleLaws.{Role, role-all, ofCell}
 use Rattle.equations.proofs.SwitchLaws.{driver-ends, driver-none, no-driver, driver-is, cell-free}
@@ -55,20 +56,8 @@ module _ (B : Block) (t st : List ℕ) where
   -- ---- why it is that
 
   pub data Why (w : ℕ) : Row → Type 0 where
-    why-none : wireOf B w ≢ w → Why w zeroRow
-    why-switch : (s : ℕ) → Ends B t st s w → Why w (plainRow copyKind w (origin B t st s))
-    why-lent : OpenPort (w % portsPerTile) → Undriven B t st w → Why w (plainRow lentKind w 0)
-    why-zero : ZeroPort (w % portsPerTile) → NoSwitch B t st w → Why w (plainRow zeroKind w 0)
-    why-one : w % portsPerTile ≡ cen → NoSwitch B t st w → Why w (plainRow oneKind w 0)
-    why-flop : (T i : ℕ) → T < tiles B → i < 8 → wire B t st T (outPort i) ≡ w → flopOn st T i ≡ true → Why w (plainRow flipFlopKind w (8 * T + i))
-    why-out : (T i : ℕ) → T < tiles B → i < 8 → wire B t st T (outPort i) ≡ w → flopOn st T i ≡ false → Why w (lookupRow B st w T i)
-    why-lout : (T i : ℕ) → T < tiles B → i < 8 → wire B t st T (loutPort i) ≡ w → Why w (lookupRow B st w T i)
-    why-carry : (T i : ℕ) → T < tiles B → i < 8 → wire B t st T (coutPort i) ≡ w → carryOn st T i ≡ true → Why w (majorityRow B w T i)
-    why-no-carry : (T i : ℕ) → T < tiles B → i < 8 → wire B t st T (coutPort i) ≡ w → carryOn st T i ≡ false → Why w (plainRow zeroKind w 0)
-    why-set : (T : ℕ) → T < tiles B → wire B t st T carryInMux ≡ w → carrySet st T ≡ true → Why w (plainRow oneKind w 0)
-    why-chain : (T : ℕ) → T < tiles B → wire B t st T carryInMux ≡ w → carrySet st T ≡ false → chained st T ≡ true
-        → Why w (plainRow copyKind w (wire B t st T carryIn))
-    why-unset : (T : ℕ) → T < tiles B → wire B t st T carryInMux ≡ w → carrySet st T ≡ false → chained st T ≡ false → Why w (plainRow zeroKind w 0)
+    no-wire : wireOf B w ≢ w → Why w zeroRow
+    says : {r : Row} → RowSays B t st w r → Why w r
 
   no-cell : (w : ℕ) → driveOf B w ≡ Nothing → NoCell B t st w
   no-cell w e = record {
@@ -84,29 +73,29 @@ module _ (B : Block) (t st : List ℕ) where
           (ap ofCell (sym (ap (driveOf B) k) ∙ drive-wire B _ (port-of-lt B T q l lq) ∙ is) ∙ c)
           (ap ofCell e)
 
-  why-drive : (w : ℕ) → wireOf B w ≡ w → NoSwitch B t st w → (d : Drive) → driveOf B w ≡ d → Role B w (w % portsPerTile) d → Why w (driveRow B st w d)
+  drive-says : (w : ℕ) → wireOf B w ≡ w → NoSwitch B t st w → (d : Drive) → driveOf B w ≡ d → Role B w (w % portsPerTile) d → RowSays B t st w (driveRow B st w d)
   unfolding driveRow
-  why-drive w own free Nothing e r = why-lent r (record { no-switch = free; no-cell = no-cell w e })
-  why-drive w own free Low e r = why-zero r free
-  why-drive w own free High e r = why-one r free
-  why-drive w own free (CellOut T i) e r = go (flopOn st T i) refl
+  drive-says w own free Nothing e r = open-lent r (record { no-switch = free; no-cell = no-cell w e })
+  drive-says w own free Low e r = no-switch-zero r free
+  drive-says w own free High e r = no-switch-one r free
+  drive-says w own free (CellOut T i) e r = go (flopOn st T i) refl
     where
-      go : (b : Bool) → flopOn st T i ≡ b → Why w (cond b (plainRow flipFlopKind w (8 * T + i)) (lookupRow B st w T i))
-      go true q = why-flop T i (r .tile-lt) (r .cell-lt) (r .wire-same ∙ own) q
-      go false q = why-out T i (r .tile-lt) (r .cell-lt) (r .wire-same ∙ own) q
-  why-drive w own free (CellLout T i) e r = why-lout T i (r .tile-lt) (r .cell-lt) (r .wire-same ∙ own)
-  why-drive w own free (CellCout T i) e r = go (carryOn st T i) refl
+      go : (b : Bool) → flopOn st T i ≡ b → RowSays B t st w (cond b (plainRow flipFlopKind w (8 * T + i)) (lookupRow B st w T i))
+      go true q = out-flip-flop T i (r .tile-lt) (r .cell-lt) (r .wire-same ∙ own) q
+      go false q = out-lookup T i (r .tile-lt) (r .cell-lt) (r .wire-same ∙ own) q
+  drive-says w own free (CellLout T i) e r = lout-lookup T i (r .tile-lt) (r .cell-lt) (r .wire-same ∙ own)
+  drive-says w own free (CellCout T i) e r = go (carryOn st T i) refl
     where
-      go : (b : Bool) → carryOn st T i ≡ b → Why w (cond b (majorityRow B w T i) (plainRow zeroKind w 0))
-      go true q = why-carry T i (r .tile-lt) (r .cell-lt) (r .wire-same ∙ own) q
-      go false q = why-no-carry T i (r .tile-lt) (r .cell-lt) (r .wire-same ∙ own) q
-  why-drive w own free (CarryMux T) e r = go (carrySet st T) (chained st T) refl refl
+      go : (b : Bool) → carryOn st T i ≡ b → RowSays B t st w (cond b (majorityRow B w T i) (plainRow zeroKind w 0))
+      go true q = cout-majority T i (r .tile-lt) (r .cell-lt) (r .wire-same ∙ own) q
+      go false q = cout-zero T i (r .tile-lt) (r .cell-lt) (r .wire-same ∙ own) q
+  drive-says w own free (CarryMux T) e r = go (carrySet st T) (chained st T) refl refl
     where
       go : (a b : Bool) → carrySet st T ≡ a → chained st T ≡ b
-          → Why w (cond a (plainRow oneKind w 0) (cond b (plainRow copyKind w (wireOf B (portOf T carryIn))) (plainRow zeroKind w 0)))
-      go true b a q = why-set T (r .tile-lt) (r .wire-same ∙ own) a
-      go false true a q = why-chain T (r .tile-lt) (r .wire-same ∙ own) a q
-      go false false a q = why-unset T (r .tile-lt) (r .wire-same ∙ own) a q
+          → RowSays B t st w (cond a (plainRow oneKind w 0) (cond b (plainRow copyKind w (wireOf B (portOf T carryIn))) (plainRow zeroKind w 0)))
+      go true b a q = mux-one T (r .tile-lt) (r .wire-same ∙ own) a
+      go false true a q = mux-copies T (r .tile-lt) (r .wire-same ∙ own) a q
+      go false false a q = mux-zero T (r .tile-lt) (r .wire-same ∙ own) a q
 
   pub why : (w : ℕ) → w < ports B → Why w (rowOf B t st w)
   unfolding rowOf
@@ -115,6 +104,14 @@ module _ (B : Block) (t st : List ℕ) where
       go : (b : Bool) → eqb (wireOf B w) w ≡ b → (driver B t st w < switches B) ⊎ (switches B ≤ driver B t st w)
           → Why w
           (cond b (cond (ltb (driver B t st w) (switches B)) (plainRow copyKind w (origin B t st (driver B t st w))) (driveRow B st w (driveOf B w))) zeroRow)
-      go true e (inl d) = rw (lt-ltb _ _ d) (why-switch _ (driver-ends B t st w d))
-      go true e (inr d) = rw (le-ltb _ _ d) (why-drive w (eqb-true _ _ e) (driver-none B t st w d) (driveOf B w) refl (role-all B w l))
-      go false e s = why-none (eqb-false _ _ e)
+      go true e (inl d) = rw (lt-ltb _ _ d) (says (switch-copies _ (driver-ends B t st w d)))
+      go true e (inr d) = rw (le-ltb _ _ d) (says (drive-says w (eqb-true _ _ e) (driver-none B t st w d) (driveOf B w) refl (role-all B w l)))
+      go false e s = no-wire (eqb-false _ _ e)
+
+  -- the row of a wire is the one that its sentence gives
+  pub row-says : (w : ℕ) → w < ports B → wireOf B w ≡ w → RowSays B t st w (rowOf B t st w)
+  row-says w l own = go (rowOf B t st w) (why w l)
+    where
+      go : (r : Row) → Why w r → RowSays B t st w r
+      go r (no-wire n) = absurd (n own)
+      go r (says s) = s

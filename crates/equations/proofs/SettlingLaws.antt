@@ -29,7 +29,8 @@ use Rattle.equations.specs.Routed.{Routed}
 use Rattle.equations.specs.Equations.{Meets, NoLoop}
 use Rattle.equations.specs.WireRows.{wireRows}
 use Rattle.equations.specs.Settling.{blockList, runOf, Inputs, Settles}
-use Rattle.equations.proofs.RowReasons.{Why, why-none, why-switch, why-lent, why-zero, why-one, why-flop, why-out, why-lout, why-carry, why-no-carry, why-set, why-chain, why-unset, why}
+use Rattle.equations.specs.RowMeaning.{RowSays, switch-copies, open-lent, no-switch-zero, no-switch-one, out-flip-flop, out-lookup, lout-lookup, cout-majority, cout-zero, mux-one, mux-copies, mux-zero}
+use Rattle.equations.proofs.RowReasons.{Why, no-wire, says, why}
 use Rattle.equations.proofs.WireRowLaws.{graph, row-is, kind-past, own-wire, wire-own, rows-named}
 use Rattle.equations.proofs.EqualLaws.{meets-solves, solves-meets}
 use Rattle.equations.proofs.LoopLaws.{loop-exact}
@@ -37,19 +38,19 @@ use Rattle.equations.proofs.LoopLaws.{loop-exact}
 module _ (B : Block) (t st : List ℕ) where
   -- the cell of a flip-flop's row is one of the block's
   flop-cell : (w : ℕ) (r : Row) → Why B t st w r → r .kind ≡ flipFlopKind → r .a < 8 * tiles B
-  flop-cell w r (why-none n) e = absurd (omega arith)
-  flop-cell w r (why-switch s h) e = absurd (omega arith)
-  flop-cell w r (why-lent o f) e = absurd (omega arith)
-  flop-cell w r (why-zero o f) e = absurd (omega arith)
-  flop-cell w r (why-one o f) e = absurd (omega arith)
-  flop-cell w r (why-flop T i l h q b) e = omega arith
-  flop-cell w r (why-out T i l h q b) e = absurd (omega arith)
-  flop-cell w r (why-lout T i l h q) e = absurd (omega arith)
-  flop-cell w r (why-carry T i l h q b) e = absurd (omega arith)
-  flop-cell w r (why-no-carry T i l h q b) e = absurd (omega arith)
-  flop-cell w r (why-set T l q b) e = absurd (omega arith)
-  flop-cell w r (why-chain T l q b c) e = absurd (omega arith)
-  flop-cell w r (why-unset T l q b c) e = absurd (omega arith)
+  flop-cell w r (no-wire n) e = absurd (omega arith)
+  flop-cell w r (says (switch-copies s h)) e = absurd (omega arith)
+  flop-cell w r (says (open-lent o f)) e = absurd (omega arith)
+  flop-cell w r (says (no-switch-zero o f)) e = absurd (omega arith)
+  flop-cell w r (says (no-switch-one o f)) e = absurd (omega arith)
+  flop-cell w r (says (out-flip-flop T i l h q b)) e = omega arith
+  flop-cell w r (says (out-lookup T i l h q b)) e = absurd (omega arith)
+  flop-cell w r (says (lout-lookup T i l h q)) e = absurd (omega arith)
+  flop-cell w r (says (cout-majority T i l h q b)) e = absurd (omega arith)
+  flop-cell w r (says (cout-zero T i l h q b)) e = absurd (omega arith)
+  flop-cell w r (says (mux-one T l q b)) e = absurd (omega arith)
+  flop-cell w r (says (mux-copies T l q b c)) e = absurd (omega arith)
+  flop-cell w r (says (mux-zero T l q b c)) e = absurd (omega arith)
 
   flop-within : (w : ℕ) → rowAt (wireRows B t st) w .kind ≡ flipFlopKind → rowAt (wireRows B t st) w .a < 8 * tiles B
   flop-within w e =

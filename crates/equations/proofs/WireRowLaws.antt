@@ -21,8 +21,9 @@ use Rattle.netlist.specs.Rows.{rowLength, rowAt, graphOf}
 use Rattle.netlist.proofs.RowLaws.{rows-length, row-rows}
 use Rattle.equations.specs.declared.drives.Drive.the-variants.{CellOut, CellLout, CellCout, CarryMux}
 use Rattle.equations.specs.Tiles.{carryOn, flopOn, carrySet, chained}
-use Rattle.equations.specs.WireRows.{plainRow, lookupRow, majorityRow, driveRow, rowOf, wireRows}
-use Rattle.equations.proofs.RowReasons.{Why, why-none, why-switch, why-lent, why-zero, why-one, why-flop, why-out, why-lout, why-carry, why-no-carry, why-set, why-chain, why-unset, why}
+use Rattle.equations.specs.RowMeaning.{plainRow, lookupRow, majorityRow, RowSays, switch-copies, open-lent, no-switch-zero, no-switch-one, out-flip-flop, out-lookup, lout-lookup, cout-majority, cout-zero, mux-one, mux-copies, mux-zero}
+use Rattle.equations.specs.WireRows.{driveRow, rowOf, wireRows}
+use Rattle.equations.proofs.RowReasons.{Why, no-wire, says, why}
 
 -- ---- the rows of the outputs of cells, by the cell's settings
 
@@ -82,19 +83,19 @@ module _ (B : Block) (t st : List ℕ) where
   -- ---- which indices are wires
 
   row-kind : (w : ℕ) (r : Row) → Why B t st w r → wireOf B w ≡ w → r .kind ≢ 0
-  row-kind w r (why-none n) own e = n own
-  row-kind w r (why-switch s h) own e = absurd (omega arith)
-  row-kind w r (why-lent o f) own e = absurd (omega arith)
-  row-kind w r (why-zero o f) own e = absurd (omega arith)
-  row-kind w r (why-one o f) own e = absurd (omega arith)
-  row-kind w r (why-flop T i l h q b) own e = absurd (omega arith)
-  row-kind w r (why-out T i l h q b) own e = absurd (omega arith)
-  row-kind w r (why-lout T i l h q) own e = absurd (omega arith)
-  row-kind w r (why-carry T i l h q b) own e = absurd (omega arith)
-  row-kind w r (why-no-carry T i l h q b) own e = absurd (omega arith)
-  row-kind w r (why-set T l q b) own e = absurd (omega arith)
-  row-kind w r (why-chain T l q b c) own e = absurd (omega arith)
-  row-kind w r (why-unset T l q b c) own e = absurd (omega arith)
+  row-kind w r (no-wire n) own e = n own
+  row-kind w r (says (switch-copies s h)) own e = absurd (omega arith)
+  row-kind w r (says (open-lent o f)) own e = absurd (omega arith)
+  row-kind w r (says (no-switch-zero o f)) own e = absurd (omega arith)
+  row-kind w r (says (no-switch-one o f)) own e = absurd (omega arith)
+  row-kind w r (says (out-flip-flop T i l h q b)) own e = absurd (omega arith)
+  row-kind w r (says (out-lookup T i l h q b)) own e = absurd (omega arith)
+  row-kind w r (says (lout-lookup T i l h q)) own e = absurd (omega arith)
+  row-kind w r (says (cout-majority T i l h q b)) own e = absurd (omega arith)
+  row-kind w r (says (cout-zero T i l h q b)) own e = absurd (omega arith)
+  row-kind w r (says (mux-one T l q b)) own e = absurd (omega arith)
+  row-kind w r (says (mux-copies T l q b c)) own e = absurd (omega arith)
+  row-kind w r (says (mux-zero T l q b c)) own e = absurd (omega arith)
 
   pub own-wire : (w : ℕ) → w < ports B → wireOf B w ≡ w → graph .wire w ≡ true
   own-wire w l e = rw (row-is w l, ne-eqb (rowOf B t st w .kind) 0 (row-kind w _ (why B t st w l) e))
@@ -109,19 +110,19 @@ module _ (B : Block) (t st : List ℕ) where
   -- ---- a row names its wire
 
   row-names : (w : ℕ) (r : Row) → Why B t st w r → wireOf B w ≡ w → r .wire ≡ w
-  row-names w r (why-none n) own = absurd (n own)
-  row-names w r (why-switch s h) own = refl
-  row-names w r (why-lent o f) own = refl
-  row-names w r (why-zero o f) own = refl
-  row-names w r (why-one o f) own = refl
-  row-names w r (why-flop T i l h q b) own = refl
-  row-names w r (why-out T i l h q b) own = refl
-  row-names w r (why-lout T i l h q) own = refl
-  row-names w r (why-carry T i l h q b) own = refl
-  row-names w r (why-no-carry T i l h q b) own = refl
-  row-names w r (why-set T l q b) own = refl
-  row-names w r (why-chain T l q b c) own = refl
-  row-names w r (why-unset T l q b c) own = refl
+  row-names w r (no-wire n) own = absurd (n own)
+  row-names w r (says (switch-copies s h)) own = refl
+  row-names w r (says (open-lent o f)) own = refl
+  row-names w r (says (no-switch-zero o f)) own = refl
+  row-names w r (says (no-switch-one o f)) own = refl
+  row-names w r (says (out-flip-flop T i l h q b)) own = refl
+  row-names w r (says (out-lookup T i l h q b)) own = refl
+  row-names w r (says (lout-lookup T i l h q)) own = refl
+  row-names w r (says (cout-majority T i l h q b)) own = refl
+  row-names w r (says (cout-zero T i l h q b)) own = refl
+  row-names w r (says (mux-one T l q b)) own = refl
+  row-names w r (says (mux-copies T l q b c)) own = refl
+  row-names w r (says (mux-zero T l q b c)) own = refl
 
   pub rows-named : (w : ℕ) → graph .wire w ≡ true → rowAt (wireRows B t st) w .wire ≡ w
   rows-named w h =

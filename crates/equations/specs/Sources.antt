@@ -16,7 +16,8 @@ use Rattle.netlist.specs.Kinds.{copyKind}
 use Rattle.netlist.specs.Rows.{zeroRow, rowsOf}
 use Rattle.equations.specs.Switches.{switches, origin}
 use Rattle.equations.specs.Drives.{driveOf}
-use Rattle.equations.specs.WireRows.{plainRow, driveRow, endsOn, driverIn}
+use Rattle.equations.specs.RowMeaning.{plainRow}
+use Rattle.equations.specs.WireRows.{driveRow, endsOn, driverIn}
 
 -- the row of port number w, from a map of sources: one more than the wire that a wire's switch comes from, 0 where it has none
 unfoldable pub rowFrom : Block → List ℕ → List ℕ → ℕ → Row

@@ -1,5 +1,5 @@
--- The row of each wire, computed (document 01, 'The list and a step': kinds and operands). proofs/EqualLaws.antt shows that values solve the
--- rows exactly if they meet the equations.
+-- The row of each wire, computed. `row-says` (proofs/RowReasons.antt) shows that it is the row that specs/RowMeaning.antt has; proofs/EqualLaws.antt that
+-- values solve the rows exactly if they meet the equations.
 use Prim.Native.Nat.{ℕ, _+_, _*_}
 use mathlib.Core.Bool.{Bool, cond, _&&_}
 use mathlib.Core.List.{List}
@@ -8,33 +8,17 @@ use Rattle.lists.specs.Search.{first}
 use Rattle.ports.specs.declared.size.Block.{Block}
 use Rattle.ports.specs.Lengths.{ports}
 use Rattle.ports.specs.Block.{tilePort}
-use Rattle.ports.specs.PortIndex.{inPort, carryIn}
+use Rattle.ports.specs.PortIndex.{carryIn}
 use Rattle.fabric.specs.Wire.{wireOf}
 use Rattle.netlist.specs.declared.row.Row.{Row}
-use Rattle.netlist.specs.Kinds.{lentKind, zeroKind, oneKind, flipFlopKind, copyKind, lookupKind, majorityKind}
+use Rattle.netlist.specs.Kinds.{lentKind, zeroKind, oneKind, flipFlopKind, copyKind}
 use Rattle.netlist.specs.Rows.{zeroRow, rowsOf}
 use Rattle.equations.specs.declared.drives.Drive.{Drive}
 use Rattle.equations.specs.declared.drives.Drive.the-variants.{Nothing, Low, High, CellOut, CellLout, CellCout, CarryMux}
-use Rattle.equations.specs.Tiles.{tableOf, carryOn, flopOn, carrySet, chained}
+use Rattle.equations.specs.Tiles.{carryOn, flopOn, carrySet, chained}
 use Rattle.equations.specs.Switches.{switches, enabled, target, origin}
-use Rattle.equations.specs.Equations.{carryPort}
+use Rattle.equations.specs.RowMeaning.{plainRow, lookupRow, majorityRow}
 use Rattle.equations.specs.Drives.{driveOf}
-
--- a row with no table and at most one operand: "unused numbers are 0"
-abbrev pub plainRow : ℕ → ℕ → ℕ → Row
-plainRow kind w a = record { kind = kind; wire = w; a = a; b = 0; c = 0; d = 0; table = 0 }
-
-abbrev pub inWire : Block → ℕ → ℕ → ℕ → ℕ
-inWire B T i j = wireOf B (tilePort B T (inPort i j))
-
--- "6 lookup (in_0 first)", "7 majority (in_1, in_2, carry-in)"
-abbrev pub lookupRow : Block → List ℕ → ℕ → ℕ → ℕ → Row
-lookupRow B st w T i =
-    record { kind = lookupKind; wire = w; a = inWire B T i 0; b = inWire B T i 1; c = inWire B T i 2; d = inWire B T i 3; table = tableOf st T i }
-
-abbrev pub majorityRow : Block → ℕ → ℕ → ℕ → Row
-majorityRow B w T i =
-    record { kind = majorityKind; wire = w; a = inWire B T i 1; b = inWire B T i 2; c = wireOf B (tilePort B T (carryPort i)); d = 0; table = 0 }
 
 -- the row of wire w where no switch ends on it; "4 flip-flop (operand 1 is 8t + i)"
 unfoldable pub driveRow : Block → List ℕ → ℕ → Drive → Row

@@ -22,7 +22,7 @@ use ports::lengths::MAX_POSITIONS;
 const PATTERNS: usize = 256;
 
 // Entry e of group g, by itself and with the entries before it, whose patterns are those that `seen` has.
-pub fn entry_ok(table: &[u16], g: usize, e: usize, seen: &mut [bool; PATTERNS]) -> bool
+fn entry_ok(table: &[u16], g: usize, e: usize, seen: &mut [bool; PATTERNS]) -> bool
     requires { ⌜ (length (now table) ≡ tableLength) × (g < maxGroups) × (e < entryCount logicTile (now table) g) ×
         (widthOf logicTile (now table) g ≤ maxPositions) × (entryCount logicTile (now table) g ≤ maxEntries) × Marked logicTile
         (now table) g e (now seen) ⌝ }

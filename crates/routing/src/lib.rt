@@ -3,8 +3,8 @@
 //
 // A function's `requires` is the table's exact length and indices that are in range; `rules::faulty_part` asks for the length alone.
 pub mod cells;
-pub mod claims;
+mod claims;
 pub mod ends;
-pub mod groups;
+mod groups;
 pub mod rules;
 pub mod table;

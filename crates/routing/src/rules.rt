@@ -1,6 +1,6 @@
 // Ground 3: the first part of the table that breaks a rule (document 01, 'The routing table', 'Grounds for a no').
 ghost use mathlib.Core.Path.{_≡_};
-ghost use mathlib.Core.Bool.{true};
+ghost use mathlib.Core.Bool.{true, false};
 ghost use Prim.Native.Nat.{_+_, _<_};
 ghost use lib.ListN.{length};
 ghost use Rattle.lists.specs.Tables.{zeros};
@@ -86,16 +86,23 @@ fn check_parts(table: &[u16], own: &mut [u16]) -> usize
 }
 
 // The first part of the table that breaks a rule, or the number of its parts; and, of a table that breaks none, the map of the
-// tile's positions to the slots that claim them, whatever `own` held.
+// tile's positions to the slots that claim them, whatever `own` held. Of any other table `own` is cleared.
 // Rules out: refusing every table; a position claimed twice let through; a later part named than the first.
 pub fn check_table(table: &[u16], own: &mut [u16]) -> usize
     requires { ⌜ (length (now table) ≡ tableLength) × (length (now own) ≡ logicTile .positions) ⌝ }
     ensures part { λ r. ⌜ r ≡ faultyPart logicTile (now (table .entry)) ⌝ }
     ensures map { λ r. ⌜ (tableOk logicTile (now (table .entry)) ≡ true → TableOwned logicTile (now (table .entry))
         (slotCount logicTile) (now (own .exit))) ⌝ }
+    ensures cleared { λ r. ⌜ (tableOk logicTile (now (table .entry)) ≡ false → now (own .exit) ≡ zeros (logicTile .positions)) ⌝ }
 {
     lists::clear(own);
-    check_parts(table, own)
+    let part = check_parts(table, own);
+    let parts = 2 + group_count(table);
+    if part == parts {
+        return part;
+    }
+    lists::clear(own);
+    part
 }
 
 // Ground 3's place for callers that need no map: the first part of the table that breaks a rule, or the number of its parts.

@@ -19,7 +19,7 @@ use refusal::Answer;
 use refusal::Refusal;
 
 mod checked;
-pub mod checks;
+mod checks;
 pub mod lengths;
 
 // One step. Grounds 1, 2, 3, 9, 12, 10, in this order (`stepAnswer`). The outputs are values and next; the work room is wires, own,

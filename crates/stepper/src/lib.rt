@@ -17,7 +17,7 @@ use ports::size::Block;
 pub mod clock;
 pub mod settle;
 
-// What a step writes: the list is run on before and on after, both with the old state.
+// What a step writes: the list is run on before and on after, both with the old state. `first` and `second` have the wires' values of the two runs.
 // Rules out: the after-run with the new state, or left out; a step that repeats an earlier one.
 pub fn write_step(
     b: Block,
@@ -40,6 +40,8 @@ pub fn write_step(
     ensures next { λ r. ⌜ now (next .exit) ≡ nextStates b (now (settings .entry))
         (settledBy b (now (list .entry)) (now (state .entry)) (now (before .entry)))
         (settledBy b (now (list .entry)) (now (state .entry)) (now (after .entry))) (now (state .entry)) ⌝ }
+    ensures first { λ r. ⌜ now (first .exit) ≡ settledBy b (now (list .entry)) (now (state .entry)) (now (before .entry)) ⌝ }
+    ensures second { λ r. ⌜ now (second .exit) ≡ settledBy b (now (list .entry)) (now (state .entry)) (now (after .entry)) ⌝ }
 {
     let count = count_wires(own);
     settle(b, list, count, state, before, first);

@@ -1,95 +1,55 @@
--- Demand 3 for every block whose table and settings passed their checks (`Routed`). Main laws: `loop-exactly`, `demand3`, `step-means`.
--- Assumes nothing.
+-- Demand 3, closed: `demand3`. Assumes nothing.
 use Prim.Native.Nat.{ℕ}
-use mathlib.Core.Path.{_≡_, refl, subst}
+use mathlib.Core.Path.{_≡_, sym, _∙_}
+use mathlib.Core.Logic.{_↔_}
 use mathlib.Core.List.{List}
-use native.Mathlib.Omega.{arith}
-use Rattle.lists.specs.Tables.{zeros}
-use Rattle.lists.proofs.TableLaws.{zeros-length}
-use Rattle.refusal.specs.declared.Refusal.{Refusal}
 use Rattle.refusal.specs.declared.Refusal.the-variants.{Loop}
 use Rattle.ports.specs.declared.size.Block.{Block}
-use Rattle.ports.specs.Lengths.{ports}
-use Rattle.fabric.specs.Count.{wires}
-use Rattle.netlist.specs.Order.{AllListed}
-use Rattle.equations.specs.Equations.{Depends}
-use Rattle.equations.specs.Routed.{Routed}
-use Rattle.equations.specs.Settling.{blockList, Inputs, Settles}
-use Rattle.equations.proofs.WireRowLaws.{graph}
-use Rattle.equations.proofs.LoopLaws.{loop-exact}
-use Rattle.equations.proofs.SettlingLaws.{settles}
-use Rattle.block.specs.declared.Built.{Built}
+use Rattle.equations.specs.Equations.{Depends, LowestLooped}
 use Rattle.block.specs.declared.Built.the-variants.{Listed, Refused}
+use Rattle.block.specs.declared.lengths.RoomLent.{RoomLent}
+use Rattle.block.specs.Lengths.{buildLent}
 use Rattle.block.specs.Building.{listAnswer}
-use Rattle.block.specs.Meaning.{Accepted, ListSays, ListNo, contention, disabled-carry, loop, cell-clock}
-use Rattle.block.proofs.MeaningLaws.{list-says}
-use Rattle.stepper.specs.Settling.{settledBy, portValues, badRow}
-use Rattle.stepper.specs.Clocking.{nextStates}
-use Rattle.theorem.specs.Demand3.{LoopExactly, OnlyChoice, Demand3, StepMeans}
-use Rattle.theorem.proofs.OwnListLaws.{own-list-passes}
-use Rattle.theorem.proofs.ListingLaws.{listing}
+use Rattle.block.specs.Meaning.{Readable, ListNo, loop, BuildNo, unlisted}
+use Rattle.block.proofs.MeaningLaws.{build-says}
+use Rattle.theorem.specs.Calls.{built, settingsRead}
+use Rattle.theorem.specs.Demand3.{PassesSix, AcceptedBlock, Demand3}
+use Rattle.theorem.proofs.ReadableLaws.{readable-of-four, readable-routed, readable-built}
+use Rattle.theorem.proofs.AcceptedLaws.{list-loop-exactly, only-choice, own-listing}
+use Rattle.theorem.proofs.StepDone.{step-done, step-meant}
 
-module _ (B : Block) (t st : List ℕ) (ok : Routed B t st) where
-  says : ListSays B t st (listAnswer B t st)
-  says = list-says B t st ok
+module _ (B : Block) (t bits settings : List ℕ) (room : RoomLent) where
+  abbrev st : List ℕ
+  st = settingsRead B t bits
 
-  -- "Each block that passes checks 1 to 6 [..] is refused as a loop [..] exactly if some wire depends on itself."
-  pub loop-exactly : LoopExactly B t st
-  loop-exactly free unread = (λ r. (r .0, looped (r .0) (subst (ListSays B t st) (r .1) says)), λ d. go (d .0) (d .1) (listAnswer B t st) says refl)
+  loop-exactly : PassesSix B t bits settings room
+      → ((w : ℕ) × (built B t bits settings room ≡ Refused (Loop w))) ↔ ((w : ℕ) × Depends B t (settingsRead B t bits) w w)
+  loop-exactly p =
+      let R = readable-of-four B t bits settings room (p .passes-four) in
+      let e = readable-built B t bits settings room R in
+      let both = list-loop-exactly B t st (readable-routed B t bits settings room R) (p .no-contention) (p .no-carry) in
+      (λ r. both .0 (r .0, sym e ∙ r .1), λ d. let r = both .1 d in (r .0, e ∙ r .1))
+
+  loop-lowest : (w : ℕ) → built B t bits settings room ≡ Refused (Loop w) → LowestLooped B t (settingsRead B t bits) w
+  loop-lowest w e = said w (build-says B t bits settings room (Refused (Loop w)) (sym e))
     where
-      looped : (w : ℕ) → ListNo B t st (Loop w) → Depends B t st w w
-      looped w (loop v f u s) = s .here
+      listed : (x : ℕ) → ListNo B t st (Loop x) → LowestLooped B t st x
+      listed x (loop v f u s) = s
 
-      no : (w : ℕ) → Depends B t st w w → (refusal : Refusal) → ListNo B t st refusal → listAnswer B t st ≡ Refused refusal
-          → (v : ℕ) × (listAnswer B t st ≡ Refused (Loop v))
-      no w d refusal (contention v s) e = absurd (free v (s .here))
-      no w d refusal (disabled-carry v f s) e = absurd (unread v (s .here))
-      no w d refusal (loop v f u s) e = (v, e)
-      no w d refusal (cell-clock T f u straight s) e = absurd (straight w d)
+      said : (x : ℕ) → BuildNo B t bits (buildLent t bits settings room) (Loop x) → LowestLooped B t st x
+      said x (unlisted refusal R s) = listed x s
 
-      go : (w : ℕ) → Depends B t st w w → (a : Built) → ListSays B t st a → listAnswer B t st ≡ a
-          → (v : ℕ) × (listAnswer B t st ≡ Refused (Loop v))
-      go w d (Listed rows) s e = absurd (s .1 .no-loop w d)
-      go w d (Refused refusal) s e = no w d refusal s e
+  accepted : (rows : ℕ) → built B t bits settings room ≡ Listed rows → AcceptedBlock B t bits rows
+  accepted rows e =
+      let R : Readable B t bits (buildLent t bits settings room) = build-says B t bits settings room (Listed rows) (sym e) .0 in
+      let ok = readable-routed B t bits settings room R in
+      let listed : listAnswer B t st ≡ Listed rows = sym (readable-built B t bits settings room R) ∙ e in
+      record {
+        listing = own-listing B t st ok rows listed;
+        settles = only-choice B t st ok rows listed;
+        step-taken = step-done B t bits settings room R rows listed;
+        step-means = step-meant B t bits settings room R rows listed;
+      }
 
-  -- ---- an accepted block
-
-  module _ (rows : ℕ) (listed : listAnswer B t st ≡ Listed rows) where
-    told : (rows ≡ wires B) × Accepted B t st
-    told = subst (ListSays B t st) listed says
-
-    all : AllListed (graph B t st) (ports B)
-    all = loop-exact B t st ok (told .1 .no-contention) .1 (told .1 .no-loop)
-
-    found : Settles B t st
-    found = settles B t st ok (told .1 .no-contention) (told .1 .no-loop)
-
-    -- ground 12 does not refuse a step with the block's own list
-    pub own-passes : badRow B (blockList B t st) ≡ ports B
-    own-passes = own-list-passes B t st all
-
-    only-choice : (state lent : List ℕ) → Inputs B state lent → OnlyChoice B t st state lent (settledBy B (blockList B t st) state lent)
-    unfolding settledBy
-    only-choice state lent h =
-        let z = zeros-length (ports B) in
-        record {
-          meets = found .meets state lent (zeros (ports B)) (omega arith);
-          bits = found .bits state lent (zeros (ports B)) h (omega arith);
-          only = λ x p l ne. found .others-break state lent (zeros (ports B)) x (omega arith) p l ne;
-        }
-
-    pub demand3 : Demand3 B t st rows
-    demand3 = record { accepted = listed; listing = listing B t st ok (told .1 .no-contention) all rows (told .0); settles = only-choice }
-
-    -- the values and the next state that `step` promises
-    pub step-means : (state before after : List ℕ) → Inputs B state before → Inputs B state after
-        → StepMeans B t st state before after (portValues B (settledBy B (blockList B t st) state before))
-        (nextStates B st (settledBy B (blockList B t st) state before) (settledBy B (blockList B t st) state after) state)
-    step-means state before after hb ha = record {
-      b = settledBy B (blockList B t st) state before;
-      a = settledBy B (blockList B t st) state after;
-      one-before = only-choice state before hb;
-      one-after = only-choice state after ha;
-      written = refl;
-      moved = refl;
-    }
+pub demand3 : Demand3
+demand3 = record { loop-exactly = loop-exactly; loop-lowest = loop-lowest; accepted = accepted }

@@ -1,8 +1,11 @@
--- The theorem of demand 3.
-pub mod Demand3Laws  -- loop-exactly, demand3, step-means: the sentences of demand 3, for every block
+-- The theorems of the three demands, and what they rest on.
+pub mod Demand2Laws  -- demand2: demand 2, closed
+pub mod Demand3Laws  -- demand3: demand 3, closed
+pub mod ReadableLaws  -- readable-of-four, readable-built, readable-routed: what checks 1 to 4 show
+pub mod FightLaws  -- fight-exactly, fight-lowest, follow-fight-exactly: fights, over the answers of `build` and `follow`
+pub mod AcceptedLaws  -- list-loop-exactly, only-choice, own-passes, step-means: of settings that passed their checks
+pub mod StepDone  -- step-done, step-meant: a step with an accepted block's own settings and list
 pub mod StepUnique  -- step-unique: what a step gives is determined by the equations
-pub mod StepDone  -- step-done: a step with an accepted block's own list is not refused
 pub mod ListingLaws  -- listing: one row for each wire, in document 01's order
 pub mod OrderLowest  -- order-lowest: the order in the paper's words
 pub mod OwnListLaws  -- own-list-passes: ground 12 lets a block's own list pass
-pub mod CallLaws  -- built-loop-exactly, built-demand3, step-meant: the same over the answers that `build` and `step` promise

@@ -19,12 +19,12 @@ use Rattle.netlist.proofs.MarkLaws.{listed-set-same, listed-set-other, listed-s
 use Rattle.netlist.proofs.ReadyLaws.{ready-false-reads, order-from-step, order-from-end}
 
 -- wire v is one of the first k of l
-abbrev pub Among : List ℕ → ℕ → ℕ → Type 0
-Among l k v = (i : ℕ) × (i < k) × (getD l i 0 ≡ v)
+abbrev pub Ahead : List ℕ → ℕ → ℕ → Type 0
+Ahead l k v = (i : ℕ) × (i < k) × (getD l i 0 ≡ v)
 
 -- it is marked, or one of these
 abbrev Came : List ℕ → List ℕ → ℕ → ℕ → Type 0
-Came m l k v = (listed m v ≡ true) ⊎ Among l k v
+Came m l k v = (listed m v ≡ true) ⊎ Ahead l k v
 
 module _ (g : Graph) (n : ℕ) where
   abbrev Lowest : List ℕ → List ℕ → Type 0
@@ -65,7 +65,7 @@ module _ (g : Graph) (n : ℕ) where
       (λ (h : n ≤ next g n m). rw (order-from-end g n m (suc k) h) (λ j l. absurd (omega arith))) (lt-or-le (next g n m) n)
 
   pub order-lowest : (k : ℕ) → k < length (order g n) → (v : ℕ) → v < getD (order g n) k 0 → g .wire v ≡ true
-      → Among (order g n) k v ⊎ ((d : ℕ) × Reads g v d × (Among (order g n) k d → ⊥))
+      → Ahead (order g n) k v ⊎ ((d : ℕ) × Reads g v d × (Ahead (order g n) k d → ⊥))
   unfolding order
   order-lowest k l v lv iv =
       ⊎-elim (λ c. inl (⊎-elim (λ t. clash t (zeros-unlisted n v)) (λ s. s) c)) (λ r. inr (r .0, r .1, λ s. r .2 (inr s)))

@@ -22,9 +22,10 @@ use Rattle.netlist.specs.Checking.{uses, RowGood, RowStands}
 use Rattle.netlist.proofs.OrderLaws.{order-placed}
 use Rattle.netlist.proofs.ListLaws.{list-row, list-row-past, list-wire}
 use Rattle.netlist.proofs.CheckingLaws.{first-bad-exact, first-bad-unique}
-use Rattle.equations.specs.WireRows.{plainRow, lookupRow, majorityRow, rowOf, wireRows}
+use Rattle.equations.specs.RowMeaning.{plainRow, lookupRow, majorityRow, RowSays, switch-copies, open-lent, no-switch-zero, no-switch-one, out-flip-flop, out-lookup, lout-lookup, cout-majority, cout-zero, mux-one, mux-copies, mux-zero}
+use Rattle.equations.specs.WireRows.{rowOf, wireRows}
 use Rattle.equations.specs.Settling.{blockList}
-use Rattle.equations.proofs.RowReasons.{Why, why-none, why-switch, why-lent, why-zero, why-one, why-flop, why-out, why-lout, why-carry, why-no-carry, why-set, why-chain, why-unset, why}
+use Rattle.equations.proofs.RowReasons.{Why, no-wire, says, why}
 use Rattle.equations.proofs.WireRowLaws.{graph, row-is, wire-own, rows-named}
 use Rattle.equations.proofs.SettlingLaws.{count-wires, block-fits}
 use Rattle.stepper.specs.Settling.{wireMarks, badRow}
@@ -76,19 +77,19 @@ module _ (B : Block) (st : List ℕ) (w T i : ℕ) where
 module _ (B : Block) (t st : List ℕ) where
   shaped : (w : ℕ) (r : Row) → Why B t st w r → Shaped r
   unfolding arityOf
-  shaped w r (why-none n) = plain-shaped 0 0 0 (omega arith) (λ u. refl)
-  shaped w r (why-switch s h) = plain-shaped _ _ _ (omega arith) (λ u. clash refl u)
-  shaped w r (why-lent o f) = plain-shaped _ _ _ (omega arith) (λ u. refl)
-  shaped w r (why-zero o f) = plain-shaped _ _ _ (omega arith) (λ u. refl)
-  shaped w r (why-one o f) = plain-shaped _ _ _ (omega arith) (λ u. refl)
-  shaped w r (why-flop T i l h q b) = plain-shaped _ _ _ (omega arith) (λ u. clash refl u)
-  shaped w r (why-out T i l h q b) = lookup-shaped B st w T i
-  shaped w r (why-lout T i l h q) = lookup-shaped B st w T i
-  shaped w r (why-carry T i l h q b) = majority-shaped B st w T i
-  shaped w r (why-no-carry T i l h q b) = plain-shaped _ _ _ (omega arith) (λ u. refl)
-  shaped w r (why-set T l q b) = plain-shaped _ _ _ (omega arith) (λ u. refl)
-  shaped w r (why-chain T l q b c) = plain-shaped _ _ _ (omega arith) (λ u. clash refl u)
-  shaped w r (why-unset T l q b c) = plain-shaped _ _ _ (omega arith) (λ u. refl)
+  shaped w r (no-wire n) = plain-shaped 0 0 0 (omega arith) (λ u. refl)
+  shaped w r (says (switch-copies s h)) = plain-shaped _ _ _ (omega arith) (λ u. clash refl u)
+  shaped w r (says (open-lent o f)) = plain-shaped _ _ _ (omega arith) (λ u. refl)
+  shaped w r (says (no-switch-zero o f)) = plain-shaped _ _ _ (omega arith) (λ u. refl)
+  shaped w r (says (no-switch-one o f)) = plain-shaped _ _ _ (omega arith) (λ u. refl)
+  shaped w r (says (out-flip-flop T i l h q b)) = plain-shaped _ _ _ (omega arith) (λ u. clash refl u)
+  shaped w r (says (out-lookup T i l h q b)) = lookup-shaped B st w T i
+  shaped w r (says (lout-lookup T i l h q)) = lookup-shaped B st w T i
+  shaped w r (says (cout-majority T i l h q b)) = majority-shaped B st w T i
+  shaped w r (says (cout-zero T i l h q b)) = plain-shaped _ _ _ (omega arith) (λ u. refl)
+  shaped w r (says (mux-one T l q b)) = plain-shaped _ _ _ (omega arith) (λ u. refl)
+  shaped w r (says (mux-copies T l q b c)) = plain-shaped _ _ _ (omega arith) (λ u. clash refl u)
+  shaped w r (says (mux-zero T l q b c)) = plain-shaped _ _ _ (omega arith) (λ u. refl)
 
   -- ---- every row stands where it does
 

@@ -13,7 +13,7 @@ use Rattle.ports.specs.PortIndex.{clk, cen, sR, inPort}
 use Rattle.ports.proofs.BlockLaws.{port-of-lt}
 use Rattle.stepper.specs.Settling.{portValue, portValues}
 use Rattle.stepper.specs.Clocking.{valueAt, lookupAt, nextCell, nextStates}
-use Rattle.theorem.specs.Demand3.{OnlyChoice, StepMeans}
+use Rattle.theorem.specs.Choice.{OnlyChoice, StepMeans}
 
 -- values that agree at every port
 abbrev Same : Block → List ℕ → List ℕ → Type 0

@@ -1,65 +1,57 @@
--- Demand 3, sentence by sentence, over the definitions that `build` and `step` promise. proofs/Demand3Laws.antt proves it for every block.
-use Prim.Native.Nat.{ℕ, _<_, _≤_}
+-- Demand 3, sentence by sentence, over the answers of `build`, `read` and `step`. Proved, with no other hypothesis, by `demand3` (proofs/Demand3Laws.antt).
+use Prim.Native.Nat.{ℕ}
 use mathlib.Core.Path.{_≡_}
-use mathlib.Core.Logic.{_⊎_, _↔_, _≢_}
+use mathlib.Core.Logic.{_↔_}
 use mathlib.Core.List.{List}
 use Rattle.refusal.specs.declared.Refusal.the-variants.{Loop}
+use Rattle.refusal.specs.declared.Answer.the-variants.{Done}
 use Rattle.ports.specs.declared.size.Block.{Block}
-use Rattle.ports.specs.Lengths.{ports}
-use Rattle.fabric.specs.Wire.{wireOf}
-use Rattle.fabric.specs.Count.{wires}
-use Rattle.netlist.specs.Rows.{rowAt, zeroRow}
-use Rattle.netlist.specs.Running.{Earlier}
 use Rattle.equations.specs.Switches.{NoContention}
-use Rattle.equations.specs.Equations.{Meets, ReadsWire, Depends}
-use Rattle.equations.specs.Settling.{blockList, Inputs}
+use Rattle.equations.specs.Equations.{Depends, LowestLooped}
+use Rattle.equations.specs.Settling.{Inputs}
 use Rattle.block.specs.declared.Built.the-variants.{Listed, Refused}
-use Rattle.block.specs.Building.{listAnswer}
+use Rattle.block.specs.declared.lengths.RoomLent.{RoomLent}
 use Rattle.block.specs.Meaning.{NoDisabledCarry}
-use Rattle.stepper.specs.Settling.{settledBy, portValue, portValues, PortBits}
-use Rattle.stepper.specs.Clocking.{nextStates}
+use Rattle.stepper.specs.Settling.{settledBy}
+use Rattle.sim.specs.declared.lengths.StepRoomLent.{StepRoomLent}
+use Rattle.sim.specs.Lengths.{StepRoomLong}
+use Rattle.theorem.specs.Calls.{PassesFour, built, settingsRead, listBuilt, stepped, valuesStepped, stateStepped}
+use Rattle.theorem.specs.Choice.{OnlyChoice, StepMeans, StepInputs}
+use Rattle.theorem.specs.Listing.{Listing}
 
-module _ (B : Block) (t st : List ℕ) where
+module _ (B : Block) (table bits : List ℕ) where
+  abbrev st : List ℕ
+  st = settingsRead B table bits
+
+  abbrev list : List ℕ
+  list = listBuilt B table bits
+
+  -- "Each block that passes checks 1 to 6"
+  pub record PassesSix (settings : List ℕ) (room : RoomLent) : Type 0 where
+    pub passes-four : PassesFour B table bits settings room
+    pub no-contention : NoContention B table (settingsRead B table bits)
+    pub no-carry : NoDisabledCarry B table (settingsRead B table bits)
+
+  -- what is said of a block that `build` accepts with so many rows, its settings being those that `read` writes
+  pub record AcceptedBlock (rows : ℕ) : Type 0 where
+    -- "Each accepted block is turned into a list of rows, one for each wire, in document 01's order."
+    pub listing : Listing B table st list rows
+    -- "For all flip-flop states and all lent outside values of 0 and 1, running that list gives [..]. Every other choice of 0 or 1 [..]"
+    pub settles : (state lent : List ℕ) → Inputs B state lent → OnlyChoice B table st state lent (settledBy B list state lent)
+    -- "A step takes that block's size, table, settings and list, any such state and any two such sets of lent values, before and after."
+    pub step-taken : (state before after : List ℕ) (room : StepRoomLent) → StepInputs B state before after → StepRoomLong B room
+        → stepped B table st list state before after room ≡ Done
+    -- "Unless a ground refuses it, it writes each port's value from the one set of wire values [..]. From that set, and the one [..] after, it moves
+    -- every cell's state by document 01's rules."
+    pub step-means : (state before after : List ℕ) (room : StepRoomLent) → stepped B table st list state before after room ≡ Done
+        → StepMeans B table st state before after (valuesStepped B list state before) (stateStepped B st list state before after)
+
+pub record Demand3 : Type 0 where
   -- "Each block that passes checks 1 to 6 [..] is refused as a loop, by every call that makes check 7, exactly if some wire depends on itself."
-  abbrev pub LoopExactly : Type 0
-  LoopExactly = NoContention B t st → NoDisabledCarry B t st
-      → ((w : ℕ) × (listAnswer B t st ≡ Refused (Loop w))) ↔ ((w : ℕ) × Depends B t st w w)
-
-  -- the values v are the one choice of 0 or 1 for the wires that meets every equation under this state and these lent values
-  pub record OnlyChoice (state lent v : List ℕ) : Type 0 where
-    -- "wire values that meet every cell, carry and switch equation, with constants, flip-flop outs and open wires as document 01 gives them"
-    pub meets : Meets B t st state lent v
-    -- "Every wire has a value of 0 or 1"
-    pub bits : PortBits B v
-    -- "Every other choice of 0 or 1 for the wires breaks at least one of these."
-    pub only : (x : List ℕ) → (p : ℕ) → p < ports B → portValue B x p ≢ portValue B v p → Meets B t st state lent x → ⊥
-
-  -- "Each accepted block is turned into a list of rows, one for each wire, in document 01's order."
-  pub record Listing (rows : ℕ) : Type 0 where
-    pub count : rows ≡ wires B
-    pub every : (p : ℕ) → p < ports B → (i : ℕ) × (i < rows) × (rowAt (blockList B t st) i .wire ≡ wireOf B p)
-    pub once : (i j : ℕ) → i < rows → j < rows → rowAt (blockList B t st) i .wire ≡ rowAt (blockList B t st) j .wire → i ≡ j
-    -- "The next row is always that of the lowest-numbered wire not yet listed whose dependencies all are": its own are, and a lower wire is listed
-    -- or waits for one that is not
-    pub reads-earlier : (i : ℕ) → i < rows → (d : ℕ) → ReadsWire B t st (rowAt (blockList B t st) i .wire) d → Earlier (blockList B t st) i d
-    pub lowest : (i : ℕ) → i < rows → (v : ℕ) → v < rowAt (blockList B t st) i .wire → wireOf B v ≡ v
-        → Earlier (blockList B t st) i v ⊎ ((d : ℕ) × ReadsWire B t st v d × (Earlier (blockList B t st) i d → ⊥))
-    -- "Unused rows are zeros."
-    pub zero-past : (i : ℕ) → rows ≤ i → i < ports B → rowAt (blockList B t st) i ≡ zeroRow
-
-  -- what an accepted block has
-  pub record Demand3 (rows : ℕ) : Type 0 where
-    pub accepted : listAnswer B t st ≡ Listed rows
-    pub listing : Listing rows
-    -- "For all flip-flop states and all lent outside values of 0 and 1, running that list gives [..]"
-    pub settles : (state lent : List ℕ) → Inputs B state lent → OnlyChoice state lent (settledBy B (blockList B t st) state lent)
-
-  -- "A step [..] writes each port's value from the one set of wire values that the equations allow under the old state and before. From that set,
-  -- and the one they allow under the old state and after, it moves every cell's state by document 01's rules."
-  pub record StepMeans (state before after values next : List ℕ) : Type 0 where
-    pub b : List ℕ
-    pub a : List ℕ
-    pub one-before : OnlyChoice state before b
-    pub one-after : OnlyChoice state after a
-    pub written : values ≡ portValues B b
-    pub moved : next ≡ nextStates B st b a state
+  pub loop-exactly : (B : Block) (table bits settings : List ℕ) (room : RoomLent) → PassesSix B table bits settings room
+      → ((w : ℕ) × (built B table bits settings room ≡ Refused (Loop w))) ↔ ((w : ℕ) × Depends B table (settingsRead B table bits) w w)
+  -- "7: loop: lowest wire depending on itself"
+  pub loop-lowest : (B : Block) (table bits settings : List ℕ) (room : RoomLent) (w : ℕ) → built B table bits settings room ≡ Refused (Loop w)
+      → LowestLooped B table (settingsRead B table bits) w
+  pub accepted : (B : Block) (table bits settings : List ℕ) (room : RoomLent) (rows : ℕ) → built B table bits settings room ≡ Listed rows
+      → AcceptedBlock B table bits rows

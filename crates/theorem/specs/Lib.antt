@@ -1,2 +1,6 @@
--- The third demand.
-pub mod Demand3  -- the sentences of demand 3 over what `build` and `step` promise
+-- The three demands, each one record over the answers of the calls.
+pub mod Calls  -- built, stepped, ..: what the calls answer and write, over what is lent
+pub mod Choice  -- OnlyChoice: the one choice of values that the equations allow; StepMeans: what a step does with it
+pub mod Listing  -- Listing: one row for each wire, in document 01's order
+pub mod Demand2  -- Demand2
+pub mod Demand3  -- Demand3

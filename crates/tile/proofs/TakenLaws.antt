@@ -1,18 +1,19 @@
--- A tile all of whose set bits are taken: its settings are read, and it can be decoded unless it has the carry pair. Main laws: `taken-right`,
--- `taken-fault`; `empty-fault`. Assumes nothing.
+-- A tile all of whose set bits are taken: its settings are read, and it can be decoded exactly if it has not the carry pair. Main laws:
+-- `taken-right`, `taken-exact`; `empty-exact`, `refused-exact`. Assumes nothing.
 use mathlib.Core.Path.{_≡_, refl, sym, ap, _∙_}
 use mathlib.Core.Logic.{⊎-elim, _≢_}
-use mathlib.Core.Bool.{true, false}
+use mathlib.Core.Bool.{true, false, not}
 use mathlib.Core.List.{List}
 use Prim.Native.Nat.{ℕ, _+_, _-_, _^_, _<_, _≤_}
 use native.Mathlib.Omega.{arith}
 use native.Mathlib.Nat.{lt-of-lt-of-le}
-use borrow.Author.Tests.{eq-eqb}
+use borrow.Author.Tests.{eq-eqb, ne-eqb, eqb-true}
+use lib.Dec.{eqb}
 use lib.Count.{trailingZeros}
 use lib.ListN.{getD}
 use lib.Pow.{pow-mono}
 use Rattle.lists.specs.Tables.{zeros}
-use Rattle.lists.proofs.CaseLaws.{clash, lt-or-le, eq-or-ne, and-true}
+use Rattle.lists.proofs.CaseLaws.{cases, clash, lt-or-le, eq-or-ne, and-left, and-right, and-true}
 use Rattle.digits.specs.Digits.{digit}
 use Rattle.digits.proofs.DigitLaws.{digit-past, from-digits-lt, digit-from-digits}
 use Rattle.digits.proofs.LowestLaws.{trailing-digit}
@@ -27,7 +28,7 @@ use Rattle.codec.specs.Decode.{settingNumber, settingAt, decode}
 use Rattle.codec.specs.Fault.{isUnlisted, tileFault}
 use Rattle.codec.specs.Limits.{bothCarries}
 use Rattle.codec.specs.Reading.{Off, CarryPair, unlisted, stray, carry-pair, Decodable}
-use Rattle.tile.specs.Taking.{Known, Taken}
+use Rattle.tile.specs.Taking.{Known, Taken, Undecodable}
 use Rattle.codec.specs.declared.groups.GroupRead.{GroupRead}
 use Rattle.codec.specs.declared.groups.GroupRead.the-variants.{Setting, Unlisted}
 use Rattle.codec.proofs.BitLaws.{bit-lt}
@@ -49,6 +50,17 @@ unfolding bothCarries
 pair-both table bits q =
     and-true (eq-eqb (fieldSetting (decode table (bitAt bits)) carryInSet) 1 (decode-field table bits carryInSet (omega arith) ∙ q .0))
     (eq-eqb (fieldSetting (decode table (bitAt bits)) carryChain) 1 (decode-field table bits carryChain (omega arith) ∙ q .1))
+
+both-pair : (table bits : List ℕ) → bothCarries (decode table (bitAt bits)) ≡ true → CarryPair table (bitAt bits)
+unfolding bothCarries
+both-pair table bits e = (
+  sym (decode-field table bits carryInSet (omega arith)) ∙ eqb-true _ 1 (and-left (eqb (fieldSetting (decode table (bitAt bits)) carryInSet) 1) _ e),
+  sym (decode-field table bits carryChain (omega arith)) ∙ eqb-true _ 1 (and-right (eqb (fieldSetting (decode table (bitAt bits)) carryInSet) 1) _ e),
+)
+
+-- a tile that cannot be decoded has a position at fault
+pub refused-exact : (table bits : List ℕ) → TableRules logicTile table → Undecodable table bits → false ≡ eqb (tileFault table (tileOf bits)) 864
+refused-exact table bits T u = sym (ne-eqb _ 864 (λ e. u (tile-fault-exact table bits T .0 e)))
 
 -- a group that is not off has a set bit: its lowest
 pub group-bit : (table bits : List ℕ) → TableRules logicTile table → (g : ℕ) → g < groupCount logicTile table → (Off table (bitAt bits) g → ⊥)
@@ -126,16 +138,22 @@ module _ (table bits settings : List ℕ) (T : TableRules logicTile table) (K : 
   taken-decodable single p (stray q h free e) = omega (arith, unclaimed-owner table T p free, all p h e .claimed)
   taken-decodable single p (carry-pair q) = clash (pair-both table bits q) single
 
-  pub taken-fault : bothCarries (decode table (bitAt bits)) ≡ false → tileFault table (tileOf bits) ≡ 864
-  taken-fault single = tile-fault-exact table bits T .1 (taken-decodable single)
+  -- the answer, of the settings read
+  pub taken-exact : not (bothCarries (decode table (bitAt bits))) ≡ eqb (tileFault table (tileOf bits)) 864
+  taken-exact =
+      ⊎-elim (λ (e : bothCarries (decode table (bitAt bits)) ≡ true). ap not e ∙ refused-exact table bits T (λ D. D (fieldAt table carryInSet) (carry-pair (both-pair table bits e))))
+      (λ (e : bothCarries (decode table (bitAt bits)) ≡ false). ap not e ∙ sym (eq-eqb _ 864 (tile-fault-exact table bits T .1 (taken-decodable e))))
+      (cases (bothCarries (decode table (bitAt bits))))
 
 -- a tile with no bit set
 no-carries : bothCarries (zeros settingsLength) ≡ false
 unfolding bothCarries
 no-carries = refl
 
-pub empty-fault : (table bits : List ℕ) → TableRules logicTile table → ((p : ℕ) → bitAt bits p ≡ 0) → tileFault table (tileOf bits) ≡ 864
-empty-fault table bits T none =
-    taken-fault table bits (zeros settingsLength) T (known-start (zeros settingsLength) settingsLength refl refl)
+pub empty-exact : (table bits : List ℕ) → TableRules logicTile table → ((p : ℕ) → bitAt bits p ≡ 0) → true ≡ eqb (tileFault table (tileOf bits)) 864
+empty-exact table bits T none =
+    sym (eq-eqb _ 864
+    (tile-fault-exact table bits T .1
+    (taken-decodable table bits (zeros settingsLength) T (known-start (zeros settingsLength) settingsLength refl refl)
     (λ p h e. absurd (omega (arith, none p)))
-    (ap bothCarries (sym (decode-empty table bits none settingsLength refl)) ∙ no-carries)
+    (ap bothCarries (sym (decode-empty table bits none settingsLength refl)) ∙ no-carries))))

@@ -1,2 +1,2 @@
 -- How a whole tile is read. What reading and writing are stands in `codec`.
-pub mod Taking  -- inner. Known, Learned, Taken: settings while the set bits are taken one after another
+pub mod Taking  -- inner. Known, Learned, Taken, Undecodable: settings while the set bits are taken one after another, and what stops that

@@ -1,6 +1,6 @@
 -- A tile's settings while its set bits are taken one after another, in any order. Each bit makes the setting that it belongs to known. What
 -- the functions that take them promise each other.
-use Rattle.codec.specs.Bits.{bitAt}
+use Rattle.codec.specs.Bits.{bitAt, tileOf}
 use Prim.Native.Nat.{ℕ, _+_, _<_}
 use mathlib.Core.Path.{_≡_}
 use mathlib.Core.Logic.{_≢_}
@@ -11,6 +11,7 @@ use Rattle.ports.specs.Lengths.{maxPositions, settingsLength}
 use Rattle.routing.specs.Slots.{slotsOf, owner, fieldSlots, groupSlot, slotCount}
 use Rattle.codec.specs.Settings.{groupsFrom, cellsFrom}
 use Rattle.codec.specs.Decode.{settingAt}
+use Rattle.codec.specs.Reading.{Decodable}
 
 -- below the cells, a setting that is not 0 is known: it is what the bits read to
 pub record Known (table bits settings : List ℕ) : Type 0 where
@@ -28,3 +29,7 @@ pub record Taken (table settings : List ℕ) (p : ℕ) : Type 0 where
   pub single : (n : ℕ) → owner (slotsOf logicTile table) p ≡ fieldSlots logicTile + n → n < groupsFrom logicTile → getD settings n 0 ≢ 0
   pub group : (g k : ℕ) → owner (slotsOf logicTile table) p ≡ groupSlot logicTile g + k → k < maxPositions
       → getD settings (groupsFrom logicTile + g) 0 ≢ 0
+
+-- what a set bit shows that cannot be taken
+abbrev pub Undecodable : List ℕ → List ℕ → Type 0
+Undecodable table bits = Decodable table (tileOf bits) → ⊥

@@ -2,9 +2,9 @@
 // table' and 'Cells'). The functions ask for a table that breaks no rule and for exact lengths; what reading and writing are stands in `codec`.
 ghost use mathlib.Core.Path.{_≡_};
 ghost use mathlib.Core.Bool.{true};
-ghost use mathlib.Core.List.{List};
-ghost use Prim.Native.Nat.{ℕ};
+ghost use Prim.Native.Nat.{_<_};
 ghost use lib.ListN.{length};
+ghost use Rattle.lists.specs.Tables.{zeros};
 ghost use Rattle.routing.specs.LogicTile.{logicTile};
 ghost use Rattle.routing.specs.Rules.{TableRules};
 ghost use Rattle.routing.specs.Slots.{Owned, slotsOf, slotCount, fieldSlots, passiveSlots, groupSlots};
@@ -13,7 +13,7 @@ ghost use Rattle.codec.specs.Bits.{bitAt, tileOf};
 ghost use Rattle.codec.specs.Decode.{decode};
 ghost use Rattle.codec.specs.Fault.{tileFault};
 ghost use Rattle.codec.specs.Encode.{encode};
-ghost use Rattle.codec.specs.Limits.{limitsOf, settingsFit};
+ghost use Rattle.codec.specs.Limits.{settingsFit, fitsWithin};
 ghost use Rattle.codec.specs.Writing.{Writable, TileWritten};
 use crate::reading::try_decode;
 use codec::bits::is_empty;
@@ -82,23 +82,20 @@ pub fn decode_tile(table: &[u16], bits: &[u8], settings: &mut [u16])
     put_cells(settings, cells);
 }
 
-// The lowest position at fault; where there is none, 864 with the settings read. Most tiles are read in one pass (`try_decode`), and only where
-// that fails are all positions looked at.
+// The lowest position at fault, with cleared settings; where there is none, 864 with the settings read. Only of a tile that cannot be decoded are
+// all positions looked at.
 pub fn read_tile(table: &[u16], own: &[u16], bits: &[u8], settings: &mut [u16]) -> usize
     requires { ⌜ (TableRules logicTile (now table)) × (Owned 864 (slotsOf logicTile (now table)) (slotCount logicTile) (now own)) ×
         (length (now bits) ≡ tileNumbers) × (length (now settings) ≡ settingsLength) ⌝ }
     ensures fault { λ r. ⌜ r ≡ tileFault (now (table .entry)) (tileOf (now (bits .entry))) ⌝ }
     ensures settings { λ r. ⌜ (r ≡ 864 → now (settings .exit) ≡ decode (now (table .entry)) (bitAt (now (bits .entry)))) ⌝ }
+    ensures cleared { λ r. ⌜ (r < 864 → now (settings .exit) ≡ zeros settingsLength) ⌝ }
 {
     if try_decode(table, own, bits, settings) {
         return POSITIONS;
     }
-    let fault = tile_fault(table, own, bits);
-    if fault < POSITIONS {
-        return fault;
-    }
-    decode_tile(table, bits, settings);
-    fault
+    lists::clear(settings);
+    tile_fault(table, own, bits)
 }
 
 // The fields written to bits that hold the cells.
@@ -155,11 +152,12 @@ pub fn encode_tile(table: &[u16], settings: &[u16], bits: &mut [u8])
     write_groups(table, settings, bits);
 }
 
-// Whether some bits have these settings (ground 9), `limits` being those of their table. All are looked at, for the machine compares many at once.
+// Whether settings are within the limits, without the carry pair. With the limits of a table: whether some bits have these settings (ground 9). All
+// are looked at, for the machine compares many at once.
 // Rules out: an entry past a group's count; a number past the table's counts that is not 0.
 pub fn settings_fit(limits: &[u16; SETTINGS_LENGTH], settings: &[u16]) -> bool
     requires { ⌜ length (now settings) ≡ settingsLength ⌝ }
-    ensures { λ r. ⌜ ((table : List ℕ) → now (limits .entry) ≡ limitsOf table → r ≡ settingsFit table (now (settings .entry))) ⌝ }
+    ensures { λ r. ⌜ r ≡ fitsWithin (now (limits .entry)) (now (settings .entry)) ⌝ }
 {
     if has_both_carries(settings) {
         return false;

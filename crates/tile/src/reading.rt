@@ -1,8 +1,9 @@
-// Reading a tile in one pass over its set bits, which are few: each makes the setting that it belongs to known. A yes is right; a no only says
-// that the exact search is to be asked (`read_tile`).
+// Reading a tile in one pass over its set bits, which are few: each makes the setting that it belongs to known, or shows that the tile cannot be
+// decoded. Which position is at fault is another search (`tile_fault`).
 ghost use mathlib.Core.Path.{_≡_};
-ghost use mathlib.Core.Bool.{true};
+ghost use mathlib.Core.Bool.{true, false};
 ghost use Prim.Native.Nat.{ℕ, _+_, _*_, _<_};
+ghost use lib.Dec.{eqb};
 ghost use lib.ListN.{length, getD};
 ghost use Rattle.digits.specs.Digits.{digit};
 ghost use Rattle.routing.specs.LogicTile.{logicTile};
@@ -12,7 +13,7 @@ ghost use Rattle.codec.specs.Bits.{unit, bitAt, tileOf};
 ghost use Rattle.ports.specs.Lengths.{tileNumbers, settingsLength};
 ghost use Rattle.codec.specs.Decode.{decode};
 ghost use Rattle.codec.specs.Fault.{tileFault};
-ghost use Rattle.tile.specs.Taking.{Known, Learned, Taken};
+ghost use Rattle.tile.specs.Taking.{Known, Learned, Taken, Undecodable};
 use codec::bits::UNIT;
 use codec::bits::is_empty;
 use codec::cells::decode_cells;
@@ -34,8 +35,9 @@ const MAX_POSITIONS: usize = 8;
 fn take_bit(table: &[u16], own: &[u16], bits: &[u8], p: usize, settings: &mut [u16]) -> bool
     requires { ⌜ (TableRules logicTile (now table)) × (Owned 864 (slotsOf logicTile (now table)) (slotCount logicTile) (now own)) ×
         (length (now bits) ≡ tileNumbers) × (p < 864) × (bitAt (now bits) p ≡ 1) × Known (now table) (now bits) (now settings) ⌝ }
-    ensures { λ r. ⌜ (r ≡ true → Learned (now (table .entry)) (now (bits .entry)) (now (settings .entry)) (now (settings .exit)) ×
+    ensures yes { λ r. ⌜ (r ≡ true → Learned (now (table .entry)) (now (bits .entry)) (now (settings .entry)) (now (settings .exit)) ×
         Taken (now (table .entry)) (now (settings .exit)) p) ⌝ }
+    ensures no { λ r. ⌜ (r ≡ false → Undecodable (now (table .entry)) (now (bits .entry))) ⌝ }
 {
     let code = own[p] as usize;
     if code < FIELDS {
@@ -61,9 +63,10 @@ fn take_bit(table: &[u16], own: &[u16], bits: &[u8], p: usize, settings: &mut [u
 fn take_byte(table: &[u16], own: &[u16], bits: &[u8], i: usize, settings: &mut [u16]) -> bool
     requires { ⌜ (TableRules logicTile (now table)) × (Owned 864 (slotsOf logicTile (now table)) (slotCount logicTile) (now own)) ×
         (length (now bits) ≡ tileNumbers) × (i < tileNumbers) × Known (now table) (now bits) (now settings) ⌝ }
-    ensures { λ r. ⌜ (r ≡ true → Learned (now (table .entry)) (now (bits .entry)) (now (settings .entry)) (now (settings .exit)) ×
+    ensures yes { λ r. ⌜ (r ≡ true → Learned (now (table .entry)) (now (bits .entry)) (now (settings .entry)) (now (settings .exit)) ×
         ((k : ℕ) → k < unit → digit (getD (now (bits .entry)) i 0) k ≡ 1 → Taken (now (table .entry)) (now (settings .exit))
         (unit * i + k))) ⌝ }
+    ensures no { λ r. ⌜ (r ≡ false → Undecodable (now (table .entry)) (now (bits .entry))) ⌝ }
 {
     let mut left = bits[i];
     while 0 < left {
@@ -76,14 +79,13 @@ fn take_byte(table: &[u16], own: &[u16], bits: &[u8], i: usize, settings: &mut [
     true
 }
 
-// Whether all set bits are in order: then the tile can be decoded, and its settings are read. It may say no of a tile that can be decoded. A
-// tile with no bit set takes no time.
-// Rules out: settings kept from another tile; a yes for a bit that nothing claims, an unlisted group or the carry pair.
+// Whether the tile can be decoded; on a yes its settings are read. A tile with no bit set takes no time.
+// Rules out: settings kept from another tile; a yes for a bit that nothing claims, an unlisted group or the carry pair; a no for anything else.
 pub fn try_decode(table: &[u16], own: &[u16], bits: &[u8], settings: &mut [u16]) -> bool
     requires { ⌜ (TableRules logicTile (now table)) × (Owned 864 (slotsOf logicTile (now table)) (slotCount logicTile) (now own)) ×
         (length (now bits) ≡ tileNumbers) × (length (now settings) ≡ settingsLength) ⌝ }
-    ensures { λ r. ⌜ (r ≡ true → (tileFault (now (table .entry)) (tileOf (now (bits .entry))) ≡ 864) ×
-        (now (settings .exit) ≡ decode (now (table .entry)) (bitAt (now (bits .entry))))) ⌝ }
+    ensures answer { λ r. ⌜ r ≡ eqb (tileFault (now (table .entry)) (tileOf (now (bits .entry)))) 864 ⌝ }
+    ensures settings { λ r. ⌜ (r ≡ true → now (settings .exit) ≡ decode (now (table .entry)) (bitAt (now (bits .entry)))) ⌝ }
 {
     lists::clear(settings);
     if is_empty(bits) {

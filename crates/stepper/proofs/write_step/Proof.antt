@@ -1,4 +1,4 @@
--- `checked::write_step` meets its contract: the wires are counted once, both runs have the old state, and clock and values take them as they are. Assumes nothing.
+-- `write_step` meets its contract: the wires are counted once, both runs have the old state, and clock and values take them as they are. Assumes nothing.
 use Prim.Native.Nat.{ℕ}
 use mathlib.Core.List.{List}
 use mathlib.Core.Path.{sym, _∙_, ap, ap₂, subst}
@@ -80,8 +80,9 @@ returns c =
     let at-start = at-settle .before .before .before .before .before .before .before .before .before .before .before .before .before .before in
     let a = at-start .args in (
       at-write-values .write-values .ensures ∙ ap (portValues (a .b)) (at-settle .settle .ensures),
-      at-clock .clock .ensures
+      (at-clock .clock .ensures
           ∙ ap₂ (λ (f s : List ℕ). nextStates (a .b) (a .settings .now) f s (a .state .now)) (at-settle .settle .ensures) (at-settle2 .settle2 .ensures),
+      (at-settle .settle .ensures, at-settle2 .settle2 .ensures)),
     )
 
 pub write-step-spec : {M : Type 1} → statement M

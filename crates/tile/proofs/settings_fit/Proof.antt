@@ -11,7 +11,7 @@ use Rattle.lists.proofs.SomeLaws.{all-more-pass, all-more-fail}
 use Rattle.routing.specs.LogicTile.{logicTile}
 use Rattle.codec.specs.Limits.{withinAt}
 use Rattle.ports.specs.Lengths.{settingsLength}
-use Rattle.codec.proofs.LimitLaws.{fit-carry-pair, fit-within}
+use Rattle.codec.proofs.LimitLaws.{within-carry-pair, within-all}
 use Rattle.tile.proofs.settings_fit.Statement.{statement}
 use Rattle.tile.proofs.settings_fit.Tie as tie
 
@@ -29,7 +29,7 @@ returns : tie.Need-returns Inv-loop μ-loop
 returns c =
     let at-start = c .before .before .before in
     let at-has-both-carries = c .before in
-    λ table e. fit-carry-pair table (at-start .args .settings .now) (sym (at-has-both-carries .has-both-carries .ensures) ∙ c .if1 .taken)
+    within-carry-pair (at-start .args .limits .now) (at-start .args .settings .now) (sym (at-has-both-carries .has-both-carries .ensures) ∙ c .if1 .taken)
 
 loop-holds : tie.Need-loop-holds Inv-loop μ-loop
 unfolding allFrom
@@ -67,9 +67,9 @@ returns-2 c =
     let at-has-both-carries = c .before .before .before in
     let at-if1 = c .before .before in
     let at-loop = c .before in
-    λ table e. at-loop .loop .inv .1 ∙ ap (allFrom (withinAt (at-start .args .limits .now) (at-start .args .settings .now)) 0)
-    (let q : at-loop .loop .n ≡ settingsLength = omega arith in q) ∙ fit-within table (at-start .args .settings .now)
-    (at-start .args .limits .now) e (sym (at-has-both-carries .has-both-carries .ensures) ∙ at-if1 .if1 .left)
+    at-loop .loop .inv .1 ∙ ap (allFrom (withinAt (at-start .args .limits .now) (at-start .args .settings .now)) 0)
+    (let q : at-loop .loop .n ≡ settingsLength = omega arith in q) ∙ within-all (at-start .args .limits .now)
+    (at-start .args .settings .now) (sym (at-has-both-carries .has-both-carries .ensures) ∙ at-if1 .if1 .left)
 
 pub settings-fit-spec : {M : Type 1} → statement M
 settings-fit-spec =

@@ -13,6 +13,7 @@ use Rattle.lists.proofs.PartLaws.{part-size, part-code-length}
 use Rattle.routing.specs.LogicTile.{logicTile}
 use Rattle.ports.specs.Lengths.{settingsLength}
 use Rattle.codec.specs.Limits.{settingsFit}
+use Rattle.codec.proofs.LimitLaws.{within-fits}
 use Rattle.config.specs.Blocks.{bitlessAt}
 use Rattle.config.proofs.blocks.bitless_tile.Statement.{statement}
 use Rattle.config.proofs.blocks.bitless_tile.Tie as tie
@@ -61,7 +62,7 @@ returns c =
     let at-limits = c .before .before .before .before .before .before in
     let at-loop = c .before .before .before .before .before in
     let at-settings-fit = c .before in
-    let fit = ap not (at-settings-fit .settings-fit .ensures (at-start .args .table .now) (at-limits .limits .ensures) ∙ ap
+    let fit = ap not (at-settings-fit .settings-fit .ensures ∙ within-fits (at-start .args .table .now) _ _ (at-limits .limits .ensures) ∙ ap
     (λ (x : ℕ). settingsFit (at-start .args .table .now) (take x (drop (settingsLength * at-loop .loop .t) (at-start .args .settings .now))))
     (part-size settingsLength (at-loop .loop .t))) in
     first-turn-hit _ _ _ _ (at-loop .loop .inv .1) (omega arith) (sym fit ∙ c .if1 .taken)
@@ -79,7 +80,7 @@ loop-again c =
     let at-limits = c .before .before .before .before .before .before in
     let at-loop = c .before .before .before .before .before in
     let at-settings-fit = c .before in
-    let fit = ap not (at-settings-fit .settings-fit .ensures (at-start .args .table .now) (at-limits .limits .ensures) ∙ ap
+    let fit = ap not (at-settings-fit .settings-fit .ensures ∙ within-fits (at-start .args .table .now) _ _ (at-limits .limits .ensures) ∙ ap
     (λ (x : ℕ). settingsFit (at-start .args .table .now) (take x (drop (settingsLength * at-loop .loop .t) (at-start .args .settings .now))))
     (part-size settingsLength (at-loop .loop .t))) in
     (omega arith, first-turn-skip _ _ _ _ (at-loop .loop .inv .1) (omega arith) (sym fit ∙ c .if1 .left))

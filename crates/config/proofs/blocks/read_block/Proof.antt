@@ -11,6 +11,7 @@ use Rattle.lists.proofs.PartLaws.{part-size, part-code-length, put-length, join
 use Rattle.lists.proofs.SearchLaws.{first-le, first-turn-hit, first-turn-skip, first-turn-end}
 use Rattle.lists.specs.Parts.{joined}
 use Rattle.lists.specs.Search.{first}
+use Rattle.lists.specs.Tables.{zeros}
 use Rattle.routing.specs.LogicTile.{logicTile}
 use Rattle.ports.specs.Lengths.{tileNumbers, settingsLength}
 use Rattle.codec.specs.Bits.{bitAt, tileOf}
@@ -74,28 +75,37 @@ read-tile-requires c κs =
     let t = at-loop .loop .t in
     (at-start .pre .1, at-start .pre .2, part-code-length tileNumbers t (args .n) (args .bits .now) (at-start .pre .3) (omega arith), part-code-length settingsLength t (args .n) (at-loop .loop .settings) (at-loop .loop .inv .2) (omega arith))
 
+clear-requires : tie.Need-clear-requires Inv-loop μ-loop
+clear-requires c κs = search needs
+
 same-length : tie.Need-same-length Inv-loop μ-loop
 same-length c =
-    let at-read-tile = c .before .before .before in
+    let at-clear = c .before .before in
+    let at-if1 = at-clear .before .before in
+    let at-read-tile = at-if1 .before .before .before in
     let at-loop = at-read-tile .before .before .before .before in
     let at-start = at-loop .before .before .before .before .before in
     let args = at-start .args in
     let t = at-loop .loop .t in
     let settings = at-loop .loop .settings in
     let long = at-read-tile .read-tile .kept .1 .1 .1 .0 ∙ part-code-length settingsLength t (args .n) settings (at-loop .loop .inv .2) (omega arith) in
-    put-length settingsLength t settings (at-read-tile .read-tile .last .1 .1 .1 .0) (omega arith) long ∙ at-loop .loop .inv .2 ∙ sym (at-start .pre .4)
+    at-clear .clear .kept .0 ∙ put-length settingsLength t settings (at-read-tile .read-tile .last .1 .1 .1 .0) (omega arith) long ∙ at-loop .loop .inv .2 ∙ sym (at-start .pre .4)
 
 -- tile t is the lowest
 returns : tie.Need-returns Inv-loop μ-loop
 unfolding undecodableAt
 returns c =
-    let at-read-tile = c .before .before .before in
+    let at-clear = c .before .before in
+    let at-if1 = at-clear .before .before in
+    let at-read-tile = at-if1 .before .before .before in
     let at-loop = at-read-tile .before .before .before .before in
     let at-start = at-loop .before .before .before .before .before in
     let args = at-start .args in
     let t = at-loop .loop .t in
+    let settings = at-loop .loop .settings in
+    let long = at-read-tile .read-tile .kept .1 .1 .1 .0 ∙ part-code-length settingsLength t (args .n) settings (at-loop .loop .inv .2) (omega arith) in
     let fault = at-read-tile .read-tile .ensures .0 ∙ ap (λ (x : ℕ). tileFault (args .table .now) (tileOf (take x (drop (tileNumbers * t) (args .bits .now))))) (part-size tileNumbers t) in
-    (first-turn-hit _ _ _ _ (at-loop .loop .inv .1) (omega arith) (lt-ltb _ (logicTile .positions) (rw fault at (c .if1 .taken))), λ e. absurd (omega arith))
+    (first-turn-hit _ _ _ _ (at-loop .loop .inv .1) (omega arith) (lt-ltb _ (logicTile .positions) (rw fault at (at-if1 .if1 .taken))), (λ e. absurd (omega arith), λ l. at-clear .clear .ensures ∙ ap zeros (put-length settingsLength t settings (at-read-tile .read-tile .last .1 .1 .1 .0) (omega arith) long ∙ at-loop .loop .inv .2)))
 
 add-t : tie.Need-add-t Inv-loop μ-loop
 add-t c = search needs
@@ -118,7 +128,7 @@ loop-again c =
     let long = at-read-tile .read-tile .kept .1 .1 .1 .0 ∙ part-code-length settingsLength t (args .n) settings (at-loop .loop .inv .2) (omega arith) in
     let fault = at-read-tile .read-tile .ensures .0 ∙ ap (λ (x : ℕ). tileFault table (tileOf (take x (drop (tileNumbers * t) bits)))) (part-size tileNumbers t) in
     let none = rw fault at (c .if1 .left) in
-    let read = at-read-tile .read-tile .ensures .1 (omega (arith, fault, first-le (faultAt table (tileOf (take tileNumbers (drop (tileNumbers * t) bits)))) 0 864)) ∙ ap (λ (x : ℕ). decode table (bitAt (take x (drop (tileNumbers * t) bits)))) (part-size tileNumbers t) in
+    let read = at-read-tile .read-tile .ensures .1 .0 (omega (arith, fault, first-le (faultAt table (tileOf (take tileNumbers (drop (tileNumbers * t) bits)))) 0 864)) ∙ ap (λ (x : ℕ). decode table (bitAt (take x (drop (tileNumbers * t) bits)))) (part-size tileNumbers t) in
     (omega arith, first-turn-skip _ _ _ _ (at-loop .loop .inv .1) (omega arith) (le-ltb _ (logicTile .positions) none), put-length settingsLength t settings part (omega arith) long ∙ at-loop .loop .inv .2, joined-step settingsLength (decodedAt table (tilesOf bits)) t settings part (omega arith) long (at-loop .loop .inv .3) read (settingsLength * (t + 1)) (omega arith))
 
 same-length-2 : tie.Need-same-length-2 Inv-loop μ-loop
@@ -134,7 +144,7 @@ returns-2 c =
     let at-start = at-loop .before .before .before .before .before in
     let args = at-start .args in
     let t = at-loop .loop .t in
-    (first-turn-end _ _ _ _ (at-loop .loop .inv .1) (omega arith), λ e. joined-end (decodedAt (args .table .now) (tilesOf (args .bits .now))) t _ (settingsLength * t) (at-loop .loop .settings) (at-loop .loop .inv .3) e (omega arith))
+    (first-turn-end _ _ _ _ (at-loop .loop .inv .1) (omega arith), (λ e. joined-end (decodedAt (args .table .now) (tilesOf (args .bits .now))) t _ (settingsLength * t) (at-loop .loop .settings) (at-loop .loop .inv .3) e (omega arith), λ l. absurd (omega arith)))
 
 pub read-block-spec : {M : Type 1} → statement M
 read-block-spec =
@@ -155,6 +165,7 @@ read-block-spec =
     part-read-tile-start-2
     part-read-tile-end-2
     read-tile-requires
+    clear-requires
     same-length
     returns
     add-t

@@ -131,7 +131,7 @@ add-source c =
     let lg : g < maxGroups = (let f = ok .few-groups in omega arith) in
     let on : enabled B t st (maxGroups * T + g) ≡ true = switch-on T g lg B t st lc (λ z. c .before .before .before .before .before .if1 .left (c .before .before .before .before .before .before .group-at .ensures ∙ z)) in
     let from : c .before .source .result ≡ sourceAt logicTile t g (groupOf st T g - 1) = c .before .source .ensures ∙ ap (λ (e : ℕ). sourceAt logicTile t g (e - 1)) (c .before .before .before .before .before .before .group-at .ensures) in
-    let o : c .wire-at2 .result ≡ origin B t st (maxGroups * T + g) = c .wire-at2 .ensures ∙ ap (λ (q : ℕ). wireOf B (portOf T q)) from ∙ switch-origin T g lg B t st in
+    let o : c .tile-wire2 .result ≡ origin B t st (maxGroups * T + g) = c .tile-wire2 .ensures ∙ ap (λ (q : ℕ). wireOf B (portOf T q)) from ∙ switch-origin T g lg B t st in
     let n = at-start .pre .1 .long in
     let few = ports-le B (ok .size) in
     let l = switch-origin-lt T g lg B t st ok lT on in
@@ -243,7 +243,7 @@ returns-2 c =
     let is : u ≡ target B t (maxGroups * T + g) = c .before .before .before .before .wide .ensures ∙ c .before .before .before .before .before .tile-wire .ensures ∙ ap (λ (q : ℕ). wireOf B (portOf T q)) (c .before .before .before .before .before .before .destination .ensures) ∙ switch-target T g lg B t in
     let lu : u < ports B = subst (λ (x : ℕ). x < ports B) (sym is) (switch-target-lt T g lg B t st ok lT on) in
     let from : c .before .before .before .source .result ≡ sourceAt logicTile t g (groupOf st T g - 1) = c .before .before .before .source .ensures ∙ ap (λ (e : ℕ). sourceAt logicTile t g (e - 1)) (c .before .before .before .before .before .before .before .before .group-at .ensures) in
-    let o : c .before .before .wire-at2 .result ≡ origin B t st (maxGroups * T + g) = c .before .before .wire-at2 .ensures ∙ ap (λ (q : ℕ). wireOf B (portOf T q)) from ∙ switch-origin T g lg B t st in
+    let o : c .before .before .tile-wire2 .result ≡ origin B t st (maxGroups * T + g) = c .before .before .tile-wire2 .ensures ∙ ap (λ (q : ℕ). wireOf B (portOf T q)) from ∙ switch-origin T g lg B t st in
     sourced-next B t st T g (sourced-new B t st s (a .low) _ (at-start .pre .1) u on is lu _ (c .if2 .taken) (ap (λ (k : ℕ). k + 1) o))
 
 returns-3 : tie.Need-returns-3

@@ -38,15 +38,15 @@ cell-at-requires c κs = search needs
 
 returns : tie.Need-returns
 returns c =
-    let at-wire-at4 = c .before in
-    let at-wire-at3 = c .before .before in
-    let at-wire-at2 = c .before .before .before in
+    let at-tile-wire4 = c .before in
+    let at-tile-wire3 = c .before .before in
+    let at-tile-wire2 = c .before .before .before in
     let at-tile-wire = c .before .before .before .before in
     let at-start = c .before .before .before .before .before .before .before in
     let a = at-start .args in
     let in0 = at-tile-wire .tile-wire .ensures ∙ in-first (a .b) (a .tile) (a .i) in
     let table = ap (λ (cell : Cell). cell .table) (c .cell-at .ensures) in
-    rw (in0, at-wire-at2 .wire-at2 .ensures, at-wire-at3 .wire-at3 .ensures, at-wire-at4 .wire-at4 .ensures, table)
+    rw (in0, at-tile-wire2 .tile-wire2 .ensures, at-tile-wire3 .tile-wire3 .ensures, at-tile-wire4 .tile-wire4 .ensures, table)
 
 pub lookup-row-spec : {M : Type 1} → statement M
 lookup-row-spec =

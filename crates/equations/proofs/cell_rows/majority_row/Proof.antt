@@ -34,12 +34,12 @@ tile-wire-requires-3 c κs = search needs
 returns : tie.Need-returns
 returns c =
     let at-carry-port = c .before in
-    let at-wire-at2 = c .before .before in
+    let at-tile-wire2 = c .before .before in
     let at-tile-wire = c .before .before .before in
     let at-start = c .before .before .before .before .before .before in
     let a = at-start .args in
-    let carry = c .wire-at3 .ensures ∙ ap (λ (q : ℕ). wireOf (a .b) (portOf (a .tile) q)) (at-carry-port .carry-port .ensures .0) in
-    rw (at-tile-wire .tile-wire .ensures, at-wire-at2 .wire-at2 .ensures, carry)
+    let carry = c .tile-wire3 .ensures ∙ ap (λ (q : ℕ). wireOf (a .b) (portOf (a .tile) q)) (at-carry-port .carry-port .ensures .0) in
+    rw (at-tile-wire .tile-wire .ensures, at-tile-wire2 .tile-wire2 .ensures, carry)
 
 pub majority-row-spec : {M : Type 1} → statement M
 majority-row-spec =

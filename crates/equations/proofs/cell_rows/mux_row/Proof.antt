@@ -1,6 +1,6 @@
 -- `cell_rows::mux_row` meets its contract: set, switched, or neither. Assumes nothing.
 use Rattle.equations.proofs.WireRowLaws.{set-row, chain-row, unset-row}
-use Rattle.equations.specs.WireRows.{plainRow}
+use Rattle.equations.specs.RowMeaning.{plainRow}
 use Rattle.netlist.specs.Kinds.{copyKind}
 use borrow.Author.Tests.{eq-eqb, ne-eqb}
 use mathlib.Core.Path.{sym, _∙_, ap}
@@ -37,7 +37,7 @@ returns-2 : tie.Need-returns-2
 returns-2 c =
     let at-tile-wire = c .before in
     let at-if2 = c .before .before in
-    let at-setting-at2 = c .before .before .before in
+    let at-tile-setting2 = c .before .before .before in
     let at-if1 = c .before .before .before .before in
     let at-tile-setting = c .before .before .before .before .before in
     let at-start = c .before .before .before .before .before .before .before .before in
@@ -45,7 +45,7 @@ returns-2 c =
     c .plain-row2 .ensures ∙ ap (plainRow copyKind (a .w)) (at-tile-wire .tile-wire .ensures)
     ∙ sym
     (chain-row (a .b) (a .st .now) (a .w) (a .tile) (ne-eqb _ _ (λ e. at-if1 .if1 .left (at-tile-setting .tile-setting .ensures ∙ e)))
-    (eq-eqb _ _ (sym (at-setting-at2 .setting-at2 .ensures) ∙ at-if2 .if2 .taken)))
+    (eq-eqb _ _ (sym (at-tile-setting2 .tile-setting2 .ensures) ∙ at-if2 .if2 .taken)))
 
 plain-row-requires-3 : tie.Need-plain-row-requires-3
 plain-row-requires-3 c κs = search needs
@@ -54,7 +54,7 @@ plain-row-requires-3 c κs = search needs
 returns-3 : tie.Need-returns-3
 returns-3 c =
     let at-if2 = c .before in
-    let at-setting-at2 = c .before .before in
+    let at-tile-setting2 = c .before .before in
     let at-if1 = c .before .before .before in
     let at-tile-setting = c .before .before .before .before in
     let at-start = c .before .before .before .before .before .before .before in
@@ -62,7 +62,7 @@ returns-3 c =
     c .plain-row3 .ensures
     ∙ sym
     (unset-row (a .b) (a .st .now) (a .w) (a .tile) (ne-eqb _ _ (λ e. at-if1 .if1 .left (at-tile-setting .tile-setting .ensures ∙ e)))
-    (ne-eqb _ _ (λ e. at-if2 .if2 .left (at-setting-at2 .setting-at2 .ensures ∙ e))))
+    (ne-eqb _ _ (λ e. at-if2 .if2 .left (at-tile-setting2 .tile-setting2 .ensures ∙ e))))
 
 pub mux-row-spec : {M : Type 1} → statement M
 mux-row-spec =

@@ -1,11 +1,11 @@
 -- `take_bit` meets its contract: one way for each kind of owner (TakingLaws). Assumes nothing.
-use mathlib.Core.Path.{refl}
+use mathlib.Core.Path.{refl, sym, _∙_}
 use native.Mathlib.Omega.{arith}
-use borrow.Author.Tests.{eqb-false, not-true}
+use borrow.Author.Tests.{eqb-true, eqb-false, not-true, not-false}
 use borrow.Author.Needs.{needs}
 use Rattle.lists.proofs.CaseLaws.{clash}
 use Rattle.codec.proofs.FaultLaws.{map-within}
-use Rattle.tile.proofs.TakingLaws.{taken-cell, taken-single, taken-known, taken-group}
+use Rattle.tile.proofs.TakingLaws.{taken-cell, taken-single, taken-known, taken-group, refused-stray, refused-group}
 use Rattle.tile.proofs.reading.take_bit.Statement.{statement}
 use Rattle.tile.proofs.reading.take_bit.Tie as tie
 
@@ -25,9 +25,12 @@ returns : tie.Need-returns
 returns c =
     let at-start = c .before .before .before .before .before .before in
     let args = at-start .args in
-    let pre = at-start .pre in
-    λ z. taken-cell (args .table .now) (args .bits .now) (args .settings .now) (args .p) (args .own .now) (pre .1) (pre .3) (pre .5)
-    (eqb-false _ 0 (not-true _ z)) (c .if1 .taken)
+    let pre = at-start .pre in (
+      λ z. taken-cell (args .table .now) (args .bits .now) (args .settings .now) (args .p) (args .own .now) (pre .1) (pre .3) (pre .5)
+          (eqb-false _ 0 (not-true _ z)) (c .if1 .taken),
+      λ z. refused-stray (args .table .now) (args .bits .now) (args .settings .now) (args .p) (args .own .now) (pre .1) (pre .3) (pre .5) (pre .0) (pre .4)
+          (eqb-true _ 0 (not-false _ z)),
+    )
 
 mul-settings : tie.Need-mul-settings
 mul-settings c = search needs
@@ -44,8 +47,8 @@ returns-2 c =
     let at-start = c .before .before .before .before .before .before .before in
     let args = at-start .args in
     let pre = at-start .pre in
-    λ z. taken-single (args .table .now) (args .bits .now) (args .settings .now) (args .p) (args .own .now) (pre .1) (pre .3) (pre .5)
-    (c .before .if1 .left) (c .if2 .taken) (pre .4)
+    (λ z. taken-single (args .table .now) (args .bits .now) (args .settings .now) (args .p) (args .own .now) (pre .1) (pre .3) (pre .5)
+    (c .before .if1 .left) (c .if2 .taken) (pre .4), λ z. clash refl z)
 
 add-if3 : tie.Need-add-if3
 add-if3 c =
@@ -79,8 +82,8 @@ returns-3 c =
     let at-start = at-if2 .before .before .before .before .before .before .before in
     let args = at-start .args in
     let pre = at-start .pre in
-    λ z. taken-known (args .table .now) (args .bits .now) (args .settings .now) (args .p) (args .own .now) (pre .1) (pre .3) (pre .5)
-    (at-if2 .if2 .left) (c .if3 .taken)
+    (λ z. taken-known (args .table .now) (args .bits .now) (args .settings .now) (args .p) (args .own .now) (pre .1) (pre .3) (pre .5)
+    (at-if2 .if2 .left) (c .if3 .taken), λ z. clash refl z)
 
 group-setting-requires : tie.Need-group-setting-requires
 group-setting-requires c κs =
@@ -95,7 +98,16 @@ group-setting-requires c κs =
 
 -- its group is unlisted
 returns-4 : tie.Need-returns-4
-returns-4 c = λ z. clash z refl
+returns-4 c =
+    let at-group-setting = c .before in
+    let at-if2 = at-group-setting .before .before .before in
+    let at-start = at-if2 .before .before .before .before .before .before .before in
+    let args = at-start .args in
+    let pre = at-start .pre in (
+      λ z. clash z refl,
+      λ z. refused-group (args .table .now) (args .bits .now) (args .settings .now) (args .p) (args .own .now) (pre .1) (pre .3) (pre .5)
+          (at-if2 .if2 .left) (pre .0) (pre .4) (sym (at-group-setting .group-setting .ensures) ∙ c .if4 .taken),
+    )
 
 add-settings : tie.Need-add-settings
 add-settings c =
@@ -133,8 +145,8 @@ returns-5 c =
     let at-start = at-if2 .before .before .before .before .before .before .before in
     let args = at-start .args in
     let pre = at-start .pre in
-    λ z. taken-group (args .table .now) (args .bits .now) (args .settings .now) (args .p) (args .own .now) (pre .1) (pre .3) (pre .5)
-    (at-if2 .if2 .left) _ (at-group-setting .group-setting .ensures) (c .if4 .left)
+    (λ z. taken-group (args .table .now) (args .bits .now) (args .settings .now) (args .p) (args .own .now) (pre .1) (pre .3) (pre .5)
+    (at-if2 .if2 .left) _ (at-group-setting .group-setting .ensures) (c .if4 .left), λ z. clash refl z)
 
 pub take-bit-spec : {M : Type 1} → statement M
 take-bit-spec =

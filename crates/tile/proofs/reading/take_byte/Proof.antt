@@ -3,7 +3,7 @@
 use mathlib.Core.Path.{refl, _∙_}
 use Prim.Native.Nat.{ℕ, _+_, _*_, _<_}
 use native.Mathlib.Omega.{arith}
-use borrow.Author.Tests.{not-false}
+use borrow.Author.Tests.{not-true, not-false}
 use borrow.Author.Needs.{needs}
 use lib.ListN.{getD}
 use Rattle.lists.proofs.CaseLaws.{clash}
@@ -63,7 +63,9 @@ same-length : tie.Need-same-length Inv-loop μ-loop
 same-length c = search needs
 
 returns : tie.Need-returns Inv-loop μ-loop
-returns c = λ z. clash z refl
+returns c =
+    let at-take-bit = c .before .before .before in
+    (λ z. clash z refl, λ z. at-take-bit .take-bit .ensures .1 (not-true _ (c .if1 .taken)))
 
 without-digit-requires : tie.Need-without-digit-requires Inv-loop μ-loop
 without-digit-requires c κs =
@@ -78,7 +80,7 @@ loop-again : tie.Need-loop-again Inv-loop μ-loop
 loop-again c =
     let at-take-bit = c .before .before .before .before in
     let at-loop = c .before .before .before .before .before .before .before .before in
-    let taken = at-take-bit .take-bit .ensures (not-false _ (c .before .if1 .left)) in (
+    let taken = at-take-bit .take-bit .ensures .0 (not-false _ (c .before .if1 .left)) in (
       omega (arith, c .without-digit .ensures .1),
       learned-trans (at-loop .loop .inv .1) (taken .0),
       passed-turn _ _ _ _ _ _ (at-loop .loop .inv .2) (c .without-digit .ensures .0) (λ k t. taken-kept (taken .0) t) (taken .1),
@@ -90,7 +92,7 @@ same-length-2 c = search needs
 returns-2 : tie.Need-returns-2 Inv-loop μ-loop
 returns-2 c =
     let at-loop = c .before in
-    λ z. (at-loop .loop .inv .1, passed-end _ _ _ (at-loop .loop .inv .2) (omega arith))
+    (λ z. (at-loop .loop .inv .1, passed-end _ _ _ (at-loop .loop .inv .2) (omega arith)), λ z. clash refl z)
 
 pub take-byte-spec : {M : Type 1} → statement M
 take-byte-spec =

@@ -1,6 +1,7 @@
 -- `try_decode` meets its contract. Invariant: what is known is right, and the set bits of the first i bytes are taken. Measure: the bytes left.
 -- Assumes nothing.
 use mathlib.Core.Path.{refl, sym, ap, _∙_}
+use mathlib.Core.Bool.{not}
 use Prim.Native.Nat.{ℕ, _-_, _<_, _≤_}
 use native.Mathlib.Omega.{arith}
 use borrow.Author.Tests.{not-true, not-false}
@@ -13,7 +14,7 @@ use Rattle.codec.proofs.BitLaws.{empty-clear}
 use Rattle.codec.proofs.DecodeLaws.{decode-filled, decode-empty}
 use Rattle.tile.proofs.TakingLaws.{known-start}
 use Rattle.tile.proofs.Passing.{TakenByte, taken-turn, taken-end}
-use Rattle.tile.proofs.TakenLaws.{taken-right, taken-fault, empty-fault}
+use Rattle.tile.proofs.TakenLaws.{taken-right, taken-exact, empty-exact, refused-exact}
 use Rattle.tile.proofs.reading.try_decode.Statement.{statement}
 use Rattle.tile.proofs.reading.try_decode.Tie as tie
 
@@ -40,10 +41,9 @@ returns c =
     let at-clear = c .before .before .before .before in
     let at-start = at-clear .before .before .before .before .before .before in
     let args = at-start .args in
-    let none = empty-clear (args .bits .now) (at-start .pre .2) (sym (at-is-empty .is-empty .ensures) ∙ c .if1 .taken) in
-    λ z. (
-      empty-fault (args .table .now) (args .bits .now) (at-start .pre .0) none,
-      at-clear .clear .ensures ∙ decode-empty (args .table .now) (args .bits .now) none _ (at-start .pre .3),
+    let none = empty-clear (args .bits .now) (at-start .pre .2) (sym (at-is-empty .is-empty .ensures) ∙ c .if1 .taken) in (
+      empty-exact (args .table .now) (args .bits .now) (at-start .pre .0) none,
+      λ z. at-clear .clear .ensures ∙ decode-empty (args .table .now) (args .bits .now) none _ (at-start .pre .3),
     )
 
 loop-holds : tie.Need-loop-holds Inv-loop μ-loop
@@ -58,9 +58,15 @@ take-byte-requires c κs = search needs
 same-length-2 : tie.Need-same-length-2 Inv-loop μ-loop
 same-length-2 c = search needs
 
--- a bit out of order
+-- a bit that cannot be taken
 returns-2 : tie.Need-returns-2 Inv-loop μ-loop
-returns-2 c = λ z. clash z refl
+returns-2 c =
+    let at-take-byte = c .before .before .before in
+    let at-loop = at-take-byte .before .before .before in
+    let at-start = at-loop .before .before .before .before .before .before .before .before .before .before .before in (
+      refused-exact (at-start .args .table .now) (at-start .args .bits .now) (at-start .pre .0) (at-take-byte .take-byte .ensures .1 (not-true _ (c .if2 .taken))),
+      λ z. clash z refl,
+    )
 
 add-i : tie.Need-add-i Inv-loop μ-loop
 add-i c = search needs
@@ -72,7 +78,7 @@ loop-again : tie.Need-loop-again Inv-loop μ-loop
 loop-again c =
     let at-take-byte = c .before .before .before in
     let at-loop = at-take-byte .before .before .before in
-    let taken = at-take-byte .take-byte .ensures (not-false _ (c .if2 .left)) in
+    let taken = at-take-byte .take-byte .ensures .0 (not-false _ (c .if2 .left)) in
     (omega arith, taken .0 .known, taken-turn (at-loop .loop .inv .2) (taken .0) (taken .1))
 
 decode-cells-requires : tie.Need-decode-cells-requires Inv-loop μ-loop
@@ -106,7 +112,7 @@ returns-3 c =
     let all = taken-end table bits settings (at-loop .loop .i) (omega arith) (at-loop .loop .inv .2) in
     let read = at-put-cells .put-cells .ensures ∙ decode-filled table bits settings _ (known .long) (taken-right table bits settings (at-start .pre .0) known all)
     (at-decode-cells .decode-cells .ensures) in
-    λ z. (taken-fault table bits settings (at-start .pre .0) known all (ap bothCarries (sym read) ∙ sym (c .has-both-carries .ensures) ∙ not-true _ z), read)
+    (ap not (c .has-both-carries .ensures ∙ ap bothCarries read) ∙ taken-exact table bits settings (at-start .pre .0) known all, λ z. read)
 
 pub try-decode-spec : {M : Type 1} → statement M
 try-decode-spec =

@@ -1,0 +1,66 @@
+-- What the calls answer and write, over what is lent to them: the clauses of their contracts, with a name each.
+--   built == what `build` answers        settingsRead == what a yes of `read` writes      listBuilt == what a yes of `build` writes
+--   followed == what `follow` answers    stepped == what `step` answers
+--   valuesStepped, stateStepped == what a yes of `step` writes
+--   PassesFour, PassesNine == checks 1 to 4 of `build`, and 1, 2, 3 and 9 of `follow`, pass
+use mathlib.Core.Path.{_≡_}
+use mathlib.Core.List.{List}
+use Prim.Native.Nat.{ℕ}
+use lib.ListN.{length}
+use Rattle.refusal.specs.declared.Answer.{Answer}
+use Rattle.refusal.specs.declared.Answer.the-variants.{Done}
+use Rattle.ports.specs.declared.size.Block.{Block}
+use Rattle.ports.specs.Block.{sizeOf, tiles}
+use Rattle.ports.specs.Lengths.{bitsLength, ports}
+use Rattle.config.specs.Blocks.{decoded, tilesOf}
+use Rattle.config.specs.Entry.{readAnswer, writeAnswer}
+use Rattle.equations.specs.Settling.{blockList}
+use Rattle.block.specs.declared.Built.{Built}
+use Rattle.block.specs.declared.Followed.{Followed}
+use Rattle.block.specs.declared.lengths.RoomLent.{RoomLent}
+use Rattle.block.specs.Lengths.{RoomLong, buildLent, buildExact, followLent, followExact}
+use Rattle.block.specs.Building.{buildAnswer}
+use Rattle.block.specs.Drivers.{followAnswer}
+use Rattle.stepper.specs.Settling.{settledBy, portValues}
+use Rattle.stepper.specs.Clocking.{nextStates}
+use Rattle.sim.specs.declared.lengths.StepRoomLent.{StepRoomLent}
+use Rattle.sim.specs.Lengths.{inputsLent, stepLent, stepExact}
+use Rattle.sim.specs.Stepping.{stepAnswer}
+
+-- `settings` is the first part of the work room of `build`; `room` has the lengths of the list and of the other parts
+abbrev pub built : Block → (table bits settings : List ℕ) → RoomLent → Built
+built B table bits settings room = buildAnswer B table (tilesOf bits) (buildExact B (buildLent table bits settings room))
+
+-- checks 1 to 4: `read` says yes to these bits, and the rest of what is lent to `build` is as long as it must be
+pub record PassesFour (B : Block) (table bits settings : List ℕ) (room : RoomLent) : Type 0 where
+  pub read-done : readAnswer (sizeOf B) table bits (length settings) ≡ Done
+  pub room-long : RoomLong B room
+
+abbrev pub settingsRead : Block → (table bits : List ℕ) → List ℕ
+settingsRead B table bits = decoded table (tilesOf bits) (tiles B)
+
+abbrev pub listBuilt : Block → (table bits : List ℕ) → List ℕ
+listBuilt B table bits = blockList B table (settingsRead B table bits)
+
+-- `wires`, `sources` and `marks` are the work room of `follow`
+abbrev pub followed : Block → (table settings : List ℕ) → (tile port : ℕ) → (wires sources marks : List ℕ) → Followed
+followed B table settings tile port wires sources marks =
+    followAnswer B table settings tile port (followExact B (followLent table settings wires sources marks))
+
+-- checks 1, 2, 3 and 9: `write` says yes to these settings, and the work room of `follow` is as long as it must be
+pub record PassesNine (B : Block) (table settings wires sources marks : List ℕ) : Type 0 where
+  pub write-done : writeAnswer (sizeOf B) table settings (bitsLength (sizeOf B)) ≡ Done
+  pub wires-long : length wires ≡ ports B
+  pub sources-long : length sources ≡ ports B
+  pub marks-long : length marks ≡ ports B
+
+-- `room` has the lengths of the outputs and of the work room of `step`
+abbrev pub stepped : Block → (table settings list state before after : List ℕ) → StepRoomLent → Answer
+stepped B table settings list state before after room =
+    stepAnswer B table settings list state before after (stepExact B (stepLent (inputsLent table settings list state before after) room))
+
+abbrev pub valuesStepped : Block → (list state before : List ℕ) → List ℕ
+valuesStepped B list state before = portValues B (settledBy B list state before)
+
+abbrev pub stateStepped : Block → (settings list state before after : List ℕ) → List ℕ
+stateStepped B settings list state before after = nextStates B settings (settledBy B list state before) (settledBy B list state after) state

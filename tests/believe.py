@@ -88,7 +88,7 @@ COMPUTED = [
     ('block/Building.listAnswer', ['block/Meaning.ListSays'], ['block/list-says']),
     ('block/Building.buildAnswer', ['block/Meaning.BuildSays'], ['block/build-says']),
     ('block/Drivers.followAnswer', ['block/DriverMeaning.FollowSays'], ['block/follow-says']),
-    ('equations/Settling.blockList', ['theorem/*.Listing', 'theorem/*.OnlyChoice'], ['theorem/listing', 'theorem/demand3', 'equations/why']),
+    ('equations/Settling.blockList', ['theorem/*.Listing', 'theorem/*.OnlyChoice'], ['theorem/listing', 'theorem/demand3', 'equations/row-says']),
     # the step
     ('stepper/Settling.badRow', ['netlist/Checking.FirstBad'], ['netlist/first-bad-exact']),
     ('sim/Stepping.badByte', ['sim/Meaning.FirstAbove'], ['sim/step-says']),

@@ -276,6 +276,8 @@ class Sources:
             text = read(path)
             for m in re.finditer(r'((?:^//[^\n]*\n)*)^pub (?:struct|enum) (\w+) \{\n(.*?)^\}', text, re.M | re.S):
                 comment = [c[2:].strip() for c in m.group(1).split('\n') if c]
+                if not comment:  # the first paragraph of the file's head
+                    comment = [c[2:].strip() for c in re.match(r'(?:// [^\n]*\n)*', text).group(0).split('\n') if c]
                 d = Definition(path, crate + '/declared', m.group(2), 'declared', comment)
                 body = [x for x in m.group(3).split('\n') if x.strip() and not x.strip().startswith('//')]
                 d.lines = ['pub'] + body + ['}']
@@ -448,7 +450,7 @@ def lists(sources, reached):
         else:
             order = [d for d in sources.modules[defs[0].module].defs if d.key() in of]
         for d in order:
-            if d.comment or group is None or d.kind in ('record', 'data') or d.section != section:
+            if d.comment or group is None or d.kind in ('record', 'data', 'declared') or d.section != section:
                 group, section = ['`%s`' % d.name], d.section
                 alone = d.kind != 'declared' and d is sources.modules[d.module].defs[0]
                 rows.append((group, sentence(d.comment or ([sources.modules[d.module].head] if alone else []))))

@@ -9,7 +9,8 @@ A demand's roots are the definitions of crates/theorem/specs/DemandN.antt; where
 the entry points say. From the roots every definition that a definition names is followed through the `use` lines of `specs/`. It stops at
 a definition that is computed, where a law says that it is what another definition means: the law and the other definition stand in its
 place (COMPUTED). A law or a definition of that table that does not exist is a fault. So is an answer of `specs/Lib.antt` on whether a
-module is believed that differs from what is computed here.
+module is believed that differs from what is computed here, a search over numbers that would have to be believed (SEARCHES), and an entry
+point with a `requires`.
 """
 import os
 import re
@@ -87,7 +88,7 @@ COMPUTED = [
     ('block/Building.listAnswer', ['block/Meaning.ListSays'], ['block/list-says']),
     ('block/Building.buildAnswer', ['block/Meaning.BuildSays'], ['block/build-says']),
     ('block/Drivers.followAnswer', ['block/DriverMeaning.FollowSays'], ['block/follow-says']),
-    ('equations/Settling.blockList', ['theorem/*.Listing', 'theorem/*.OnlyChoice'], ['theorem/listing', 'theorem/demand3', 'equations/why']),
+    ('equations/Settling.blockList', ['theorem/*.Listing', 'theorem/*.OnlyChoice'], ['theorem/listing', 'theorem/demand3', 'equations/row-says']),
     # the step
     ('stepper/Settling.badRow', ['netlist/Checking.FirstBad'], ['netlist/first-bad-exact']),
     ('sim/Stepping.badByte', ['sim/Meaning.FirstAbove'], ['sim/step-says']),
@@ -98,6 +99,9 @@ COMPUTED = [
     ('frames/Contents.bitsOf', ['frames/Whole.flat'], ['frames/bits-flat']),
     ('lines/Listing.switchPart', ['reporting/Meaning.WireSays'], ['reporting/wire-says']),
 ]
+
+# A search over numbers is always computed: where one is reached, a definition that uses it lacks its row above.
+SEARCHES = {'lists/Search.first', 'lists/Search.allFrom', 'lists/Search.someBelow'}
 
 # The order in which the files are best read: what is of a crate that is not named comes last.
 ORDER = ['names', 'ports', 'fabric', 'routing', 'digits', 'codec', 'config', 'refusal', 'cell', 'equations', 'drivers', 'block', 'netlist',
@@ -272,6 +276,8 @@ class Sources:
             text = read(path)
             for m in re.finditer(r'((?:^//[^\n]*\n)*)^pub (?:struct|enum) (\w+) \{\n(.*?)^\}', text, re.M | re.S):
                 comment = [c[2:].strip() for c in m.group(1).split('\n') if c]
+                if not comment:  # the first paragraph of the file's head
+                    comment = [c[2:].strip() for c in re.match(r'(?:// [^\n]*\n)*', text).group(0).split('\n') if c]
                 d = Definition(path, crate + '/declared', m.group(2), 'declared', comment)
                 body = [x for x in m.group(3).split('\n') if x.strip() and not x.strip().startswith('//')]
                 d.lines = ['pub'] + body + ['}']
@@ -321,16 +327,21 @@ class Sources:
                 found.append(other)
         return found
 
+    def clauses(self, crate, file, function):
+        """The signature and the contract of a function, as text; '' where there is no such function."""
+        text = read(os.path.join(CRATES, crate, file))
+        m = re.search(r'^pub (?:extern "C" )?fn ' + function + r'\(.*?^\{', text, re.M | re.S)
+        return m.group(0) if m else ''
+
     def contract(self, crate, file, function):
         """The definitions that the clauses of a function's contract name."""
-        text = read(os.path.join(CRATES, crate, file))
         uses, aliases = {}, {}
-        take_uses(text, crate, uses, aliases)
-        m = re.search(r'^pub (?:extern "C" )?fn ' + function + r'\(.*?^\{', text, re.M | re.S)
-        if not m:
+        take_uses(read(os.path.join(CRATES, crate, file)), crate, uses, aliases)
+        text = self.clauses(crate, file, function)
+        if not text:
             return None
         found = []
-        for name in sorted(names_in(' '.join(re.findall(r'⌜(.*?)⌝', m.group(0), re.S)), set())):
+        for name in sorted(names_in(' '.join(re.findall(r'⌜(.*?)⌝', text, re.S)), set())):
             other = self.find(name, None, uses, aliases, {})
             if other is not None:
                 found.append(other)
@@ -439,7 +450,7 @@ def lists(sources, reached):
         else:
             order = [d for d in sources.modules[defs[0].module].defs if d.key() in of]
         for d in order:
-            if d.comment or group is None or d.kind in ('record', 'data') or d.section != section:
+            if d.comment or group is None or d.kind in ('record', 'data', 'declared') or d.section != section:
                 group, section = ['`%s`' % d.name], d.section
                 alone = d.kind != 'declared' and d is sources.modules[d.module].defs[0]
                 rows.append((group, sentence(d.comment or ([sources.modules[d.module].head] if alone else []))))
@@ -456,6 +467,11 @@ def lists(sources, reached):
         rows.append('| `%s`, %s | %s | %s |' % (k.rsplit('.', 1)[1], short(sources.named(k).path), ', '.join('`%s`' % b.rsplit('.', 1)[1] for b in believed),
                     ', '.join('`%s` (%s)' % (l.split('/')[1], l.split('/')[0]) for l in laws)))
     parts['computed'] = rows
+    rows = ['| Entry point | Clauses |', '|---|---|']
+    for crate, file, function, _ in ENTRIES:
+        labels = [x or '(the answer)' for x in re.findall(r'^ *ensures (\w*) ?\{', sources.clauses(crate, file, function), re.M)]
+        rows.append('| [`%s::%s`](../crates/%s/%s) | %s |' % (crate, function, crate, file, ', '.join(labels)))
+    parts['entry points'] = rows
     return parts
 
 
@@ -529,6 +545,12 @@ def main():
     for demand, (way, _, _) in reached.items():
         union.update({k: d for k, (d, _) in way.items()})
     print('together: %d definitions, %d lines, of %d and %d in specs/' % (counted(union.values()) + counted(everything)))
+    for key in sorted(SEARCHES & set(union)):
+        by = next(way[key][1] for way, _, _ in reached.values() if key in way)
+        faults.append('%s would have to be believed, by way of %s' % (key, by.key() if by else 'a contract'))
+    for crate, file, function, _ in ENTRIES:
+        if re.search(r'^ *requires', sources.clauses(crate, file, function), re.M):
+            faults.append('%s::%s has a requires' % (crate, function))
     parts = lists(sources, reached)
     text = page = read(PAGE) if os.path.exists(PAGE) else ''
     for name, rows in parts.items():

@@ -1,4 +1,4 @@
--- Ground 2, "a lent length differs from the exact one": how long what is lent to `build` and `follow` is, and how long it must be, as tests and as
+-- Ground 2, "a lent length differs from the exact one": the lengths lent to `build` and `follow`, and the exact ones, as tests and as
 -- facts. The figures are those of ports/specs/Lengths.antt.
 use mathlib.Core.Path.{_≡_}
 use mathlib.Core.Bool.{Bool, _&&_}

@@ -1,5 +1,5 @@
--- What the checks of the table (ground 3) and of the settings (grounds 4 or 9) show, as far as the equations ask for it; and what the code that
--- writes the rows asks for.
+-- What the checks of the table (ground 3) and of the settings (ground 4 or 9) establish, as far as the equations need it; and what the code
+-- that writes the rows needs.
 use Prim.Native.Nat.{ℕ, _*_, _≤_, _<_}
 use mathlib.Core.Path.{_≡_}
 use mathlib.Core.Bool.{true}

@@ -18,6 +18,7 @@ use Rattle.equations.specs.Equations.{carryPort, wire, ZeroPort, OpenPor
 abbrev pub plainRow : ℕ → ℕ → ℕ → Row
 plainRow kind w a = record { kind = kind; wire = w; a = a; b = 0; c = 0; d = 0; table = 0 }
 
+-- the wire of in_j of cell i of tile T
 abbrev pub inWire : Block → ℕ → ℕ → ℕ → ℕ
 inWire B T i j = wireOf B (tilePort B T (inPort i j))
 

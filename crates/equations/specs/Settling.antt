@@ -1,5 +1,5 @@
--- Demand 3, but for the step: the list of an accepted block, what running it gives, and that this is the one choice of values that the block's
--- equations allow. The demand itself, over what the calls promise, stands in `theorem`; this is what it rests on.
+-- Demand 3 without the step: the list of an accepted block, what running it gives, and that this is the one choice of values that the
+-- block's equations allow. The demand itself, over what the calls promise, stands in `theorem`, and rests on this.
 use Prim.Native.Nat.{ℕ, _*_, _≤_, _<_}
 use mathlib.Core.Path.{_≡_}
 use mathlib.Core.Logic.{_≢_}

@@ -1,5 +1,5 @@
--- A map over a block's ports: for each wire where its switch comes from; the rows by that map; and the lowest wire with two
--- switches. A pass over the switches in their order computes map and lowest wire (`Sourced`).
+-- For each wire of a block where its switch comes from, as a map over the ports; the rows by that map; and the lowest wire with two
+-- switches. One pass over the switches in their order computes the map and that wire (`Sourced`).
 use Prim.Native.Nat.{ℕ, zero, suc, _+_, _-_, _<_}
 use mathlib.Core.Path.{_≡_}
 use mathlib.Core.Bool.{Bool, false, cond, _&&_, _||_}

@@ -1,5 +1,5 @@
--- The joins between ports of a block as published, all tiles inside the block, and the ports that a chain of them links
--- (document 01, 'Joins'). "A way through a tile outside the block is not followed."
+-- The published joins between ports of a block, all tiles inside it, and the ports that a chain of them links (document 01, 'Joins'). "A
+-- way through a tile outside the block is not followed."
 use Prim.Native.Nat.{ℕ, suc, _+_, _≤_, _<_}
 use Rattle.ports.specs.declared.size.Block.{Block}
 use Rattle.ports.specs.Block.{port}

@@ -1,4 +1,4 @@
--- What is right of joins and wires. A reader starts with Joins.
+-- What joins and wires are. A reader starts with Joins.
 pub mod Span  -- believed: flip; the walk is computed: wire-exact. A wire's walk from edge to edge; the four spans
 pub mod Joins  -- believed. Join: a constructor for each published join; Linked: a chain of them; Lowest
 pub mod SpanWire  -- computed: wire-exact. rowWire, sp4Column, sp12Column, rightWire: the wires of spans

@@ -1,5 +1,5 @@
--- The number of the wire that a port is on, computed: "A wire's number is its lowest port number." That it is the number by the joins
--- is proved (proofs/WireLaws.antt).
+-- The number of the wire that a port is on, computed: "A wire's number is its lowest port number." proofs/WireLaws.antt proves that it is
+-- the number by the joins.
 use Prim.Native.Nat.{ℕ, zero, suc, _/_, _%_}
 use mathlib.Core.List.{List}
 use Rattle.lists.specs.Tables.{tabulate}

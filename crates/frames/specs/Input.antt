@@ -1,6 +1,6 @@
--- An input of frames: where each line begins, how many there are, and what is answered ("One 01, one 02, the 03s, one 04, the 05s.").
--- Since a line that is malformed, out of turn, missing or extra is always the one behind the frames that came in their turn, a line's place
--- is one more than their number.
+-- An input of frames: where each line begins, how many there are, and what is answered ("One 01, one 02, the 03s, one 04, the 05s."). A
+-- line that is malformed, out of turn, missing or extra is always the first one behind the frames that came in their turn, so its place is
+-- one more than their number.
 use Prim.Native.Nat.{ℕ, zero, suc, _+_, _*_}
 use mathlib.Core.Path.{_≡_}
 use mathlib.Core.Bool.{Bool, true, not, _&&_}

@@ -1,6 +1,7 @@
--- Ranks: a number for each wire that is not listed, by which ground 7's place, "lowest wire depending on itself", is found without a search from
--- each wire. Where none of these reads one of a higher rank, one that reads only lower ones does not depend on itself (proofs/RankLaws.antt):
--- a listed wire reads only listed ones, so no chain of readings leads back from one. How ranks are found is left open.
+-- Ranks: a number for each wire that is not listed. They give ground 7's place, "lowest wire depending on itself", without a search from
+-- each wire: if no such wire reads one of a higher rank, then one that reads only lower ranks does not depend on itself
+-- (proofs/RankLaws.antt). A listed wire reads only listed ones, so no chain of readings leads back from it. How ranks are found is left
+-- open.
 use mathlib.Core.List.{List}
 use Prim.Native.Nat.{ℕ, _+_, _*_, _<_, _≤_}
 use lib.ListN.{length, getD}

@@ -1,4 +1,4 @@
--- Equations for the wires of a graph: `value x w` is what that of w gives where the wires have the values x.
+-- Equations for the wires of a graph: `value x w` is what the equation of w gives when the wires have the values x.
 use mathlib.Core.Path.{_≡_}
 use mathlib.Core.Bool.{true}
 use mathlib.Core.List.{List, [], _∷_}

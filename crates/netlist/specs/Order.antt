@@ -1,5 +1,5 @@
--- The order of the rows (document 01, 'The list and a step'). The marks step one listed wire at a time, so that one
--- turn of the code that lists is one unfolding.
+-- The order of the rows (document 01, 'The list and a step'). The marks change by one listed wire at a time, so one turn of the code that
+-- lists is one unfolding.
 use mathlib.Core.Path.{_≡_}
 use mathlib.Core.Bool.{Bool, true, not, cond, _&&_}
 use mathlib.Core.List.{List, [], _∷_}

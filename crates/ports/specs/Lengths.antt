@@ -1,5 +1,5 @@
--- How long everything is that is lent for a block: "Lengths: bits 108, values 506, state 8, list 3,542 numbers, each times W·H; those of table,
--- settings and work room stand in docs/". No other file has these figures.
+-- The length of everything that is lent for a block: "Lengths: bits 108, values 506, state 8, list 3,542 numbers, each times W·H; those of
+-- table, settings and work room stand in docs/". No other file has these figures.
 --   bitsLength, settingsTotal, stateLength == of a size      ports, listLength == of a block      tableLength == of any
 use Prim.Native.Nat.{ℕ, _+_, _*_}
 use Rattle.ports.specs.declared.size.Size.{Size}

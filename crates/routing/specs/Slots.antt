@@ -1,4 +1,4 @@
--- Every claim on a position, by logic cell bits, fields, passive list or groups, is a slot of one sequence, in this order. Then 'claimed
+-- Every claim on a position, by logic cell bits, fields, passive list or groups, is a slot of one sequence, in this order. So 'claimed
 -- twice', who owns a position, writing and reading are each said once.
 --   claims == slot s claims position p        Once == no position is claimed twice
 --   ownerIn == the first slot that claims p   Owned == a map of positions to their slots

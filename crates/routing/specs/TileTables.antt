@@ -1,5 +1,5 @@
--- The kind of a block's tile, and the table that says what its bits mean. All tiles are logic tiles under one lent table; what lists switches or
--- settings goes through these, so that another kind of tile is a change here.
+-- The kind of a block's tile, and the table that says what its bits mean. All tiles are logic tiles under one lent table. Whatever lists
+-- switches or settings goes through these two, so another kind of tile is a change here.
 use Prim.Native.Nat.{ℕ}
 use mathlib.Core.List.{List}
 use Rattle.ports.specs.declared.size.Block.{Block}

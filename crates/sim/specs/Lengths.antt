@@ -1,5 +1,5 @@
--- Ground 2, "a lent length differs from the exact one": how long what is lent to `step` is, and how long it must be, as tests and as facts. The
--- figures are those of ports/specs/Lengths.antt.
+-- Ground 2, "a lent length differs from the exact one": the lengths lent to `step`, and the exact ones, as tests and as facts. The figures
+-- are those of ports/specs/Lengths.antt.
 use mathlib.Core.Path.{_≡_}
 use mathlib.Core.Bool.{Bool, _&&_}
 use mathlib.Core.List.{List}

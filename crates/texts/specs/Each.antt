@@ -1,4 +1,4 @@
--- What is made of each of a list, one piece of text behind another, and what holds of each.
+-- Text made from each element of a list, one piece behind another, and what holds of each element.
 use Prim.Native.Nat.{ℕ, suc}
 use mathlib.Core.List.{List, [], _∷_, _++_}
 

@@ -1,5 +1,5 @@
--- A tile's settings while its set bits are taken one after another, in any order, each making the setting that it belongs to known: what the
--- functions that take them promise each other.
+-- A tile's settings while its set bits are taken one after another, in any order. Each bit makes the setting that it belongs to known. What
+-- the functions that take them promise each other.
 use Rattle.codec.specs.Bits.{bitAt, tileOf}
 use Prim.Native.Nat.{ℕ, _+_, _<_}
 use mathlib.Core.Path.{_≡_}

@@ -58,7 +58,7 @@ module _ (B : Block) (t st : List ℕ) (tile port : ℕ) (wires sources marks : 
           no-contention = free;
           tile-within = lt;
           port-within = ltb-true port portsPerTile g;
-          driven = driven-exact B t st ok free (wire B t st tile port) (wire-within B _ l) (wire-idempotent B _ l);
+          driven = driven-exact B t st ok free (wire B tile port) (wire-within B _ l) (wire-idempotent B _ l);
         },
       ))))
 

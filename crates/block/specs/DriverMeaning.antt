@@ -22,17 +22,17 @@ use Rattle.block.specs.declared.Followed.the-variants.{Driven, Refused}
 use Rattle.block.specs.declared.lengths.FollowLent.{FollowLent}
 use Rattle.block.specs.Lengths.{FollowLong}
 
-module _ (B : Block) (t st : List ℕ) (tile port : ℕ) where
-  -- "a port (0 to 505 in its tile), tile [..] out of range", place "that number, a tile's first"
-  abbrev pub OutOfBlock : ℕ → Type 0
-  OutOfBlock number = ((tiles B ≤ tile) × (number ≡ tile)) ⊎ ((tile < tiles B) × (portsPerTile ≤ port) × (number ≡ port))
+-- "a port (0 to 505 in its tile), tile [..] out of range", place "that number, a tile's first"
+abbrev pub OutOfBlock : Block → (tile port : ℕ) → ℕ → Type 0
+OutOfBlock B tile port number = ((tiles B ≤ tile) × (number ≡ tile)) ⊎ ((tile < tiles B) × (portsPerTile ≤ port) × (number ≡ port))
 
+module _ (B : Block) (t st : List ℕ) (tile port : ℕ) where
   -- "Following a driver from a tile's port ends at an open wire, a constant, a cell, or reports a ring."
   pub record FollowedTo (driver : Driver) : Type 0 where
     pub no-contention : NoContention B t st
     pub tile-within : tile < tiles B
     pub port-within : port < portsPerTile
-    pub driven : DrivenBy B t st (wire B t st tile port) driver
+    pub driven : DrivenBy B t st (wire B tile port) driver
 
 module _ (B : Block) (t st : List ℕ) (tile port : ℕ) (lent : FollowLent) where
   -- none of grounds 1, 2, 3 and 9
@@ -49,7 +49,7 @@ module _ (B : Block) (t st : List ℕ) (tile port : ℕ) (lent : FollowLent) whe
     broken : (part : ℕ) → Sized B → FollowLong B lent → FirstBroken logicTile t part → FollowNo (Table part)
     bitless : (T : ℕ) → Sized B → FollowLong B lent → TableRules logicTile t → LowestBitless t st (tiles B) T → FollowNo (NoSuchSettings T)
     contention : (x : ℕ) → Followable → LowestContention B t st x → FollowNo (Contention x)
-    out-of-range : (number : ℕ) → Followable → NoContention B t st → OutOfBlock B t st tile port number → FollowNo (OutOfRange number)
+    out-of-range : (number : ℕ) → Followable → NoContention B t st → OutOfBlock B tile port number → FollowNo (OutOfRange number)
 
   -- what an answer of following says
   abbrev pub FollowSays : Followed → Type 0

@@ -16,9 +16,11 @@ use crate::groups::read_group;
 use ports::lengths::MAX_POSITIONS;
 use routing::slots::FIELD_SLOTS;
 use routing::slots::GROUP_SLOTS;
+use routing::table::CARRY_CHAIN;
+use routing::table::CARRY_IN_SET;
 
 // In the ownership map: the CarryInSet field, the first position of group 0. A map's number is one more than the slot's.
-const CARRY_IN_SET: usize = FIELD_SLOTS + 2;
+const SET_FIELD: usize = FIELD_SLOTS + CARRY_IN_SET + 1;
 
 const GROUPS: usize = GROUP_SLOTS + 1;
 
@@ -39,8 +41,8 @@ pub fn is_carry_pair(table: &[u16], bits: &[u8]) -> bool
     requires { ⌜ (TableRules logicTile (now table)) × (length (now bits) ≡ tileNumbers) ⌝ }
     ensures { λ r. ⌜ r ≡ carryPair (now (table .entry)) (bitAt (now (bits .entry))) ⌝ }
 {
-    let set = routing::table::field(table, 1);
-    let chain = routing::table::field(table, 2);
+    let set = routing::table::field(table, CARRY_IN_SET);
+    let chain = routing::table::field(table, CARRY_CHAIN);
     if read_bit(bits, set) == 1 {
         return read_bit(bits, chain) == 1;
     }
@@ -58,7 +60,7 @@ pub fn is_fault_at(table: &[u16], own: &[u16], bits: &[u8], p: usize) -> bool
     if code == 0 {
         return read_bit(bits, p) == 1;
     }
-    if code == CARRY_IN_SET {
+    if code == SET_FIELD {
         return is_carry_pair(table, bits);
     }
     if code < GROUPS {

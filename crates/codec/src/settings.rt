@@ -19,6 +19,8 @@ use crate::groups::read_group;
 use ports::lengths::FIELDS;
 use ports::lengths::MAX_PASSIVES;
 use ports::lengths::SETTINGS_LENGTH;
+use routing::table::CARRY_CHAIN;
+use routing::table::CARRY_IN_SET;
 
 pub const PASSIVES_FROM: usize = FIELDS;
 
@@ -99,8 +101,8 @@ pub fn has_both_carries(settings: &[u16]) -> bool
     requires { ⌜ length (now settings) ≡ settingsLength ⌝ }
     ensures { λ r. ⌜ r ≡ bothCarries (now (settings .entry)) ⌝ }
 {
-    if settings[1] == 1 {
-        return settings[2] == 1;
+    if settings[CARRY_IN_SET] == 1 {
+        return settings[CARRY_CHAIN] == 1;
     }
     false
 }

@@ -70,10 +70,10 @@ module _ (B : Block) (t st : List ℕ) (ok : Routed B t st) where
 
   -- ---- who reads a carry output: in ports are never one, nor is carry_in_mux
 
-  no-in : {w S k : ℕ} (T i j : ℕ) → T < tiles B → i < 8 → j < 4 → wire B t st T (inPort i j) ≡ w → driveOf B w ≡ CellCout S k → ⊥
+  no-in : {w S k : ℕ} (T i j : ℕ) → T < tiles B → i < 8 → j < 4 → wire B T (inPort i j) ≡ w → driveOf B w ≡ CellCout S k → ⊥
   no-in T i j l h g e c = let low = drive-at B t st l (omega arith) e (zero-drive B T (in-port i j h g)) in let z : _≡_ {A = ℕ} 0 1 = cc in omega arith
 
-  no-mux : {w S k : ℕ} (T : ℕ) → T < tiles B → wire B t st T carryInMux ≡ w → driveOf B w ≡ CellCout S k → ⊥
+  no-mux : {w S k : ℕ} (T : ℕ) → T < tiles B → wire B T carryInMux ≡ w → driveOf B w ≡ CellCout S k → ⊥
   no-mux T l e c = let m = drive-at B t st l (omega arith) e (mux-drive B T) in let z : _≡_ {A = ℕ} 0 1 = cc in omega arith
 
   reads-reader : {u w S k : ℕ} → ReadsWire B t st u w → driveOf B w ≡ CellCout S k → CarryReader B t st w
@@ -89,8 +89,8 @@ module _ (B : Block) (t st : List ℕ) (ok : Routed B t st) where
   reader-reads : {w : ℕ} → CarryReader B t st w → (u : ℕ) × ReadsWire B t st u w
   reader-reads (by-switch s l e) = (target B t s, switch-reads s l e)
   reader-reads (by-chain T l c) =
-      (wire B t st T carryInMux, mux-reads T l (⊎-elim (λ e. absurd (ok .one-carry T l e c)) (λ e. e) (cases (carrySet st T))) c)
-  reader-reads (by-next T i l h c) = (wire B t st T (coutPort (suc i)), cout-reads-carry T (suc i) l h c)
+      (wire B T carryInMux, mux-reads T l (⊎-elim (λ e. absurd (ok .one-carry T l e c)) (λ e. e) (cases (carrySet st T))) c)
+  reader-reads (by-next T i l h c) = (wire B T (coutPort (suc i)), cout-reads-carry T (suc i) l h c)
 
   pub carry-read-lt : {w : ℕ} → DisabledCarryRead B t st w → w < ports B
   carry-read-lt h = read-lt B t st ok (reader-reads (h .1) .1)

@@ -34,21 +34,21 @@ module _ (B : Block) (t st : List ℕ) (ok : Routed B t st) (free : NoContention
 
   -- a wire of a tile is driven from outside exactly if it does not come from a cell
   module _ (T q : ℕ) (lT : T < tiles B) (lq : q < portsPerTile) where
-    driven : DrivenBy B t st (wire B t st T q) (driverOf B sources (wire B t st T q))
+    driven : DrivenBy B t st (wire B T q) (driverOf B sources (wire B T q))
     driven =
         let l = port-of-lt B T q lT lq in
-        driven-exact B t st ok free (wire B t st T q) (wire-within B _ l) (wire-idempotent B _ l)
+        driven-exact B t st ok free (wire B T q) (wire-within B _ l) (wire-idempotent B _ l)
 
-    inside-cell : not (drivenOutside B st sources T q) ≡ true → ComesFromCell B t st (wire B t st T q)
-    inside-cell e = go (driverOf B sources (wire B t st T q)) driven (not-true _ e)
+    inside-cell : not (drivenOutside B st sources T q) ≡ true → ComesFromCell B t st (wire B T q)
+    inside-cell e = go (driverOf B sources (wire B T q)) driven (not-true _ e)
       where
-        go : (d : Driver) → DrivenBy B t st (wire B t st T q) d → isOutside d ≡ false → ComesFromCell B t st (wire B t st T q)
+        go : (d : Driver) → DrivenBy B t st (wire B T q) d → isOutside d ≡ false → ComesFromCell B t st (wire B T q)
         go (Open u) h o = clash refl o
         go (Constant u b) h o = clash refl o
         go (Cell u) h o = (u, h)
         go (Ring u) h o = absurd (no-ring B t st ok free straight h u refl)
 
-    cell-inside : ComesFromCell B t st (wire B t st T q) → not (drivenOutside B st sources T q) ≡ true
+    cell-inside : ComesFromCell B t st (wire B T q) → not (drivenOutside B st sources T q) ≡ true
     cell-inside h = ap (λ (d : Driver). not (isOutside d)) (driven-unique B t st ok free driven (h .1))
 
   from-cell : (T : ℕ) → T < tiles B → (clockedAt B st sources T ≡ true) ↔ FromCell B t st T

@@ -21,7 +21,7 @@ use Rattle.drivers.specs.Following.{StandsAt, open-wire, zero-wire, one-
 
 module _ (B : Block) (t st : List ℕ) where
   -- the drive of a wire is that of each of its ports
-  pub drive-at : {u T q : ℕ} {d : Drive} → T < tiles B → q < portsPerTile → wire B t st T q ≡ u → driveOf B (portOf T q) ≡ d → driveOf B u ≡ d
+  pub drive-at : {u T q : ℕ} {d : Drive} → T < tiles B → q < portsPerTile → wire B T q ≡ u → driveOf B (portOf T q) ≡ d → driveOf B u ≡ d
   drive-at {u} {T} {q} lT lq e h = ap (driveOf B) (sym e) ∙ drive-wire B (portOf T q) (port-of-lt B T q lT lq) ∙ h
 
   -- an undriven wire's drive is none of a cell
@@ -35,7 +35,7 @@ module _ (B : Block) (t st : List ℕ) where
 
   module _ (u : ℕ) (l : u < ports B) (own : wireOf B u ≡ u) (none : NoSwitch B t st u) where
     -- u as a port of its tile
-    own-wire : wire B t st (u / portsPerTile) (u % portsPerTile) ≡ u
+    own-wire : wire B (u / portsPerTile) (u % portsPerTile) ≡ u
     own-wire = ap (wireOf B) (let e : portsPerTile * (u / portsPerTile) + u % portsPerTile ≡ u = omega arith in e) ∙ own
 
     pub stands-at : StandsAt B t st u (endDriver u (driveOf B u))
@@ -47,14 +47,14 @@ module _ (B : Block) (t st : List ℕ) where
         go : (d : Drive) → driveOf B u ≡ d → Role B u (u % portsPerTile) d → StandsAt B t st u (endDriver u d)
         go Nothing e r = open-wire _ _ tile-lt r own-wire (record { no-switch = none; no-cell = nothing-no-cell u e })
         go Low e r = zero-wire _ _ tile-lt r own-wire
-        go High e r = one-wire _ tile-lt (ap (λ (q : ℕ). wire B t st (u / portsPerTile) q) (sym r) ∙ own-wire)
+        go High e r = one-wire _ tile-lt (ap (λ (q : ℕ). wire B (u / portsPerTile) q) (sym r) ∙ own-wire)
         go (CellOut T i) e r = out-wire T i (r .tile-lt) (r .cell-lt) (r .wire-same ∙ own)
         go (CellLout T i) e r = lout-wire T i (r .tile-lt) (r .cell-lt) (r .wire-same ∙ own)
         go (CellCout T i) e r = cout-wire T i (r .tile-lt) (r .cell-lt) (r .wire-same ∙ own)
         go (CarryMux T) e r = mux-wire T (r .tile-lt) (r .wire-same ∙ own)
 
   -- an open wire that no cell drives has no drive
-  open-nothing : {u : ℕ} (T q : ℕ) → T < tiles B → OpenPort q → wire B t st T q ≡ u → NoCell B t st u → driveOf B u ≡ Nothing
+  open-nothing : {u : ℕ} (T q : ℕ) → T < tiles B → OpenPort q → wire B T q ≡ u → NoCell B t st u → driveOf B u ≡ Nothing
   open-nothing {u} T q lT o e free =
       let m : portOf T q % portsPerTile ≡ q = let lq = open-lt o in omega arith in
       go (driveOf B (portOf T q)) refl (rw m at (role-all B (portOf T q) (port-of-lt B T q lT (open-lt o))))

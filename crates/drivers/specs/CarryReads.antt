@@ -3,7 +3,7 @@ use Prim.Native.Nat.{ℕ, zero, suc, _<_}
 use mathlib.Core.Bool.{Bool, false, not, cond, _&&_}
 use mathlib.Core.List.{List}
 use lib.Dec.{eqb, ltb}
-use Rattle.lists.specs.Search.{first, allFrom}
+use Rattle.lists.specs.Search.{first, someBelow}
 use Rattle.ports.specs.declared.size.Block.{Block}
 use Rattle.ports.specs.Lengths.{ports}
 use Rattle.netlist.specs.declared.row.Row.{Row}
@@ -26,7 +26,7 @@ isDisabledCarry st (CarryMux T) = false
 
 -- one of the m first operands of a row is w
 unfoldable pub rowReadsIn : Row → ℕ → ℕ → Bool
-rowReadsIn row m w = not (allFrom (λ j. not (eqb (operandOf row j) w)) 0 m)
+rowReadsIn row m w = someBelow (λ j. eqb (operandOf row j) w) m
 
 abbrev pub rowReads : Row → ℕ → Bool
 rowReads row w = rowReadsIn row (arityOf row) w
@@ -34,7 +34,7 @@ rowReads row w = rowReadsIn row (arityOf row) w
 module _ (B : Block) (t st : List ℕ) where
   -- one of the m first rows reads w
   unfoldable pub readIn : ℕ → ℕ → Bool
-  readIn m w = not (allFrom (λ u. not (rowReads (rowOf B t st u) w)) 0 m)
+  readIn m w = someBelow (λ u. rowReads (rowOf B t st u) w) m
 
   unfoldable pub carryReadIn : ℕ → ℕ → Bool
   carryReadIn m w = isDisabledCarry st (driveOf B w) && readIn m w

@@ -3,7 +3,8 @@ use Prim.Native.Nat.{ℕ, _≤_, _<_}
 use mathlib.Core.Path.{_≡_}
 use mathlib.Core.Bool.{Bool, true, false, not, _&&_, _||_}
 use mathlib.Core.List.{List}
-use Rattle.lists.specs.Search.{first, allFrom}
+use Rattle.ports.specs.Lengths.{cellsPerTile}
+use Rattle.lists.specs.Search.{first, someBelow}
 use Rattle.digits.specs.Digits.{isSet}
 use Rattle.ports.specs.declared.size.Block.{Block}
 use Rattle.ports.specs.Block.{tiles, tilePort}
@@ -26,8 +27,8 @@ module _ (B : Block) (t st : List ℕ) where
 
   -- tile T has a flip-flop and its clk comes from a cell, or an asynchronous one and its s_r does
   pub data FromCell (T : ℕ) : Type 0 where
-    clock : (i : ℕ) → i < 8 → flopOn st T i ≡ true → ComesFromCell (wire B t st T clk) → FromCell T
-    reset : (i : ℕ) → i < 8 → asyncFlopOn st T i ≡ true → ComesFromCell (wire B t st T sR) → FromCell T
+    clock : (i : ℕ) → i < 8 → flopOn st T i ≡ true → ComesFromCell (wire B T clk) → FromCell T
+    reset : (i : ℕ) → i < 8 → asyncFlopOn st T i ≡ true → ComesFromCell (wire B T sR) → FromCell T
 
   -- place "lowest tile"
   pub record LowestFromCell (T : ℕ) : Type 0 where
@@ -45,7 +46,7 @@ isOutside (Cell u) = false
 isOutside (Ring u) = false
 
 abbrev pub anyCell : (ℕ → Bool) → Bool
-anyCell p = not (allFrom (λ i. not (p i)) 0 8)
+anyCell p = someBelow p cellsPerTile
 
 module _ (B : Block) (st sources : List ℕ) where
   abbrev pub drivenOutside : ℕ → ℕ → Bool

@@ -37,13 +37,13 @@ module _ (B : Block) (t st : List ℕ) where
   -- "ends at an open wire, a constant, a cell [..]. Cell here includes carry_in_mux and every cout. The answer gives the wire it ends at [..] and a
   -- constant's 0 or 1": what stands at wire u, on which no switch ends
   pub data StandsAt (u : ℕ) : Driver → Type 0 where
-    open-wire : (T q : ℕ) → T < tiles B → OpenPort q → wire B t st T q ≡ u → Undriven B t st u → StandsAt u (Open u)
-    zero-wire : (T q : ℕ) → T < tiles B → ZeroPort q → wire B t st T q ≡ u → StandsAt u (Constant u 0)
-    one-wire : (T : ℕ) → T < tiles B → wire B t st T cen ≡ u → StandsAt u (Constant u 1)
-    out-wire : (T i : ℕ) → T < tiles B → i < 8 → wire B t st T (outPort i) ≡ u → StandsAt u (Cell u)
-    lout-wire : (T i : ℕ) → T < tiles B → i < 8 → wire B t st T (loutPort i) ≡ u → StandsAt u (Cell u)
-    cout-wire : (T i : ℕ) → T < tiles B → i < 8 → wire B t st T (coutPort i) ≡ u → StandsAt u (Cell u)
-    mux-wire : (T : ℕ) → T < tiles B → wire B t st T carryInMux ≡ u → StandsAt u (Cell u)
+    open-wire : (T q : ℕ) → T < tiles B → OpenPort q → wire B T q ≡ u → Undriven B t st u → StandsAt u (Open u)
+    zero-wire : (T q : ℕ) → T < tiles B → ZeroPort q → wire B T q ≡ u → StandsAt u (Constant u 0)
+    one-wire : (T : ℕ) → T < tiles B → wire B T cen ≡ u → StandsAt u (Constant u 1)
+    out-wire : (T i : ℕ) → T < tiles B → i < 8 → wire B T (outPort i) ≡ u → StandsAt u (Cell u)
+    lout-wire : (T i : ℕ) → T < tiles B → i < 8 → wire B T (loutPort i) ≡ u → StandsAt u (Cell u)
+    cout-wire : (T i : ℕ) → T < tiles B → i < 8 → wire B T (coutPort i) ≡ u → StandsAt u (Cell u)
+    mux-wire : (T : ℕ) → T < tiles B → wire B T carryInMux ≡ u → StandsAt u (Cell u)
 
   -- "or reports a ring", "a ring's lowest"
   pub data DrivenBy (w : ℕ) : Driver → Type 0 where

@@ -121,10 +121,10 @@ module _ (B : Block) (t st : List ℕ) where
       reads-at w r l e j h = let is = row-is B t st w l ∙ e in (j, rw is h, ap (λ (r : Row). operandOf r j) is)
 
       reads-cell : (T q : ℕ) (d : Drive) (r : Row) → T < tiles B → q < portsPerTile → driveOf B (portOf T q) ≡ d → ofCell d ≡ true
-          → driveRow B st (wire B t st T q) d ≡ r → (j : ℕ) → j < arityOf r → Reads (graph B t st) (wire B t st T q) (operandOf r j)
+          → driveRow B st (wire B T q) d ≡ r → (j : ℕ) → j < arityOf r → Reads (graph B t st) (wire B T q) (operandOf r j)
       reads-cell T q d r l h e c k j g =
           let p = port-of-lt B T q l h in
-          reads-at (wire B t st T q) r (wire-within B _ p) (row-cell B t st ok (portOf T q) d p e c ∙ k) j g
+          reads-at (wire B T q) r (wire-within B _ p) (row-cell B t st ok (portOf T q) d p e c ∙ k) j g
 
       pub equation-reads : {w d : ℕ} → ReadsWire B t st w d → Reads (graph B t st) w d
       unfolding arityOf operandOf
@@ -132,10 +132,10 @@ module _ (B : Block) (t st : List ℕ) where
           reads-at _ (plainRow copyKind _ (origin B t st s)) (target-lt B t st ok s l e)
           (row-switch B t st free _ s (target-own B t st ok s l e) (record { within = l; on = e; onto = refl })) 0 (omega arith)
       equation-reads (lout-reads T i j l h k) =
-          subst (λ (d : ℕ). Reads (graph B t st) (wire B t st T (loutPort i)) d) (lookup-operand B st (wire B t st T (loutPort i)) T i j k)
+          subst (λ (d : ℕ). Reads (graph B t st) (wire B T (loutPort i)) d) (lookup-operand B st (wire B T (loutPort i)) T i j k)
           (reads-cell T (loutPort i) (CellLout T i) _ l (omega arith) (lout-drive B T i h) refl (lout-row B st _ T i) j k)
       equation-reads (out-reads T i j l h k b) =
-          subst (λ (d : ℕ). Reads (graph B t st) (wire B t st T (outPort i)) d) (lookup-operand B st (wire B t st T (outPort i)) T i j k)
+          subst (λ (d : ℕ). Reads (graph B t st) (wire B T (outPort i)) d) (lookup-operand B st (wire B T (outPort i)) T i j k)
           (reads-cell T (outPort i) (CellOut T i) _ l (omega arith) (out-drive B T i h) refl (out-row B st _ T i b) j k)
       equation-reads (cout-reads-in1 T i l h b) =
           reads-cell T (coutPort i) (CellCout T i) _ l (omega arith) (cout-drive B T i h) refl (carry-row B st _ T i b) 0 (omega arith)

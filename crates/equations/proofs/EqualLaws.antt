@@ -78,20 +78,20 @@ module _ (B : Block) (t st state lent v : List ℕ) where
     solved w r l own e = sol w l (own-wire B t st w l own) ∙ ap (λ (r : Row). rowValue r state lent v) (row-is B t st w l ∙ e)
 
     -- at the wire of port q of tile T
-    solved-at : (T q : ℕ) (r : Row) → T < tiles B → q < portsPerTile → rowOf B t st (wire B t st T q) ≡ r
+    solved-at : (T q : ℕ) (r : Row) → T < tiles B → q < portsPerTile → rowOf B t st (wire B T q) ≡ r
         → val B t st state lent v T q ≡ rowValue r state lent v
     solved-at T q r l h e =
         let p = port-of-lt B T q l h in
-        solved (wire B t st T q) r (wire-within B _ p) (wire-idempotent B _ p) e
+        solved (wire B T q) r (wire-within B _ p) (wire-idempotent B _ p) e
 
     -- where that is an output of a cell
     solved-cell : (T q : ℕ) (d : Drive) (r : Row) → T < tiles B → q < portsPerTile → driveOf B (portOf T q) ≡ d → ofCell d ≡ true
-        → driveRow B st (wire B t st T q) d ≡ r → val B t st state lent v T q ≡ rowValue r state lent v
+        → driveRow B st (wire B T q) d ≡ r → val B t st state lent v T q ≡ rowValue r state lent v
     solved-cell T q d r l h e c k = solved-at T q r l h (row-cell B t st ok (portOf T q) d (port-of-lt B T q l h) e c ∙ k)
 
     -- and where no switch ends
-    solved-free : (T q : ℕ) (d : Drive) → T < tiles B → q < portsPerTile → driveOf B (portOf T q) ≡ d → NoSwitch B t st (wire B t st T q)
-        → val B t st state lent v T q ≡ rowValue (driveRow B st (wire B t st T q) d) state lent v
+    solved-free : (T q : ℕ) (d : Drive) → T < tiles B → q < portsPerTile → driveOf B (portOf T q) ≡ d → NoSwitch B t st (wire B T q)
+        → val B t st state lent v T q ≡ rowValue (driveRow B st (wire B T q) d) state lent v
     solved-free T q d l h e f = solved-at T q _ l h (row-port B t st (portOf T q) d (port-of-lt B T q l h) e f)
 
     open-drive : (p q : ℕ) (d : Drive) → Role B p q d → OpenPort q → NoCell B t st (wireOf B p) → d ≡ Nothing
@@ -103,7 +103,7 @@ module _ (B : Block) (t st state lent v : List ℕ) where
     open-drive p q (CellCout T i) r o c = absurd (c .no-cout T i (r .tile-lt) (r .cell-lt) (r .wire-same))
     open-drive p q (CarryMux T) r o c = absurd (c .no-mux T (r .tile-lt) (r .wire-same))
 
-    undriven-drive : (T q : ℕ) → T < tiles B → OpenPort q → NoCell B t st (wire B t st T q) → driveOf B (portOf T q) ≡ Nothing
+    undriven-drive : (T q : ℕ) → T < tiles B → OpenPort q → NoCell B t st (wire B T q) → driveOf B (portOf T q) ≡ Nothing
     undriven-drive T q l o c =
         let h = open-lt o in
         let m : portOf T q % portsPerTile ≡ q = omega arith in

@@ -18,13 +18,13 @@ module _ (B : Block) (t st : List ℕ) where
     pub tile-within : tile < tiles B
     pub cell-within : cell < 8
     pub off : carryOn st tile cell ≡ false
-    pub at : wire B t st tile (coutPort cell) ≡ w
+    pub at : wire B tile (coutPort cell) ≡ w
 
   -- by whom a wire is read as a carry
   pub data CarryReader : ℕ → Type 0 where
     by-switch : (s : ℕ) → s < switches B → enabled B t st s ≡ true → CarryReader (origin B t st s)
-    by-chain : (T : ℕ) → T < tiles B → chained st T ≡ true → CarryReader (wire B t st T carryIn)
-    by-next : (T i : ℕ) → T < tiles B → suc i < 8 → carryOn st T (suc i) ≡ true → CarryReader (wire B t st T (coutPort i))
+    by-chain : (T : ℕ) → T < tiles B → chained st T ≡ true → CarryReader (wire B T carryIn)
+    by-next : (T i : ℕ) → T < tiles B → suc i < 8 → carryOn st T (suc i) ≡ true → CarryReader (wire B T (coutPort i))
 
   -- "a disabled cout is read"
   abbrev pub DisabledCarryRead : ℕ → Type 0

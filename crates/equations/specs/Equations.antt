@@ -33,17 +33,17 @@ pub data OpenPort : ℕ → Type 0 where
   carry-in-port : OpenPort carryIn
   ltin-port : OpenPort ltin
 
-module _ (B : Block) (t st : List ℕ) where
-  -- the wire of port q of tile T
-  abbrev pub wire : ℕ → ℕ → ℕ
-  wire T q = wireOf B (tilePort B T q)
+-- the wire of port q of tile T
+abbrev pub wire : Block → ℕ → ℕ → ℕ
+wire B T q = wireOf B (tilePort B T q)
 
+module _ (B : Block) (t st : List ℕ) where
   -- no cell has an output on wire w
   pub record NoCell (w : ℕ) : Type 0 where
-    pub no-out : (T i : ℕ) → T < tiles B → i < 8 → wire T (outPort i) ≡ w → ⊥
-    pub no-lout : (T i : ℕ) → T < tiles B → i < 8 → wire T (loutPort i) ≡ w → ⊥
-    pub no-cout : (T i : ℕ) → T < tiles B → i < 8 → wire T (coutPort i) ≡ w → ⊥
-    pub no-mux : (T : ℕ) → T < tiles B → wire T carryInMux ≡ w → ⊥
+    pub no-out : (T i : ℕ) → T < tiles B → i < 8 → wire B T (outPort i) ≡ w → ⊥
+    pub no-lout : (T i : ℕ) → T < tiles B → i < 8 → wire B T (loutPort i) ≡ w → ⊥
+    pub no-cout : (T i : ℕ) → T < tiles B → i < 8 → wire B T (coutPort i) ≡ w → ⊥
+    pub no-mux : (T : ℕ) → T < tiles B → wire B T carryInMux ≡ w → ⊥
 
   -- "wires that nothing drives": no switch ends there and no cell has an output there
   pub record Undriven (w : ℕ) : Type 0 where
@@ -53,7 +53,7 @@ module _ (B : Block) (t st : List ℕ) where
   module _ (state lent v : List ℕ) where
     -- "a port has its wire's [value]"
     abbrev pub val : ℕ → ℕ → ℕ
-    val T q = getD v (wire T q) 0
+    val T q = getD v (wire B T q) 0
 
     -- the lookup of cell i of tile T
     abbrev pub looked : ℕ → ℕ → ℕ
@@ -77,21 +77,21 @@ module _ (B : Block) (t st : List ℕ) where
       pub mux-chain : (T : ℕ) → T < tiles B → carrySet st T ≡ false → chained st T ≡ true → val T carryInMux ≡ val T carryIn
       pub mux-none : (T : ℕ) → T < tiles B → carrySet st T ≡ false → chained st T ≡ false → val T carryInMux ≡ 0
       -- "With no switch, in, clk, s_r, local and glb2local are 0 and cen is 1"
-      pub zeros : (T q : ℕ) → T < tiles B → ZeroPort q → NoSwitch B t st (wire T q) → val T q ≡ 0
-      pub ones : (T : ℕ) → T < tiles B → NoSwitch B t st (wire T cen) → val T cen ≡ 1
+      pub zeros : (T q : ℕ) → T < tiles B → ZeroPort q → NoSwitch B t st (wire B T q) → val T q ≡ 0
+      pub ones : (T : ℕ) → T < tiles B → NoSwitch B t st (wire B T cen) → val T cen ≡ 1
       -- "Span, neigh_op, glb_netwk, carry_in and ltin wires that nothing drives are open: the caller lends their value, read at the wire's number."
-      pub open-wires : (T q : ℕ) → T < tiles B → OpenPort q → Undriven (wire T q) → val T q ≡ getD lent (wire T q) 0
+      pub open-wires : (T q : ℕ) → T < tiles B → OpenPort q → Undriven (wire B T q) → val T q ≡ getD lent (wire B T q) 0
 
   -- "A wire depends on those its equation reads, by structure, even where a table ignores an input [..]. A flip-flop out and a disabled cout
   -- depend on nothing." The equation of wire w reads wire d.
   pub data ReadsWire : ℕ → ℕ → Type 0 where
     switch-reads : (s : ℕ) → s < switches B → enabled B t st s ≡ true → ReadsWire (target B t s) (origin B t st s)
-    lout-reads : (T i j : ℕ) → T < tiles B → i < 8 → j < 4 → ReadsWire (wire T (loutPort i)) (wire T (inPort i j))
-    out-reads : (T i j : ℕ) → T < tiles B → i < 8 → j < 4 → flopOn st T i ≡ false → ReadsWire (wire T (outPort i)) (wire T (inPort i j))
-    cout-reads-in1 : (T i : ℕ) → T < tiles B → i < 8 → carryOn st T i ≡ true → ReadsWire (wire T (coutPort i)) (wire T (inPort i 1))
-    cout-reads-in2 : (T i : ℕ) → T < tiles B → i < 8 → carryOn st T i ≡ true → ReadsWire (wire T (coutPort i)) (wire T (inPort i 2))
-    cout-reads-carry : (T i : ℕ) → T < tiles B → i < 8 → carryOn st T i ≡ true → ReadsWire (wire T (coutPort i)) (wire T (carryPort i))
-    mux-reads : (T : ℕ) → T < tiles B → carrySet st T ≡ false → chained st T ≡ true → ReadsWire (wire T carryInMux) (wire T carryIn)
+    lout-reads : (T i j : ℕ) → T < tiles B → i < 8 → j < 4 → ReadsWire (wire B T (loutPort i)) (wire B T (inPort i j))
+    out-reads : (T i j : ℕ) → T < tiles B → i < 8 → j < 4 → flopOn st T i ≡ false → ReadsWire (wire B T (outPort i)) (wire B T (inPort i j))
+    cout-reads-in1 : (T i : ℕ) → T < tiles B → i < 8 → carryOn st T i ≡ true → ReadsWire (wire B T (coutPort i)) (wire B T (inPort i 1))
+    cout-reads-in2 : (T i : ℕ) → T < tiles B → i < 8 → carryOn st T i ≡ true → ReadsWire (wire B T (coutPort i)) (wire B T (inPort i 2))
+    cout-reads-carry : (T i : ℕ) → T < tiles B → i < 8 → carryOn st T i ≡ true → ReadsWire (wire B T (coutPort i)) (wire B T (carryPort i))
+    mux-reads : (T : ℕ) → T < tiles B → carrySet st T ≡ false → chained st T ≡ true → ReadsWire (wire B T carryInMux) (wire B T carryIn)
 
   -- "and on itself where a chain of such readings, one or more, leads back to it"
   pub data Depends : ℕ → ℕ → Type 0 where

@@ -43,16 +43,16 @@ module _ (B : Block) (t st : List ℕ) (w : ℕ) where
     -- "and cen is 1": "3 one"
     no-switch-one : w % portsPerTile ≡ cen → NoSwitch B t st w → RowSays (plainRow oneKind w 0)
     -- "out is the flip-flop where enabled": "4 flip-flop (operand 1 is 8t + i)"
-    out-flip-flop : (T i : ℕ) → T < tiles B → i < 8 → wire B t st T (outPort i) ≡ w → flopOn st T i ≡ true
+    out-flip-flop : (T i : ℕ) → T < tiles B → i < 8 → wire B T (outPort i) ≡ w → flopOn st T i ≡ true
         → RowSays (plainRow flipFlopKind w (8 * T + i))
     -- "else the lookup", "lout, and out without a flip-flop, are both kind 6"
-    out-lookup : (T i : ℕ) → T < tiles B → i < 8 → wire B t st T (outPort i) ≡ w → flopOn st T i ≡ false → RowSays (lookupRow B st w T i)
-    lout-lookup : (T i : ℕ) → T < tiles B → i < 8 → wire B t st T (loutPort i) ≡ w → RowSays (lookupRow B st w T i)
+    out-lookup : (T i : ℕ) → T < tiles B → i < 8 → wire B T (outPort i) ≡ w → flopOn st T i ≡ false → RowSays (lookupRow B st w T i)
+    lout-lookup : (T i : ℕ) → T < tiles B → i < 8 → wire B T (loutPort i) ≡ w → RowSays (lookupRow B st w T i)
     -- "cout is the majority of in_1, in_2 and carry-in where carry is enabled, else 0"
-    cout-majority : (T i : ℕ) → T < tiles B → i < 8 → wire B t st T (coutPort i) ≡ w → carryOn st T i ≡ true → RowSays (majorityRow B w T i)
-    cout-zero : (T i : ℕ) → T < tiles B → i < 8 → wire B t st T (coutPort i) ≡ w → carryOn st T i ≡ false → RowSays (plainRow zeroKind w 0)
+    cout-majority : (T i : ℕ) → T < tiles B → i < 8 → wire B T (coutPort i) ≡ w → carryOn st T i ≡ true → RowSays (majorityRow B w T i)
+    cout-zero : (T i : ℕ) → T < tiles B → i < 8 → wire B T (coutPort i) ≡ w → carryOn st T i ≡ false → RowSays (plainRow zeroKind w 0)
     -- "carry_in_mux is 1 if set, carry_in if switched, else 0"
-    mux-one : (T : ℕ) → T < tiles B → wire B t st T carryInMux ≡ w → carrySet st T ≡ true → RowSays (plainRow oneKind w 0)
-    mux-copies : (T : ℕ) → T < tiles B → wire B t st T carryInMux ≡ w → carrySet st T ≡ false → chained st T ≡ true
-        → RowSays (plainRow copyKind w (wire B t st T carryIn))
-    mux-zero : (T : ℕ) → T < tiles B → wire B t st T carryInMux ≡ w → carrySet st T ≡ false → chained st T ≡ false → RowSays (plainRow zeroKind w 0)
+    mux-one : (T : ℕ) → T < tiles B → wire B T carryInMux ≡ w → carrySet st T ≡ true → RowSays (plainRow oneKind w 0)
+    mux-copies : (T : ℕ) → T < tiles B → wire B T carryInMux ≡ w → carrySet st T ≡ false → chained st T ≡ true
+        → RowSays (plainRow copyKind w (wire B T carryIn))
+    mux-zero : (T : ℕ) → T < tiles B → wire B T carryInMux ≡ w → carrySet st T ≡ false → chained st T ≡ false → RowSays (plainRow zeroKind w 0)

@@ -15,13 +15,9 @@ use netlist::row;
 use netlist::row::Row;
 use ports::lengths::CELLS_PER_TILE;
 use ports::size::Block;
+use routing::table::CARRY_CHAIN;
+use routing::table::CARRY_IN_SET;
 
-// Which fields of a tile's settings say where carry_in_mux comes from.
-const CARRY_IN_SET: usize = 1;
-
-const CARRY_CHAIN: usize = 2;
-
-// Cells in a tile.
 // A row with no table and at most one operand.
 pub fn plain_row(kind: u16, wire: u16, a: u16) -> Row
     ensures { λ r. ⌜ r ≡ plainRow kind wire a ⌝ }

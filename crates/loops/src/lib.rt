@@ -113,7 +113,7 @@ fn find_loop(rows: &[u16], marks: &mut [u16], queue: &mut [u16], listed: &[u16])
 
 // The same, from marks that are 1 where a wire is listed and may say something else elsewhere (`onlyListed`); `listed` ends with what they say of
 // listed wires. `marks` and `queue` are work rooms: what they end with is left open.
-// Rules out: a wire that only hangs on a loop; a loop's highest wire.
+// Rules out: a wire that is not on a loop and depends on one; a loop's highest wire.
 pub fn lowest_loop(rows: &[u16], marks: &mut [u16], queue: &mut [u16], listed: &mut [u16]) -> usize
     requires { ⌜ length (now rows) ≡ rowLength * length (now marks) ⌝ }
     requires { ⌜ Closed (graphOf (now rows)) (length (now marks)) ⌝ }

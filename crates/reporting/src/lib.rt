@@ -20,7 +20,7 @@ use ports::size::Block;
 
 pub mod blocks;
 
-// As much of an input as its report hangs on, and as much as a report can have.
+// As much of an input as its report depends on, and as much as a report can have.
 pub const INPUT: usize = 131072;
 
 pub const OUTPUT: usize = 51039;

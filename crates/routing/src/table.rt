@@ -10,6 +10,13 @@ use ports::lengths::GROUP_LENGTH;
 
 pub const POSITIONS: usize = 864;
 
+// Which field is which.
+pub const NEG_CLK: usize = 0;
+
+pub const CARRY_IN_SET: usize = 1;
+
+pub const CARRY_CHAIN: usize = 2;
+
 // Where the passive list, the group count and the groups stand, and in a group its position count, positions, entry count, entries.
 pub const PASSIVES: usize = 4;
 

@@ -14,23 +14,24 @@ use Rattle.cell.specs.NextState.{ticked, nextState}
 use Rattle.equations.specs.Tiles.{tableOf, flagsAt, inverted}
 use Rattle.stepper.specs.Settling.{portValue}
 
-module _ (B : Block) (st : List ℕ) where
-  -- the value of port q of tile T, and cell i of tile T
-  abbrev pub valueAt : List ℕ → ℕ → ℕ → ℕ
-  valueAt values T q = portValue B values (tilePort B T q)
+-- the value of port q of tile T
+abbrev pub valueAt : Block → List ℕ → ℕ → ℕ → ℕ
+valueAt B values T q = portValue B values (tilePort B T q)
 
+module _ (B : Block) (st : List ℕ) where
+  -- cell i of tile T
   abbrev pub cellAt : ℕ → ℕ → Cell
   cellAt T i = cellOf (tableOf st T i) (flagsAt st T i)
 
   -- "A tile ticks if clk goes 0 to 1 without NegClk, or 1 to 0 with it"; cen before, s_r before and after
   abbrev pub controlOf : List ℕ → List ℕ → ℕ → Control
   controlOf b a T =
-      record { tick = ticked (inverted st T) (valueAt b T clk) (valueAt a T clk); enable = valueAt b T cen; before = valueAt b T sR; after = valueAt a T sR }
+      record { tick = ticked (inverted st T) (valueAt B b T clk) (valueAt B a T clk); enable = valueAt B b T cen; before = valueAt B b T sR; after = valueAt B a T sR }
 
   -- "The lookup here is the settings' table at the before values of the cell's in ports"
   abbrev pub lookupAt : List ℕ → ℕ → ℕ → ℕ
   lookupAt b T i =
-      lookupBit (tableOf st T i) (valueAt b T (inPort i 0)) (valueAt b T (inPort i 1)) (valueAt b T (inPort i 2)) (valueAt b T (inPort i 3))
+      lookupBit (tableOf st T i) (valueAt B b T (inPort i 0)) (valueAt B b T (inPort i 1)) (valueAt B b T (inPort i 2)) (valueAt B b T (inPort i 3))
 
   -- cell i of tile T is number 8T + i of the state
   unfoldable pub nextCell : List ℕ → List ℕ → List ℕ → ℕ → ℕ

@@ -17,14 +17,12 @@ use equations::tiles::tile_wire;
 use netlist::row::wide;
 use ports::lengths::CELLS_PER_TILE;
 use ports::size::Block;
-
-// Cells in a tile, and the field that inverts its clock.
-const NEG_CLK: usize = 0;
+use routing::table::NEG_CLK;
 
 // The value of port q of a tile.
 fn value_at(b: Block, st: &[u16], wires: &[u16], values: &[u8], tile: usize, q: u32) -> u8
     requires { ⌜ Mapped b (now st) (now wires) × (tile < tiles b) × (q < portsPerTile) × (length (now values) ≡ ports b) ⌝ }
-    ensures { λ r. ⌜ r ≡ valueAt b (now (st .entry)) (now (values .entry)) tile q ⌝ }
+    ensures { λ r. ⌜ r ≡ valueAt b (now (values .entry)) tile q ⌝ }
 {
     let w = wide(tile_wire(b, wires, tile, q));
     values[w]

@@ -20,10 +20,10 @@ abbrev Same : Block → List ℕ → List ℕ → Type 0
 Same B x y = (p : ℕ) → p < ports B → portValue B x p ≡ portValue B y p
 
 module _ (B : Block) (st b b′ a a′ : List ℕ) (eb : Same B b b′) (ea : Same B a a′) where
-  before : (T q : ℕ) → T < tiles B → q < portsPerTile → valueAt B st b T q ≡ valueAt B st b′ T q
+  before : (T q : ℕ) → T < tiles B → q < portsPerTile → valueAt B b T q ≡ valueAt B b′ T q
   before T q l h = eb (portOf T q) (port-of-lt B T q l h)
 
-  after : (T q : ℕ) → T < tiles B → q < portsPerTile → valueAt B st a T q ≡ valueAt B st a′ T q
+  after : (T q : ℕ) → T < tiles B → q < portsPerTile → valueAt B a T q ≡ valueAt B a′ T q
   after T q l h = ea (portOf T q) (port-of-lt B T q l h)
 
   lookup-same : (T i : ℕ) → T < tiles B → i < 8 → lookupAt B st b T i ≡ lookupAt B st b′ T i

@@ -58,7 +58,7 @@ FollowGrounds B t st tile port lent =
     (Check 5 (NoContention B t st) (LowestContention B t st)
     (Check 20 (tile < tiles B) (at tile)
     (Check 20 (port < portsPerTile) (at port)
-    (Yes (λ value. (driver : Driver) × DrivenBy B t st (wire B t st tile port) driver × (value ≡ driverWire driver)))))))))
+    (Yes (λ value. (driver : Driver) × DrivenBy B t st (wire B tile port) driver × (value ≡ driverWire driver)))))))))
 
 -- "a step 1, 2, 3, 9, 12, 10"
 abbrev pub StepGrounds : Block → (table settings list state before after : List ℕ) → StepLent → ℕ → ℕ → Type 0

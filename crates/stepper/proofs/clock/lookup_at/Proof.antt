@@ -53,8 +53,8 @@ lookup-bit-requires c κs =
     let at-start = at-value-at .before .before .before .before in
     let a = at-start .args in
     let first : 372 + 4 * a .i ≡ inPort (a .i) 0 = omega arith in
-    let in0 = at-value-at .value-at .ensures ∙ ap (λ (q : ℕ). valueAt (a .b) (a .st .now) (a .values .now) (a .tile) q) first in
-    let bit : (j : ℕ) → j < 4 → valueAt (a .b) (a .st .now) (a .values .now) (a .tile) (inPort (a .i) j) < 2 = λ j l. at-start .pre .4 (portOf (a .tile) (inPort (a .i) j)) (port-of-lt (a .b) (a .tile) (inPort (a .i) j) (at-start .pre .1) (omega arith)) in (
+    let in0 = at-value-at .value-at .ensures ∙ ap (λ (q : ℕ). valueAt (a .b) (a .values .now) (a .tile) q) first in
+    let bit : (j : ℕ) → j < 4 → valueAt (a .b) (a .values .now) (a .tile) (inPort (a .i) j) < 2 = λ j l. at-start .pre .4 (portOf (a .tile) (inPort (a .i) j)) (port-of-lt (a .b) (a .tile) (inPort (a .i) j) (at-start .pre .1) (omega arith)) in (
       rw in0 (bit 0 (omega arith)),
       rw (at-value-at2 .value-at2 .ensures) (bit 1 (omega arith)),
       rw (at-value-at3 .value-at3 .ensures) (bit 2 (omega arith)),
@@ -71,7 +71,7 @@ returns c =
     let at-start = at-value-at .before .before .before .before in
     let a = at-start .args in
     let first : 372 + 4 * a .i ≡ inPort (a .i) 0 = omega arith in
-    let in0 = at-value-at .value-at .ensures ∙ ap (λ (q : ℕ). valueAt (a .b) (a .st .now) (a .values .now) (a .tile) q) first in
+    let in0 = at-value-at .value-at .ensures ∙ ap (λ (q : ℕ). valueAt (a .b) (a .values .now) (a .tile) q) first in
     let table = ap (λ (x : Cell). x .table) (at-cell-at .cell-at .ensures) in
     c .lookup-bit .ensures
     ∙ rw (table, in0, at-value-at2 .value-at2 .ensures, at-value-at3 .value-at3 .ensures, at-value-at4 .value-at4 .ensures)

@@ -12,3 +12,4 @@ pub mod ClaimingLaws  -- field-run, passive-run, group-run: each part is a run o
 pub mod PartSearch  -- Seen with its start, step and end: the search for the first broken part
 pub mod Example  -- the paper's sample table passes
 pub mod ClaimLaws  -- claimed-exact: what the paper calls claimed is what some used slot stands at
+pub mod ClaimsOnceLaws  -- claims-exact: the rules of positions say that no two claims are of one position, and nothing else

@@ -13,7 +13,8 @@ use Rattle.routing.specs.Slots.{slotAt, slotUsed, fieldSlots, passiveSlo
 
 module _ (K : TileKind) (table : List ℕ) where
   -- "Positions are below 864, and none is claimed twice, by logic cell bits, fields, passive list or groups": position k of the part whose
-  -- slots start at `from`, held against all that was claimed before it
+  -- slots start at `from`, held against all that was claimed before it. `claims-exact` (proofs/ClaimsOnceLaws.antt): of all parts together this says that
+  -- no two claims are of one position (`ClaimedOnce`, specs/Claims.antt), and nothing else.
   pub record PositionRules (from k : ℕ) : Type 0 where
     pub below : slotAt K table (from + k) < K .positions
     pub unclaimed : (s : ℕ) → s < from + k → slotUsed K table s ≡ true → slotAt K table s ≢ slotAt K table (from + k)

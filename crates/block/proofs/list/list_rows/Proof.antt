@@ -132,7 +132,7 @@ returns c =
     let long = marks-long at-marks in
     let listed = listed-rows B table st ok rows (length marks) (at-start .pre .1 .0 .2) long (at-schedule .schedule .result) (at-schedule .schedule .ensures .0) (at-s2 .s2 .given .0 .0) (at-s2 .s2 .given .1) (at-start .args .queue .now) (at-schedule .schedule .last .1 .1 .0) (at-schedule .schedule .ensures .1) in
     let found = at-clocked-tile .clocked-tile .ensures .0 ∙ ap (clockedTile B st) (at-start .pre .1 .0 .1) in
-    (list-clocked B table st (at-start .pre .0 .1) (at-start .pre .0 .2) (listed .straight) (at-clocked-tile .clocked-tile .result) found (c .if1 .taken), refl)
+    (list-clocked B table st (at-start .pre .0 .1) (at-start .pre .0 .2) (listed .straight) (at-clocked-tile .clocked-tile .result) found (omega arith), refl)
 
 write-list-requires : tie.Need-write-list-requires
 write-list-requires c κs =

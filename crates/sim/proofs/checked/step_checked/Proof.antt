@@ -109,7 +109,7 @@ returns-2 c =
     let at-enum-told = at-write-step .before .before .before .before .before .before .before in
     let at-check-inputs = at-enum-told .before .before .before .before .before .before .before .before in
     let done : at-check-inputs .check-inputs .result ≡ Done = at-enum-told .enum-told .given .1 in
-    (sym done ∙ at-check-inputs .check-inputs .ensures .0, at-write-step .write-step .ensures)
+    (sym done ∙ at-check-inputs .check-inputs .ensures .0, (at-write-step .write-step .ensures .0, at-write-step .write-step .ensures .1 .0))
 
 pub step-checked-spec : {M : Type 1} → statement M
 step-checked-spec =

@@ -1,0 +1,135 @@
+-- `turn::dot` meets its contract: .device, another section, a tile's line of a wrong shape, and a good one. Assumes nothing.
+use Prim.Native.Nat.{ℕ}
+use mathlib.Core.List.{List}
+use mathlib.Core.Path.{sym, ap, ap₂, _∙_}
+use borrow.Author.Tests.{not-true, not-false}
+use borrow.Author.Needs.{needs}
+use Rattle.texts.specs.Lines.{same}
+use Rattle.texts.proofs.WordLaws.{word-is, word-take}
+use Rattle.asc.specs.Next.{tileNext}
+use Rattle.asc.specs.Spelling.{deviceWord, tileWord}
+use Rattle.asc.proofs.TurnLaws.{short-line, tile-test}
+use Rattle.asc.proofs.StepLaws.{dot-device, dot-other, dot-bad, dot-tile}
+use Rattle.asc.proofs.turn.dot.Statement.{statement}
+use Rattle.asc.proofs.turn.dot.Tie as tie
+
+word-length-requires : tie.Need-word-length-requires
+word-length-requires c κs = search needs
+
+slice-aggregate-is-same : tie.Need-slice-aggregate-is-same
+slice-aggregate-is-same c =
+    let at-word-length = c .before .before .before in
+    word-take _ _ (at-word-length .word-length .ensures)
+
+slice-aggregate-is-same-2 : tie.Need-slice-aggregate-is-same-2
+slice-aggregate-is-same-2 c = search needs
+
+is-same-requires : tie.Need-is-same-requires
+is-same-requires c κs = search needs
+
+device-requires : tie.Need-device-requires
+device-requires c κs = search needs
+
+returns : tie.Need-returns
+returns c =
+    let at-if1 = c .before in
+    let at-is-same = at-if1 .before in
+    let at-word-length = at-is-same .before .before .before .before .before in
+    λ k. dot-device _ _ _ _ _ _ _ (ap (λ (l : List ℕ). same l deviceWord) (sym (word-is _ _ (at-word-length .word-length .ensures))) ∙ sym (at-is-same .is-same .ensures) ∙ at-if1 .if1 .taken) ∙ c .device .ensures _ k
+
+slice-aggregate-is-same-3 : tie.Need-slice-aggregate-is-same-3
+slice-aggregate-is-same-3 c =
+    let at-word-length = c .before .before .before .before .before .before .before .before .before in
+    word-take _ _ (at-word-length .word-length .ensures)
+
+slice-aggregate-is-same-4 : tie.Need-slice-aggregate-is-same-4
+slice-aggregate-is-same-4 c = search needs
+
+is-same-requires-2 : tie.Need-is-same-requires-2
+is-same-requires-2 c κs = search needs
+
+skipping-requires : tie.Need-skipping-requires
+skipping-requires c κs = search needs
+
+returns-2 : tie.Need-returns-2
+returns-2 c =
+    let at-if2 = c .before in
+    let at-is-same2 = at-if2 .before in
+    let at-if1 = at-is-same2 .before .before .before .before .before in
+    let at-is-same = at-if1 .before in
+    let at-word-length = at-is-same .before .before .before .before .before in
+    λ k. rw (c .skipping .ensures) (dot-other _ _ _ _ _ _ _ (ap (λ (l : List ℕ). same l deviceWord) (sym (word-is _ _ (at-word-length .word-length .ensures))) ∙ sym (at-is-same .is-same .ensures) ∙ at-if1 .if1 .left) (ap (λ (l : List ℕ). same l tileWord) (sym (word-is _ _ (at-word-length .word-length .ensures))) ∙ sym (at-is-same2 .is-same2 .ensures) ∙ not-true _ (at-if2 .if2 .taken)))
+
+returns-3 : tie.Need-returns-3
+returns-3 c =
+    let at-if2 = c .before in
+    let at-is-same2 = at-if2 .before in
+    let at-if1 = at-is-same2 .before .before .before .before .before in
+    let at-is-same = at-if1 .before in
+    let at-word-length = at-is-same .before .before .before .before .before in
+    λ k. dot-bad _ _ _ _ _ _ _ (ap (λ (l : List ℕ). same l deviceWord) (sym (word-is _ _ (at-word-length .word-length .ensures))) ∙ sym (at-is-same .is-same .ensures) ∙ at-if1 .if1 .left) (ap (λ (l : List ℕ). same l tileWord) (sym (word-is _ _ (at-word-length .word-length .ensures))) ∙ sym (at-is-same2 .is-same2 .ensures) ∙ not-false _ (at-if2 .if2 .left)) (short-line _ (c .if3 .taken))
+
+line-x-requires : tie.Need-line-x-requires
+line-x-requires c κs = search needs
+
+line-y-requires : tie.Need-line-y-requires
+line-y-requires c κs = search needs
+
+is-tile-line-requires : tie.Need-is-tile-line-requires
+is-tile-line-requires c κs = search needs
+
+returns-4 : tie.Need-returns-4
+returns-4 c =
+    let at-is-tile-line = c .before in
+    let at-line-y = at-is-tile-line .before in
+    let at-line-x = at-line-y .before in
+    let at-if2 = at-line-x .before .before in
+    let at-is-same2 = at-if2 .before in
+    let at-if1 = at-is-same2 .before .before .before .before .before in
+    let at-is-same = at-if1 .before in
+    let at-word-length = at-is-same .before .before .before .before .before in
+    λ k. dot-bad _ _ _ _ _ _ _ (ap (λ (l : List ℕ). same l deviceWord) (sym (word-is _ _ (at-word-length .word-length .ensures))) ∙ sym (at-is-same .is-same .ensures) ∙ at-if1 .if1 .left) (ap (λ (l : List ℕ). same l tileWord) (sym (word-is _ _ (at-word-length .word-length .ensures))) ∙ sym (at-is-same2 .is-same2 .ensures) ∙ not-false _ (at-if2 .if2 .left)) (tile-test _ _ _ (at-line-x .line-x .ensures) (at-line-y .line-y .ensures) ∙ sym (at-is-tile-line .is-tile-line .ensures) ∙ not-true _ (c .if4 .taken))
+
+tile-requires : tie.Need-tile-requires
+tile-requires c κs = search needs
+
+same-length : tie.Need-same-length
+same-length c = search needs
+
+returns-5 : tie.Need-returns-5
+returns-5 c =
+    let at-tile = c .before .before in
+    let at-if4 = at-tile .before .before in
+    let at-is-tile-line = at-if4 .before in
+    let at-line-y = at-is-tile-line .before in
+    let at-line-x = at-line-y .before in
+    let at-if2 = at-line-x .before .before in
+    let at-is-same2 = at-if2 .before in
+    let at-if1 = at-is-same2 .before .before .before .before .before in
+    let at-is-same = at-if1 .before in
+    let at-word-length = at-is-same .before .before .before .before .before in
+    λ k. dot-tile _ _ _ _ _ _ _ (ap (λ (l : List ℕ). same l deviceWord) (sym (word-is _ _ (at-word-length .word-length .ensures))) ∙ sym (at-is-same .is-same .ensures) ∙ at-if1 .if1 .left) (ap (λ (l : List ℕ). same l tileWord) (sym (word-is _ _ (at-word-length .word-length .ensures))) ∙ sym (at-is-same2 .is-same2 .ensures) ∙ not-false _ (at-if2 .if2 .left)) (tile-test _ _ _ (at-line-x .line-x .ensures) (at-line-y .line-y .ensures) ∙ sym (at-is-tile-line .is-tile-line .ensures) ∙ not-false _ (at-if4 .if4 .left)) ∙ ap₂ (tileNext _ _ _ _ _ k) (sym (at-line-x .line-x .ensures)) (sym (at-line-y .line-y .ensures)) ∙ at-tile .tile .ensures k
+
+pub dot-spec : {M : Type 1} → statement M
+dot-spec =
+    tie.close
+    (tie.spec
+    word-length-requires
+    slice-aggregate-is-same
+    slice-aggregate-is-same-2
+    is-same-requires
+    device-requires
+    returns
+    slice-aggregate-is-same-3
+    slice-aggregate-is-same-4
+    is-same-requires-2
+    skipping-requires
+    returns-2
+    returns-3
+    line-x-requires
+    line-y-requires
+    is-tile-line-requires
+    returns-4
+    tile-requires
+    same-length
+    returns-5)

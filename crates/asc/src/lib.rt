@@ -1,0 +1,129 @@
+// IceStorm's ASCII files (document 02, W1): reading the logic tiles of a block from one, and writing a block as one. Nothing here knows of routing
+// tables or settings: a block is its bits.
+//
+// `read`, `text_length` and `write` take any input and none has a `requires`. specs/Stages.antt has what the lines of a file are, specs/Meaning.antt
+// what each answer of `read` says, proofs/ExactLaws.antt that it fits one answer only, proofs/RoundTrip.antt that a file is read back.
+ghost use mathlib.Core.Path.{_≡_};
+ghost use Prim.Native.Nat.{_*_, _^_, _<_};
+ghost use mathlib.Core.Bool.{true};
+ghost use lib.ListN.{length};
+ghost use Rattle.refusal.specs.Grounds.{answerNumber};
+ghost use Rattle.refusal.specs.Memory.{output};
+ghost use Rattle.asc.specs.Area.{positions, tileBytes, area, tilesOf, sized};
+ghost use Rattle.asc.specs.Content.{written};
+ghost use Rattle.asc.specs.Meaning.{AscSays, lineNumber};
+ghost use Rattle.asc.specs.Answers.{readAnswer, bitsRead, writeAnswer, lengthAnswer};
+use crate::area::POSITIONS;
+use crate::area::TILE_BYTES;
+use crate::area::is_sized;
+use crate::scan::Scanned;
+use refusal::Answer;
+use refusal::Refusal;
+
+pub mod area;
+pub mod bits;
+pub mod lines;
+pub mod room;
+pub mod scan;
+pub mod text;
+pub mod turn;
+pub mod writing;
+
+// How long the file of a block is, or why there is none.
+pub enum TextLength {
+    Bytes(usize),
+    NoLength(Refusal),
+}
+
+// One more than so many lines, cut at 2^32 - 1.
+fn line_number(n: usize) -> u32
+    ensures { λ r. ⌜ r ≡ lineNumber n ⌝ }
+{
+    if n < 4294967295 {
+        return (n + 1) as u32;
+    }
+    4294967295
+}
+
+// Reads with rooms of the block's size: marks of the tiles, and digits.
+fn read_into(
+    w: u32,
+    h: u32,
+    x: u32,
+    y: u32,
+    text: &[u8],
+    bits: &mut [u8],
+    given: &mut [u8],
+    content: &mut [u8],
+) -> Answer
+    requires { ⌜ (sized (area w h x y) ≡ true) × (length (now bits) ≡ tileBytes * tilesOf (area w h x y)) × (length (now given) ≡ tilesOf (area w h x y)) × (length (now content) ≡ positions * tilesOf (area w h x y)) ⌝ }
+    ensures { λ r. ⌜ AscSays (area w h x y) (now (text .entry)) (now (bits .entry)) (now (bits .exit)) r ⌝ }
+{
+    let scanned = scan::scan(w, h, x, y, text, given, content);
+    match scanned {
+        Scanned::StuckAt(n) => Answer::Refused(Refusal::AscLine(line_number(n))),
+        Scanned::AllThere => {
+            bits::pack(content, bits);
+            Answer::Done
+        }
+    }
+}
+
+// Reads the bits of the block with its south-west corner at x, y from a file of any length. Grounds 1, 2, 13, in this order (`readAnswer`).
+// Rules out: refusing every file; bits written on a no; a second device, a tile given twice, a tile left out; a last line without its line feed.
+pub fn read(w: u32, h: u32, x: u32, y: u32, text: &[u8], bits: &mut [u8]) -> Answer
+    ensures answer { λ r. ⌜ r ≡ readAnswer (area w h x y) (now (text .entry)) (length (now (bits .entry))) ⌝ }
+    ensures bits { λ r. ⌜ now (bits .exit) ≡ output (answerNumber r) (now (bits .entry)) (bitsRead (area w h x y) (now (text .entry))) ⌝ }
+    ensures says { λ r. ⌜ AscSays (area w h x y) (now (text .entry)) (now (bits .entry)) (now (bits .exit)) r ⌝ }
+{
+    if !is_sized(w, h, x, y) {
+        return Answer::Refused(Refusal::Size);
+    }
+    let n = (h * w) as usize;
+    if bits.len() != TILE_BYTES * n {
+        return Answer::Refused(Refusal::Length);
+    }
+    let mut given = room::given_room();
+    let mut content = room::content_room();
+    let digits = POSITIONS * n;
+    read_into(
+        w,
+        h,
+        x,
+        y,
+        text,
+        bits,
+        &mut given[..n],
+        &mut content[..digits],
+    )
+}
+
+// How long the file of a block is. Ground 1 (`lengthAnswer`).
+pub fn text_length(w: u32, h: u32, x: u32, y: u32) -> TextLength
+    ensures { λ r. ⌜ r ≡ lengthAnswer (area w h x y) ⌝ }
+{
+    if !is_sized(w, h, x, y) {
+        return TextLength::NoLength(Refusal::Size);
+    }
+    TextLength::Bytes(writing::file_length(w, h, x, y))
+}
+
+// Writes a block as a file, .device first, tiles by index. Grounds 1, 2, in this order (`writeAnswer`).
+// Rules out: a room that is longer than the file; a file written on a no.
+pub fn write(w: u32, h: u32, x: u32, y: u32, bits: &[u8], text: &mut [u8]) -> Answer
+    ensures answer { λ r. ⌜ r ≡ writeAnswer (area w h x y) (length (now (bits .entry))) (length (now (text .entry))) ⌝ }
+    ensures text { λ r. ⌜ now (text .exit) ≡ output (answerNumber r) (now (text .entry)) (written (area w h x y) (now (bits .entry))) ⌝ }
+{
+    if !is_sized(w, h, x, y) {
+        return Answer::Refused(Refusal::Size);
+    }
+    let n = (h * w) as usize;
+    if bits.len() != TILE_BYTES * n {
+        return Answer::Refused(Refusal::Length);
+    }
+    if text.len() != writing::file_length(w, h, x, y) {
+        return Answer::Refused(Refusal::Length);
+    }
+    writing::put_file(w, h, x, y, bits, text);
+    Answer::Done
+}

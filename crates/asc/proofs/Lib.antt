@@ -7,7 +7,9 @@ pub mod StepLaws  -- dot-.., device-.., tile-.., row-.., next-..: what a line le
 pub mod NextLaws  -- turn-next: a turn is what is computed; in-block, tile-at-lt
 pub mod TurnLaws  -- next-turn: what is computed is a turn; turn-same: one turn only
 pub mod BeginsLaws  -- begins-same: so many lines in one way only; begins-front: the lines before
-pub mod ScanLaws  -- Fits, turn-fits; Going with its start, turn and ends: the loop over the lines
+pub mod RoomLaws  -- Fits, turn-fits: the rooms of marks and digits stay long enough
+pub mod StuckLaws  -- all-come, stuck-missing, stuck-open, stuck-line: where the lines stop being in order, or the end comes
+pub mod ScanLaws  -- Going with its start, turn and ends: the loop over the lines
 pub mod ReadLaws  -- read-stuck, read-all: the answer from what going through the lines says; write-..: the answer of `write`, ground by ground
 pub mod ExactLaws  -- asc-exact: what an answer says fits one answer only
 pub mod OutcomeLaws  -- outcome-says: what the lines of a text come to, computed, is so

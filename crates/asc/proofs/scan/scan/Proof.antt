@@ -7,7 +7,7 @@ use lib.ListN.{length}
 use Rattle.lists.specs.Tables.{zeros}
 use Rattle.texts.proofs.LineEndLaws.{line-to, none-left}
 use Rattle.asc.specs.Area.{area}
-use Rattle.asc.proofs.ScanLaws.{Going, going-start, going-turned, stuck-open, stuck-turned, stuck-missing, all-there}
+use Rattle.asc.proofs.ScanLaws.{Going, going-start, going-turned, going-open, going-fault, going-missing, going-all}
 use Rattle.asc.proofs.AreaLaws.{sized-of}
 use Rattle.asc.proofs.scan.scan.Statement.{statement}
 use Rattle.asc.proofs.scan.scan.Tie as tie
@@ -46,7 +46,7 @@ returns c =
     let at-loop-test = at-line-end .before in
     let at-loop = at-loop-test .before in
     let at-start = at-loop .before .before .before .before .before .before .before .before .before .before .before .before in
-    stuck-open _ _ _ _ _ _ _ (at-loop .loop .inv) (at-loop-test .loop-test .taken) (none-left (at-start .args .text .now) (at-loop .loop .at) (at-line-end .line-end .result) (at-loop .loop .inv .upto) (at-line-end .line-end .ensures) (c .if1 .taken))
+    going-open _ _ _ _ _ _ _ (at-loop .loop .inv) (at-loop-test .loop-test .taken) (none-left (at-start .args .text .now) (at-loop .loop .at) (at-line-end .line-end .result) (at-loop .loop .inv .upto) (at-line-end .line-end .ensures) (c .if1 .taken))
 
 sub-turn : tie.Need-sub-turn Inv-loop μ-loop
 sub-turn c =
@@ -94,7 +94,7 @@ returns-2 c =
     let at-line-end = at-if1 .before in
     let at-loop = at-line-end .before .before in
     let at-start = at-loop .before .before .before .before .before .before .before .before .before .before .before .before in
-    stuck-turned _ _ _ _ _ _ _ (at-loop .loop .inv) (sized-of _ (at-start .pre .0)) (at-line-end .line-end .result) (line-to (at-start .args .text .now) (at-loop .loop .at) (at-line-end .line-end .result) (at-loop .loop .inv .upto) (at-line-end .line-end .ensures) (at-if1 .if1 .left)) _ (at-turn .turn .last .1 .1 .1 .1 .1 .1 .0) (at-turn .turn .last .1 .1 .1 .1 .1 .1 .1 .0) (at-turn .turn .ensures) (c .enum-told .given .1)
+    going-fault _ _ _ _ _ _ _ (at-loop .loop .inv) (sized-of _ (at-start .pre .0)) (at-line-end .line-end .result) (line-to (at-start .args .text .now) (at-loop .loop .at) (at-line-end .line-end .result) (at-loop .loop .inv .upto) (at-line-end .line-end .ensures) (at-if1 .if1 .left)) _ (at-turn .turn .last .1 .1 .1 .1 .1 .1 .0) (at-turn .turn .last .1 .1 .1 .1 .1 .1 .1 .0) (at-turn .turn .ensures) (c .enum-told .given .1)
 
 add-at : tie.Need-add-at Inv-loop μ-loop
 add-at c =
@@ -144,7 +144,7 @@ returns-3 c =
     let at-is-whole = c .before in
     let at-loop-test = at-is-whole .before .before in
     let at-loop = at-loop-test .before in
-    all-there _ _ _ _ _ _ _ (at-loop .loop .inv) (at-loop-test .loop-test .left) (sym (at-is-whole .is-whole .ensures) ∙ c .if2 .taken)
+    going-all _ _ _ _ _ _ _ (at-loop .loop .inv) (at-loop-test .loop-test .left) (sym (at-is-whole .is-whole .ensures) ∙ c .if2 .taken)
 
 same-length-7 : tie.Need-same-length-7 Inv-loop μ-loop
 same-length-7 c = search needs
@@ -157,7 +157,7 @@ returns-4 c =
     let at-is-whole = c .before in
     let at-loop-test = at-is-whole .before .before in
     let at-loop = at-loop-test .before in
-    stuck-missing _ _ _ _ _ _ _ (at-loop .loop .inv) (at-loop-test .loop-test .left) (sym (at-is-whole .is-whole .ensures) ∙ c .if2 .left)
+    going-missing _ _ _ _ _ _ _ (at-loop .loop .inv) (at-loop-test .loop-test .left) (sym (at-is-whole .is-whole .ensures) ∙ c .if2 .left)
 
 pub scan-spec : {M : Type 1} → statement M
 scan-spec =

@@ -1,12 +1,25 @@
 -- `write` meets its contract: the grounds in their order, and the file. Assumes nothing.
-use mathlib.Core.Path.{refl, sym, _∙_}
+use Prim.Native.Nat.{_≤_}
+use mathlib.Core.Path.{_≡_, refl, sym, _∙_}
+use mathlib.Core.Bool.{true}
 use native.Mathlib.Omega.{arith}
 use borrow.Author.Tests.{not-true, not-false}
 use borrow.Author.Needs.{needs}
+use Rattle.asc.specs.Area.{Area, area, tilesOf, sized}
 use Rattle.asc.proofs.ReadLaws.{write-size, write-bits, write-text, write-done}
 use Rattle.asc.proofs.AreaLaws.{sized-of, tiles-few}
 use Rattle.asc.proofs.write.Statement.{statement}
 use Rattle.asc.proofs.write.Tie as tie
+
+abbrev own : tie.Else1 → Area
+own c = let args = c .before .before .before .before .args in area (args .w) (args .h) (args .x) (args .y)
+
+-- past the first test the size is right
+size : (c : tie.Else1) → sized (own c) ≡ true
+size c = sym (c .before .is-sized .ensures) ∙ not-false _ (c .if1 .left)
+
+few : (c : tie.Else1) → tilesOf (own c) ≤ 64
+few c = tiles-few (own c) (sized-of (own c) (size c))
 
 is-sized-requires : tie.Need-is-sized-requires
 is-sized-requires c κs = search needs
@@ -15,33 +28,28 @@ returns : tie.Need-returns
 returns c = (write-size _ _ _ (sym (c .before .is-sized .ensures) ∙ not-true _ (c .if1 .taken)), refl)
 
 mul-n : tie.Need-mul-n
-mul-n c = let q = tiles-few _ (sized-of _ (sym (c .before .is-sized .ensures) ∙ not-false _ (c .if1 .left))) in omega arith
+mul-n c = omega (arith, few c)
 
 cast-n : tie.Need-cast-n
-cast-n c = let q = tiles-few _ (sized-of _ (sym (c .before .is-sized .ensures) ∙ not-false _ (c .if1 .left))) in omega arith
+cast-n c = omega (arith, few c)
 
 mul-if2 : tie.Need-mul-if2
-mul-if2 c = let q = tiles-few _ (sized-of _ (sym (c .before .is-sized .ensures) ∙ not-false _ (c .if1 .left))) in omega arith
+mul-if2 c = omega (arith, few c)
 
 returns-2 : tie.Need-returns-2
 returns-2 c =
     let at-if1 = c .before in
-    let at-is-sized = at-if1 .before in
-    (write-bits _ _ _ (sym (at-is-sized .is-sized .ensures) ∙ not-false _ (at-if1 .if1 .left)) (c .if2 .taken), refl)
+    (write-bits _ _ _ (size at-if1) (c .if2 .taken), refl)
 
 file-length-requires : tie.Need-file-length-requires
-file-length-requires c κs =
-    let at-if1 = c .before in
-    let at-is-sized = at-if1 .before in
-    (sym (at-is-sized .is-sized .ensures) ∙ not-false _ (at-if1 .if1 .left))
+file-length-requires c κs = size (c .before)
 
 returns-3 : tie.Need-returns-3
 returns-3 c =
     let at-file-length = c .before in
     let at-if2 = at-file-length .before in
     let at-if1 = at-if2 .before in
-    let at-is-sized = at-if1 .before in
-    (write-text _ _ _ (sym (at-is-sized .is-sized .ensures) ∙ not-false _ (at-if1 .if1 .left)) (at-if2 .if2 .left) (λ q. c .if3 .taken (q ∙ sym (at-file-length .file-length .ensures))), refl)
+    (write-text _ _ _ (size at-if1) (at-if2 .if2 .left) (λ q. c .if3 .taken (q ∙ sym (at-file-length .file-length .ensures))), refl)
 
 put-file-requires : tie.Need-put-file-requires
 put-file-requires c κs =
@@ -49,8 +57,7 @@ put-file-requires c κs =
     let at-file-length = at-if3 .before in
     let at-if2 = at-file-length .before in
     let at-if1 = at-if2 .before in
-    let at-is-sized = at-if1 .before in
-    ((sym (at-is-sized .is-sized .ensures) ∙ not-false _ (at-if1 .if1 .left)), at-if2 .if2 .left, at-if3 .if3 .left ∙ at-file-length .file-length .ensures)
+    (size at-if1, at-if2 .if2 .left, at-if3 .if3 .left ∙ at-file-length .file-length .ensures)
 
 same-length : tie.Need-same-length
 same-length c = search needs
@@ -62,8 +69,7 @@ returns-4 c =
     let at-file-length = at-if3 .before in
     let at-if2 = at-file-length .before in
     let at-if1 = at-if2 .before in
-    let at-is-sized = at-if1 .before in
-    (write-done _ _ _ (sym (at-is-sized .is-sized .ensures) ∙ not-false _ (at-if1 .if1 .left)) (at-if2 .if2 .left) (at-if3 .if3 .left ∙ at-file-length .file-length .ensures), at-put-file .put-file .ensures)
+    (write-done _ _ _ (size at-if1) (at-if2 .if2 .left) (at-if3 .if3 .left ∙ at-file-length .file-length .ensures), at-put-file .put-file .ensures)
 
 pub write-spec : {M : Type 1} → statement M
 write-spec =

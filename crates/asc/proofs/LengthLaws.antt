@@ -1,4 +1,4 @@
--- Where tile t stands, and how long the pieces of a file are. Main laws: `tile-of`, `tile-text-length`, `written-length`; `Counted` with its start, turn and end.
+-- Where tile t stands, and how long the pieces of a file are. Main laws: `tile-of`, `tile-stands`, `tile-text-length`, `written-length`; `Counted` with its start, turn and end.
 use Prim.Native.Nat.{ℕ, zero, suc, _+_, _-_, _*_, _/_, _%_, _<_, _≤_}
 use mathlib.Core.Path.{_≡_, refl, sym, ap, ap₂, _∙_}
 use mathlib.Core.List.{List, [], _∷_}
@@ -30,6 +30,12 @@ tile-of a z t l =
     let some = z .w-some in
     let pos : 0 < a .w = omega arith in
     record { across = mod-lt t pos; up = div-lt-iff-lt-mul pos .1 l; index = div-add-mod' t (a .w) }
+
+-- its coordinates are 0 to 255
+pub tile-stands : (a : Area) → Sized a → (t : ℕ) → t < tilesOf a → (1 ≤ a .w) × ((a .x + t % a .w < 256) × (a .y + t / a .w < 256))
+tile-stands a z t l =
+    let p = tile-of a z t l in
+    (z .w-some, (omega (arith, p .across, z .x-fits), omega (arith, p .up, z .y-fits)))
 
 -- ---- lengths
 

@@ -2,7 +2,7 @@
 pub mod AreaLaws  -- Sized, sized-of: what ground 1 leaves
 pub mod SpellingLaws  -- line-x-back, line-y-back: the numbers of a tile's line; tile-line-word, device-word
 pub mod SpeltLaws  -- line-x-is, line-y-is, row-long: lines as the code looks at them
-pub mod ContentLaws  -- half-sum, byte-sum: eight digits as a byte
+pub mod ContentLaws  -- packed-bit: the bit at a position is the digit that came there; half-sum, byte-sum: eight digits as a byte
 pub mod StepLaws  -- dot-.., device-.., tile-.., row-.., next-..: what a line leads to, by the tests that the code makes
 pub mod NextLaws  -- turn-next: a turn is what is computed; in-block, tile-at-lt
 pub mod TurnLaws  -- next-turn: what is computed is a turn; turn-same: one turn only

@@ -8,7 +8,7 @@ use Rattle.refusal.specs.declared.Answer.{Answer}
 use Rattle.refusal.specs.declared.Answer.the-variants.{Done, Refused}
 use Rattle.refusal.specs.Grounds.{unless}
 use Rattle.asc.specs.declared.TextLength.{TextLength}
-use Rattle.asc.specs.declared.TextLength.the-variants.{Bytes, NoLength}
+use Rattle.asc.specs.declared.TextLength.the-variants as text-length
 use Rattle.asc.specs.Area.{tileBytes, Area, tilesOf, sized}
 use Rattle.asc.specs.Stages.{Stage, begun}
 use Rattle.asc.specs.Next.{Next, goes, fault, nextOf, isWhole}
@@ -64,4 +64,4 @@ unfoldable pub writeAnswer : Area → ℕ → ℕ → Answer
 writeAnswer a bits text = unless (sized a) (Refused Size) (unless (eqb bits (tileBytes * tilesOf a) && eqb text (textLength a)) (Refused Length) Done)
 
 unfoldable pub lengthAnswer : Area → TextLength
-lengthAnswer a = unless (sized a) (NoLength Size) (Bytes (textLength a))
+lengthAnswer a = unless (sized a) (text-length.Refused Size) (text-length.Bytes (textLength a))

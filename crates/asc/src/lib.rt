@@ -32,7 +32,7 @@ pub mod writing;
 // How long the file of a block is, or why there is none.
 pub enum TextLength {
     Bytes(usize),
-    NoLength(Refusal),
+    Refused(Refusal),
 }
 
 // One more than so many lines, cut at 2^32 - 1.
@@ -103,7 +103,7 @@ pub fn text_length(w: u32, h: u32, x: u32, y: u32) -> TextLength
     ensures { λ r. ⌜ r ≡ lengthAnswer (area w h x y) ⌝ }
 {
     if !is_sized(w, h, x, y) {
-        return TextLength::NoLength(Refusal::Size);
+        return TextLength::Refused(Refusal::Size);
     }
     TextLength::Bytes(writing::file_length(w, h, x, y))
 }

@@ -1,9 +1,17 @@
 -- `read_into` meets its contract: the first line at fault, or the digits packed. Assumes nothing.
 use borrow.Author.Needs.{needs}
-use Rattle.asc.specs.Area.{area}
+use lib.ListN.{length}
+use Rattle.asc.specs.Area.{Area, area}
+use Rattle.asc.specs.Meaning.{Lent}
 use Rattle.asc.proofs.ReadLaws.{read-stuck, read-all}
 use Rattle.asc.proofs.read_into.Statement.{statement}
 use Rattle.asc.proofs.read_into.Tie as tie
+
+abbrev own : tie.Start → Area
+own c = area (c .args .w) (c .args .h) (c .args .x) (c .args .y)
+
+lent : (c : tie.Start) → Lent (own c) (length (c .args .bits .now))
+lent c = record { right-size = c .pre .0; right-length = c .pre .1 }
 
 scan-requires : tie.Need-scan-requires
 scan-requires c κs = search needs
@@ -31,7 +39,7 @@ returns c =
     let at-scanned = c .before .before in
     let at-scan = at-scanned .before .before .before .before .before .before in
     let at-start = at-scan .before .before .before .before .before .before .before in
-    read-stuck (area (at-start .args .w) (at-start .args .h) (at-start .args .x) (at-start .args .y)) (at-start .args .text .now) (at-start .args .bits .now) (at-scan .scan .last .1 .1 .1 .1 .1 .1 .0) (at-scan .scan .result) (record { right-size = at-start .pre .0; right-length = at-start .pre .1 }) (at-scan .scan .ensures) _ _ (at-scanned .scanned .given .1) (c .line-number .ensures)
+    read-stuck (own at-start) (at-start .args .text .now) (at-start .args .bits .now) (at-scan .scan .last .1 .1 .1 .1 .1 .1 .0) (at-scan .scan .result) (lent at-start) (at-scan .scan .ensures) _ _ (at-scanned .scanned .given .1) (c .line-number .ensures)
 
 same-length-3 : tie.Need-same-length-3
 same-length-3 c = search needs
@@ -48,7 +56,7 @@ returns-2 c =
     let at-enum-told = at-pack .before .before .before in
     let at-scan = at-enum-told .before .before .before .before .before .before in
     let at-start = at-scan .before .before .before .before .before .before .before in
-    read-all (area (at-start .args .w) (at-start .args .h) (at-start .args .x) (at-start .args .y)) (at-start .args .text .now) (at-start .args .bits .now) (at-scan .scan .last .1 .1 .1 .1 .1 .1 .0) (at-scan .scan .result) (record { right-size = at-start .pre .0; right-length = at-start .pre .1 }) (at-scan .scan .ensures) _ (at-enum-told .enum-told .given .1) (at-pack .pack .ensures)
+    read-all (own at-start) (at-start .args .text .now) (at-start .args .bits .now) (at-scan .scan .last .1 .1 .1 .1 .1 .1 .0) (at-scan .scan .result) (lent at-start) (at-scan .scan .ensures) _ (at-enum-told .enum-told .given .1) (at-pack .pack .ensures)
 
 pub read-into-spec : {M : Type 1} → statement M
 read-into-spec =

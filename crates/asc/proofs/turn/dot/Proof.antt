@@ -2,13 +2,13 @@
 use Prim.Native.Nat.{ℕ}
 use mathlib.Core.List.{List}
 use mathlib.Core.Path.{_≡_, sym, ap, ap₂, _∙_}
-use mathlib.Core.Bool.{false}
+use mathlib.Core.Bool.{true, false}
 use borrow.Author.Tests.{not-true, not-false}
 use borrow.Author.Needs.{needs}
 use Rattle.texts.specs.Lines.{same, word}
 use Rattle.texts.proofs.WordLaws.{word-is, word-take}
 use Rattle.asc.specs.Next.{tileNext}
-use Rattle.asc.specs.Spelling.{deviceWord, tileWord}
+use Rattle.asc.specs.Spelling.{deviceWord, tileWord, isTileLine}
 use Rattle.asc.proofs.TurnLaws.{short-line, tile-test}
 use Rattle.asc.proofs.StepLaws.{dot-device, dot-other, dot-bad, dot-tile}
 use Rattle.asc.proofs.turn.dot.Statement.{statement}
@@ -30,6 +30,13 @@ tile-word-test : (c : tie.After-is-same2) → same (word (lineAt (c .before .bef
 tile-word-test c =
     let at-is-same = c .before .before .before .before .before .before in
     ap (λ (l : List ℕ). same l tileWord) (sym (word-is _ _ (at-is-same .before .before .before .before .before .word-length .ensures))) ∙ sym (c .is-same2 .ensures)
+
+tile-word : (c : tie.Else2) → same (word (lineAt (c .before .before .before .before .before .before .before))) tileWord ≡ true
+tile-word c = tile-word-test (c .before) ∙ not-false (c .before .is-same2 .result) (c .if2 .left)
+
+-- the last: whether it is spelt as a tile's line
+line-test : (c : tie.After-is-tile-line) → isTileLine (lineAt (c .before .before .before .before .before .before .before .before .before .before .before)) ≡ c .is-tile-line .result
+line-test c = tile-test _ _ _ (c .before .before .line-x .ensures) (c .before .line-y .ensures) ∙ sym (c .is-tile-line .ensures)
 
 word-length-requires : tie.Need-word-length-requires
 word-length-requires c κs = search needs
@@ -75,8 +82,7 @@ returns-2 c =
     let at-if2 = c .before in
     let at-is-same2 = at-if2 .before in
     let at-if1 = at-is-same2 .before .before .before .before .before in
-    let at-is-same = at-if1 .before in
-    λ k. rw (c .skipping .ensures) (dot-other _ _ _ _ _ _ _ (no-device at-if1) (tile-word-test at-is-same2 ∙ not-true _ (at-if2 .if2 .taken)))
+    λ k. rw (c .skipping .ensures) (dot-other _ _ _ _ _ _ _ (no-device at-if1) (tile-word-test at-is-same2 ∙ not-true (at-is-same2 .is-same2 .result) (at-if2 .if2 .taken)))
 
 -- a tile's line that is too short
 returns-3 : tie.Need-returns-3
@@ -84,8 +90,7 @@ returns-3 c =
     let at-if2 = c .before in
     let at-is-same2 = at-if2 .before in
     let at-if1 = at-is-same2 .before .before .before .before .before in
-    let at-is-same = at-if1 .before in
-    λ k. dot-bad _ _ _ _ _ _ _ (no-device at-if1) (tile-word-test at-is-same2 ∙ not-false _ (at-if2 .if2 .left)) (short-line _ (c .if3 .taken))
+    λ k. dot-bad _ _ _ _ _ _ _ (no-device at-if1) (tile-word at-if2) (short-line _ (c .if3 .taken))
 
 line-x-requires : tie.Need-line-x-requires
 line-x-requires c κs = search needs
@@ -105,8 +110,7 @@ returns-4 c =
     let at-if2 = at-line-x .before .before in
     let at-is-same2 = at-if2 .before in
     let at-if1 = at-is-same2 .before .before .before .before .before in
-    let at-is-same = at-if1 .before in
-    λ k. dot-bad _ _ _ _ _ _ _ (no-device at-if1) (tile-word-test at-is-same2 ∙ not-false _ (at-if2 .if2 .left)) (tile-test _ _ _ (at-line-x .line-x .ensures) (at-line-y .line-y .ensures) ∙ sym (at-is-tile-line .is-tile-line .ensures) ∙ not-true _ (c .if4 .taken))
+    λ k. dot-bad _ _ _ _ _ _ _ (no-device at-if1) (tile-word at-if2) (line-test at-is-tile-line ∙ not-true (at-is-tile-line .is-tile-line .result) (c .if4 .taken))
 
 tile-requires : tie.Need-tile-requires
 tile-requires c κs = search needs
@@ -125,8 +129,7 @@ returns-5 c =
     let at-if2 = at-line-x .before .before in
     let at-is-same2 = at-if2 .before in
     let at-if1 = at-is-same2 .before .before .before .before .before in
-    let at-is-same = at-if1 .before in
-    λ k. dot-tile _ _ _ _ _ _ _ (no-device at-if1) (tile-word-test at-is-same2 ∙ not-false _ (at-if2 .if2 .left)) (tile-test _ _ _ (at-line-x .line-x .ensures) (at-line-y .line-y .ensures) ∙ sym (at-is-tile-line .is-tile-line .ensures) ∙ not-false _ (at-if4 .if4 .left)) ∙ ap₂ (tileNext _ _ _ _ _ k) (sym (at-line-x .line-x .ensures)) (sym (at-line-y .line-y .ensures)) ∙ at-tile .tile .ensures k
+    λ k. dot-tile _ _ _ _ _ _ _ (no-device at-if1) (tile-word at-if2) (line-test at-is-tile-line ∙ not-false (at-is-tile-line .is-tile-line .result) (at-if4 .if4 .left)) ∙ ap₂ (tileNext _ _ _ _ _ k) (sym (at-line-x .line-x .ensures)) (sym (at-line-y .line-y .ensures)) ∙ at-tile .tile .ensures k
 
 pub dot-spec : {M : Type 1} → statement M
 dot-spec =

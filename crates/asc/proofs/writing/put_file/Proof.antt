@@ -1,10 +1,10 @@
 -- `writing::put_file` meets its contract. Invariant: .device and the tiles before t are put (`TilesPut`). Measure: the tiles left. Assumes nothing.
-use Prim.Native.Nat.{_-_}
+use Prim.Native.Nat.{_-_, _≤_}
 use mathlib.Core.Path.{_∙_}
 use native.Mathlib.Omega.{arith}
 use borrow.Author.Needs.{needs}
 use Rattle.texts.proofs.PutsLaws.{puts-again}
-use Rattle.asc.specs.Area.{area}
+use Rattle.asc.specs.Area.{Area, area, tilesOf}
 use Rattle.asc.specs.Content.{deviceText}
 use Rattle.asc.proofs.WriteLaws.{TilesPut, tiles-start, tiles-room, tiles-fit, tiles-turn, tiles-end}
 use Rattle.asc.proofs.LengthLaws.{text-length-long}
@@ -18,24 +18,30 @@ Inv-loop w h x y bits text₀ next₀ tiles t₀ text next t = TilesPut (area w 
 abbrev μ-loop : tie.MeasureT-loop
 μ-loop w h x y bits text₀ next₀ tiles t₀ text next t = tiles - t
 
+abbrev own : tie.Start Inv-loop μ-loop → Area
+own c = area (c .args .w) (c .args .h) (c .args .x) (c .args .y)
+
+few : (c : tie.Start Inv-loop μ-loop) → tilesOf (own c) ≤ 64
+few c = tiles-few (own c) (sized-of (own c) (c .pre .0))
+
 slice-aggregate-put : tie.Need-slice-aggregate-put Inv-loop μ-loop
 slice-aggregate-put c = search needs
 
 put-requires : tie.Need-put-requires Inv-loop μ-loop
 put-requires c κs =
     let at-start = c .before .before .before .before .before .before in
-    omega (arith, text-length-long (area (at-start .args .w) (at-start .args .h) (at-start .args .x) (at-start .args .y)))
+    omega (arith, text-length-long (own at-start))
 
 mul-tiles : tie.Need-mul-tiles Inv-loop μ-loop
 mul-tiles c =
     let at-start = c .before .before .before .before .before .before .before .before .before in
-    let q = tiles-few (area (at-start .args .w) (at-start .args .h) (at-start .args .x) (at-start .args .y)) (sized-of (area (at-start .args .w) (at-start .args .h) (at-start .args .x) (at-start .args .y)) (at-start .pre .0)) in omega arith
+    omega (arith, few at-start)
 
 loop-holds : tie.Need-loop-holds Inv-loop μ-loop
 loop-holds c =
     let at-put = c .before .before in
     let at-start = at-put .before .before .before .before .before .before .before in
-    tiles-start (area (at-start .args .w) (at-start .args .h) (at-start .args .x) (at-start .args .y)) (at-start .args .bits .now) (at-put .put .last .0) (at-put .put .result) (at-put .put .last .0) (at-put .put .kept .0 ∙ at-start .pre .2) (puts-again deviceText (at-start .args .text .now) (at-put .put .result) (at-put .put .last .0) (at-put .put .ensures))
+    tiles-start (own at-start) (at-start .args .bits .now) (at-put .put .last .0) (at-put .put .result) (at-put .put .last .0) (at-put .put .kept .0 ∙ at-start .pre .2) (puts-again deviceText (at-start .args .text .now) (at-put .put .result) (at-put .put .last .0) (at-put .put .ensures))
 
 put-tile-requires : tie.Need-put-tile-requires Inv-loop μ-loop
 put-tile-requires c κs =
@@ -47,7 +53,7 @@ put-tile-requires c κs =
 add-t : tie.Need-add-t Inv-loop μ-loop
 add-t c =
     let at-start = c .before .before .before .before .before .before .before .before .before .before .before .before .before .before .before in
-    let q = tiles-few (area (at-start .args .w) (at-start .args .h) (at-start .args .x) (at-start .args .y)) (sized-of (area (at-start .args .w) (at-start .args .h) (at-start .args .x) (at-start .args .y)) (at-start .pre .0)) in omega arith
+    omega (arith, few at-start)
 
 loop-less : tie.Need-loop-less Inv-loop μ-loop
 loop-less c = search needs

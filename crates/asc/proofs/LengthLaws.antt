@@ -1,5 +1,5 @@
 -- Where tile t stands, and how long the pieces of a file are. Main laws: `tile-of`, `tile-stands`, `tile-text-length`, `written-length`; `Counted` with its start, turn and end.
-use Prim.Native.Nat.{ℕ, zero, suc, _+_, _-_, _*_, _/_, _%_, _<_, _≤_}
+use Prim.Native.Nat.{ℕ, zero, suc, _+_, _*_, _/_, _%_, _<_, _≤_}
 use mathlib.Core.Path.{_≡_, refl, sym, ap, ap₂, _∙_}
 use mathlib.Core.List.{List, [], _∷_}
 use native.Mathlib.Omega.{arith}
@@ -14,7 +14,7 @@ use Rattle.texts.proofs.DecimalLaws.{decimal-length}
 use Rattle.texts.proofs.PutsLaws.{joined-long}
 use Rattle.asc.specs.Area.{positions, Area, tilesOf}
 use Rattle.asc.specs.Spelling.{tileLine}
-use Rattle.asc.specs.Content.{bitAt, rowDigits, rowText, rowsText, headText, tileText, deviceText, written, textLength}
+use Rattle.asc.specs.Content.{bitAt, rowDigits, rowText, rowsLength, rowsText, headText, tileText, deviceText, written, textLength}
 use Rattle.asc.proofs.AreaLaws.{Sized}
 use Rattle.asc.proofs.SpellingLaws.{tile-line-length}
 
@@ -49,7 +49,7 @@ rowAt bits t r = rowText bits (positions * t + 54 * r)
 pub rows-long : (bits : List ℕ) (t n : ℕ) → length (joined (λ r. rowAt bits t r) n) ≡ 55 * n
 rows-long bits t n = joined-length 55 (λ r. rowAt bits t r) n (λ r l. row-text-length bits (positions * t + 54 * r))
 
-pub rows-text-length : (bits : List ℕ) (t : ℕ) → length (rowsText bits t) ≡ 880
+pub rows-text-length : (bits : List ℕ) (t : ℕ) → length (rowsText bits t) ≡ rowsLength
 unfolding rowsText
 rows-text-length bits t = rows-long bits t 16
 
@@ -60,7 +60,7 @@ head-text-length a t =
     omega (arith, length-append (tileLine (a .x + t % a .w) (a .y + t / a .w)) (10 ∷ []))
 
 module _ (a : Area) (bits : List ℕ) where
-  pub tile-text-length : (t : ℕ) → length (tileText a bits t) ≡ 894 + length (decimal (a .x + t % a .w)) + length (decimal (a .y + t / a .w))
+  pub tile-text-length : (t : ℕ) → length (tileText a bits t) ≡ 14 + rowsLength + length (decimal (a .x + t % a .w)) + length (decimal (a .y + t / a .w))
   tile-text-length t =
       let l = head-text-length a t in
       let r = rows-text-length bits t in
@@ -111,7 +111,7 @@ module _ (a : Area) (t n : ℕ) (i : Counted a t n) where
   pub counted-few : n ≤ 11 + 900 * t
   counted-few = let l = i .long in let f = tiles-text-few a [] t in omega arith
 
-  pub counted-turn : t < tilesOf a → (u v : ℕ) → u ≡ length (decimal (a .x + t % a .w)) → v ≡ length (decimal (a .y + t / a .w)) → Counted a (t + 1) (n + (894 + u + v))
+  pub counted-turn : t < tilesOf a → (u v : ℕ) → u ≡ length (decimal (a .x + t % a .w)) → v ≡ length (decimal (a .y + t / a .w)) → Counted a (t + 1) (n + (14 + rowsLength + u + v))
   counted-turn l u v e f =
       record {
         upto = omega arith;

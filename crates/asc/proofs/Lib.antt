@@ -17,4 +17,4 @@ pub mod AnswerLaws  -- read-told: an answer that says so is the one that is comp
 pub mod LengthLaws  -- tile-of: where tile t stands; tile-text-length, written-length; Counted with its start, turn and end
 pub mod WriteLaws  -- RowsPut, TilesPut with their start, turn and end: a file written piece by piece
 pub mod BackLaws  -- plain-tile, row-is, byte-back: the lines of a written file, one by one
-pub mod RoundTrip  -- asc-back, write-read: a written file read back at its corner and size gives the same block
+pub mod RoundTrip  -- asc-back, read-written, write-read: a written file read back at its corner and size gives the same block

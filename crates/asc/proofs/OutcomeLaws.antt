@@ -6,7 +6,7 @@ use mathlib.Core.Logic.{⊎-elim, _≢_}
 use mathlib.Core.List.{List, [], _∷_, _++_, append-assoc, append-nil}
 use native.Mathlib.Omega.{arith}
 use borrow.Author.Tests.{eq-eqb, ne-eqb}
-use lib.ListN.{length, getD}
+use lib.ListN.{getD}
 use Rattle.lists.proofs.CaseLaws.{eq-or-ne}
 use Rattle.texts.specs.Lines.{Plain}
 use Rattle.texts.proofs.PlainLaws.{plain-append}

@@ -1,4 +1,4 @@
--- "A written file read back at its corner and size gives the same block." Main laws: `asc-back`, `write-read`. Assumes nothing.
+-- "A written file read back at its corner and size gives the same block." Main laws: `asc-back`, `read-written`, `write-read`. Assumes nothing.
 use Prim.Native.Nat.{ℕ, zero, suc, _+_, _-_, _*_, _/_, _%_, _<_, _≤_}
 use mathlib.Core.Path.{_≡_, refl, sym, ap, _∙_, subst, subst₂}
 use mathlib.Core.Bool.{true, false}
@@ -19,12 +19,13 @@ use Rattle.asc.specs.Area.{positions, tileBytes, Area, tilesOf, sized}
 use Rattle.asc.specs.Spelling.{tileLine}
 use Rattle.asc.specs.Stages.{stage, Turn, the-device, a-tile, a-row, Begins, nothing, one-more, whole}
 use Rattle.asc.specs.Content.{byteOf, packed, bitAt, rowDigits, rowText, rowsText, headText, tileText, deviceText, written}
-use Rattle.asc.specs.Answers.{writeAnswer}
+use Rattle.asc.specs.Answers.{readAnswer, bitsRead, writeAnswer}
 use Rattle.asc.specs.Meaning.{AscSays}
 use Rattle.asc.proofs.AreaLaws.{Sized, sized-of}
 use Rattle.asc.proofs.LengthLaws.{tile-of, rowAt}
 use Rattle.asc.proofs.ReadLaws.{write-passed}
 use Rattle.asc.proofs.ExactLaws.{asc-exact}
+use Rattle.asc.proofs.AnswerLaws.{read-told}
 use Rattle.asc.proofs.BackLaws.{byte-back, plain-device, plain-row, plain-tile, row-at, row-is, row-long}
 
 -- ---- reading what was written
@@ -150,6 +151,10 @@ module _ (a : Area) (bits before : List ℕ) (size : sized a ≡ true) (long : l
   -- and no other answer fits
   pub asc-back : (r : Answer) (after : List ℕ) → AscSays a (written a bits) before after r → (r ≡ Done) × (after ≡ bits)
   asc-back r after says = asc-exact a (written a bits) before after bits r Done says written-says
+
+  -- the same as equations
+  pub read-written : (readAnswer a (written a bits) (length before) ≡ Done) × (bitsRead a (written a bits) ≡ bits)
+  read-written = let e = read-told a (written a bits) before bits Done written-says in (sym (e .0), sym (e .1 .0))
 
 -- Demand 2 over this route: where `write` says yes, `read` of what it wrote, at the same corner and size, says yes and gives the same bits.
 pub write-read : (a : Area) (bits text before : List ℕ) → writeAnswer a (length bits) (length text) ≡ Done → ((i : ℕ) → getD bits i 0 < 256)

@@ -1,5 +1,5 @@
 -- A block put into a room piece by piece. Main laws: `rows-start`, `-turn`, `-end`; `tiles-start`, `-fit`, `-turn`, `-end`.
-use Prim.Native.Nat.{ℕ, _+_, _-_, _*_, _<_, _≤_}
+use Prim.Native.Nat.{ℕ, _+_, _*_, _<_, _≤_}
 use mathlib.Core.Path.{_≡_, refl, sym, _∙_, subst}
 use mathlib.Core.List.{List, [], _++_}
 use native.Mathlib.Omega.{arith}
@@ -8,18 +8,18 @@ use lib.ListN.{length}
 use Rattle.lists.specs.Parts.{joined}
 use Rattle.texts.proofs.PutsLaws.{Puts, puts-none, puts-more, puts-turn, puts-long, filled-whole, joined-grows}
 use Rattle.asc.specs.Area.{positions, Area, tilesOf}
-use Rattle.asc.specs.Content.{rowsText, tileText, deviceText, written, textLength}
+use Rattle.asc.specs.Content.{rowsLength, rowsText, tileText, deviceText, written, textLength}
 use Rattle.asc.proofs.LengthLaws.{row-text-length, rowAt, rows-long, tiles-text-next, written-length, written-long}
 
 -- ---- the rows of a tile
 
 pub record RowsPut (bits : List ℕ) (t at : ℕ) (old : List ℕ) (r next : ℕ) (out : List ℕ) : Type 0 where
   pub upto : r ≤ 16
-  pub room : at + 880 ≤ length old
+  pub room : at + rowsLength ≤ length old
   pub put : Puts at (joined (λ i. rowAt bits t i) r) old next out
 
 module _ (bits : List ℕ) (t at : ℕ) (old : List ℕ) where
-  pub rows-start : at + 880 ≤ length old → RowsPut bits t at old 0 at old
+  pub rows-start : at + rowsLength ≤ length old → RowsPut bits t at old 0 at old
   unfolding joined
   rows-start h = record { upto = omega arith; room = h; put = puts-none at [] old refl }
 

@@ -41,6 +41,10 @@ rowDigits bits place = tabulate (λ c. 48 + bitAt bits (place + c)) 0 columns
 abbrev pub rowText : List ℕ → ℕ → List ℕ
 rowText bits place = rowDigits bits place ++ lineEnd
 
+-- how long the rows of a tile are, each with its line feed
+abbrev pub rowsLength : ℕ
+rowsLength = rows * (columns + 1)
+
 -- ".logic_tile with its two coordinates and sixteen rows": tile t is in column t % W and row t / W of the block
 unfoldable pub rowsText : List ℕ → ℕ → List ℕ
 rowsText bits t = joined (λ r. rowText bits (positions * t + columns * r)) rows

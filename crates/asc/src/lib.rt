@@ -20,14 +20,14 @@ use crate::scan::Scanned;
 use refusal::Answer;
 use refusal::Refusal;
 
-pub mod area;
-pub mod bits;
-pub mod lines;
-pub mod room;
-pub mod scan;
-pub mod text;
-pub mod turn;
-pub mod writing;
+mod area;
+mod bits;
+mod lines;
+mod room;
+mod scan;
+mod text;
+mod turn;
+mod writing;
 
 // How long the file of a block is, or why there is none.
 pub enum TextLength {

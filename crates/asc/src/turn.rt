@@ -5,7 +5,7 @@ ghost use mathlib.Core.Bool.{true};
 ghost use mathlib.Core.List.{List};
 ghost use lib.ListN.{length};
 ghost use Rattle.asc.specs.Area.{columns, area, tilesOf, sized};
-ghost use Rattle.asc.specs.Next.{deviceNext, tileNext, dotNext, rowNext, nextOf, stageOf, turnedTo, inside, tileAt};
+ghost use Rattle.asc.specs.Next.{deviceNext, tileNext, dotNext, rowNext, nextOf, stageOf, turnedTo, inside};
 use crate::area::POSITIONS;
 use crate::area::ROWS;
 use crate::lines;

@@ -5,7 +5,7 @@ ghost use mathlib.Core.Bool.{true};
 ghost use lib.ListN.{length};
 ghost use Rattle.texts.specs.Pieces.{placed};
 ghost use Rattle.asc.specs.Area.{columns, tileBytes, area, tilesOf, sized};
-ghost use Rattle.asc.specs.Content.{rowDigits, rowText, rowsText, headText, tileText, written, textLength};
+ghost use Rattle.asc.specs.Content.{rowDigits, rowText, rowsLength, rowsText, headText, tileText, written, textLength};
 use crate::area::COLUMNS;
 use crate::area::POSITIONS;
 use crate::area::ROWS;
@@ -15,18 +15,23 @@ use texts::LINE_END;
 use texts::decimal::decimal_length;
 use texts::put;
 
-// 11 bytes for .device, and for each tile 14, the digits of its coordinates, and 880.
+// The line .device, and what a tile has beside the digits of its coordinates: its word, two spaces, a line feed, and its rows.
+const DEVICE_TEXT: usize = 11;
+
+const TILE_TEXT: usize = 14 + ROWS * (COLUMNS + 1);
+
+// How long the file of a block is.
 pub fn file_length(w: u32, h: u32, x: u32, y: u32) -> usize
     requires { ⌜ sized (area w h x y) ≡ true ⌝ }
     ensures { λ r. ⌜ r ≡ textLength (area w h x y) ⌝ }
 {
     let tiles = h * w;
-    let mut length = 11;
+    let mut length = DEVICE_TEXT;
     let mut t = 0;
     while t < tiles {
         let across = decimal_length(x + t % w);
         let up = decimal_length(y + t / w);
-        length += 894 + across + up;
+        length += TILE_TEXT + across + up;
         t += 1;
     }
     length
@@ -60,7 +65,7 @@ fn put_row(bits: &[u8], place: usize, out: &mut [u8], at: usize) -> usize
 
 // The sixteen rows of tile t.
 fn put_rows(bits: &[u8], t: usize, out: &mut [u8], at: usize) -> usize
-    requires { ⌜ (t < 64) × (tileBytes * t + tileBytes ≤ length (now bits)) × (at + 880 ≤ length (now out)) ⌝ }
+    requires { ⌜ (t < 64) × (tileBytes * t + tileBytes ≤ length (now bits)) × (at + rowsLength ≤ length (now out)) ⌝ }
     ensures next { λ r. ⌜ r ≡ at + length (rowsText (now (bits .entry)) t) ⌝ }
     ensures out { λ r. ⌜ now (out .exit) ≡ placed at (rowsText (now (bits .entry)) t) (now (out .entry)) ⌝ }
 {

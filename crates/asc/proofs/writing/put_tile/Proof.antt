@@ -6,7 +6,7 @@ use borrow.Author.Needs.{needs}
 use lib.ListN.{length, length-append}
 use Rattle.texts.proofs.PutsLaws.{puts-two}
 use Rattle.asc.specs.Area.{Area, area, tilesOf}
-use Rattle.asc.specs.Content.{headText, rowsText, tileText}
+use Rattle.asc.specs.Content.{rowsLength, rowsText, headText, tileText}
 use Rattle.asc.proofs.AreaLaws.{sized-of, tiles-few}
 use Rattle.asc.proofs.LengthLaws.{rows-text-length}
 use Rattle.asc.proofs.writing.put_tile.Statement.{statement}
@@ -15,8 +15,8 @@ use Rattle.asc.proofs.writing.put_tile.Tie as tie
 abbrev own : tie.Start → Area
 own c = area (c .args .w) (c .args .h) (c .args .x) (c .args .y)
 
--- the line and 880 bytes more
-long : (c : tie.Start) → length (tileText (own c) (c .args .bits .now) (c .args .t)) ≡ length (headText (own c) (c .args .t)) + 880
+-- the line and the rows
+long : (c : tie.Start) → length (tileText (own c) (c .args .bits .now) (c .args .t)) ≡ length (headText (own c) (c .args .t)) + rowsLength
 long c =
     omega
     (arith, length-append (headText (own c) (c .args .t)) (rowsText (c .args .bits .now) (c .args .t)), rows-text-length (c .args .bits .now) (c .args .t))

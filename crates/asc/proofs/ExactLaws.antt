@@ -14,7 +14,7 @@ use Rattle.refusal.specs.declared.Answer.the-variants.{Done, Refused}
 use Rattle.asc.specs.Area.{Area, tilesOf, sized}
 use Rattle.asc.specs.Stages.{Stage, Turn, Begins, Whole}
 use Rattle.asc.specs.Content.{packed}
-use Rattle.asc.specs.Meaning.{contentOf, lineNumber, StuckSays, AllSays, ReadSays, Lent, ReadNo, by-size, by-length, by-line, AscSays}
+use Rattle.asc.specs.Meaning.{contentOf, lineNumber, StuckSays, AllSays, YesSays, Lent, ReadNo, by-size, by-length, by-line, AscSays}
 use Rattle.asc.proofs.AreaLaws.{Sized, sized-of}
 use Rattle.asc.proofs.BeginsLaws.{begins-same, begins-front}
 
@@ -89,7 +89,7 @@ module _ (a : Area) (s : List ℕ) (bits : ℕ) where
       ap AscLine (z .place-is ∙ ap lineNumber (stuck-same a (sized-of a (l .right-size)) s (z .says) (u .says)) ∙ sym (u .place-is))
 
   -- a yes leaves no ground
-  yes-or-no : {A : Type 0} {r : Refusal} {after : List ℕ} → Lent a bits → ReadSays a s after → ReadNo a s bits r → A
+  yes-or-no : {A : Type 0} {r : Refusal} {after : List ℕ} → Lent a bits → YesSays a s after → ReadNo a s bits r → A
   yes-or-no lent u (by-size e) = size-only e lent
   yes-or-no lent u (by-length e h) = absurd (h (lent .right-length))
   yes-or-no lent u (by-line l z) = stuck-or-all a (sized-of a (lent .right-size)) s (z .says) (u .all-says)

@@ -53,7 +53,7 @@ pub record AllSays (a : Area) (s content : List ℕ) : Type 0 where
   pub digits-are : contentOf st ≡ content
 
 -- a yes: the bits are those digits
-pub record ReadSays (a : Area) (s bits : List ℕ) : Type 0 where
+pub record YesSays (a : Area) (s bits : List ℕ) : Type 0 where
   pub content : List ℕ
   pub all-says : AllSays a s content
   pub bits-are : bits ≡ packed content (tilesOf a)
@@ -76,5 +76,5 @@ pub data ReadNo (a : Area) (s : List ℕ) (bits : ℕ) : Refusal → Type 0 wher
 
 -- What an answer of `read` says of the text s, `before` and `after` being the lent bits: "On a refusal the outputs keep their old contents".
 abbrev pub AscSays : Area → List ℕ → List ℕ → List ℕ → Answer → Type 0
-AscSays a s before after Done = Lent a (length before) × ReadSays a s after
+AscSays a s before after Done = Lent a (length before) × YesSays a s after
 AscSays a s before after (Refused refusal) = (after ≡ before) × ReadNo a s (length before) refusal

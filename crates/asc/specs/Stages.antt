@@ -34,7 +34,8 @@ pub data Turn (a : Area) : Stage → List ℕ → Stage → Type 0 where
   empty : {st : Stage} → Turn a st [] st
   -- "Read .device 1k", and not "another or a second device"
   the-device : {k : Bool} {p : ℕ} {g c : List ℕ} → Turn a (stage false k 0 p g c) deviceLine (stage true false 0 p g c)
-  -- ".logic_tile with its two coordinates and sixteen rows", and not "a block tile given twice"; tile (i, j) has index j * W + i
+  -- ".logic_tile with its two coordinates and sixteen rows", and not "a block tile given twice"; tile (i, j) has index j * W + i, and
+  -- a block that `sized` lets pass has its coordinates at most 255
   a-tile : {d k : Bool} {p : ℕ} {g c : List ℕ} {i j : ℕ} → i < a .w → j < a .h → getD g (j * a .w + i) 0 ≡ 0
       → Turn a (stage d k 0 p g c) (tileLine (a .x + i) (a .y + j)) (stage d false rows (positions * (j * a .w + i)) (set g (j * a .w + i) 1) c)
   -- "sixteen rows of 54 digits, column 0 first"

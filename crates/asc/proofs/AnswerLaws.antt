@@ -6,11 +6,12 @@ use native.Mathlib.Omega.{arith}
 use borrow.Author.Tests.{eqb-true, eqb-false}
 use lib.Dec.{eqb}
 use lib.ListN.{length}
+use Rattle.ports.specs.Lengths.{tileNumbers}
 use Rattle.refusal.specs.declared.Answer.{Answer}
 use Rattle.refusal.specs.Grounds.{answerNumber}
 use Rattle.refusal.specs.Memory.{output}
 use Rattle.refusal.proofs.GroundsLaws.{unless-cases}
-use Rattle.asc.specs.Area.{tileBytes, Area, tilesOf, sized}
+use Rattle.asc.specs.Area.{Area, tilesOf, sized}
 use Rattle.asc.specs.Stages.{begun, nothing}
 use Rattle.asc.specs.Meaning.{Lent, by-size, by-length, by-line, AscSays}
 use Rattle.asc.specs.Answers.{Outcome, complete, stuck-after, outcomeOf, outcomeAnswer, outcomeBits, readAnswer, bitsRead}
@@ -30,9 +31,9 @@ module _ (a : Area) (s before : List ℕ) where
   answer-says =
       unless-cases P (sized a) _ _ (λ e. (refl, by-size e))
       (λ size.
-      unless-cases P (eqb (length before) (tileBytes * tilesOf a)) _ _ (λ e. (refl, by-length size (eqb-false (length before) (tileBytes * tilesOf a) e)))
+      unless-cases P (eqb (length before) (tileNumbers * tilesOf a)) _ _ (λ e. (refl, by-length size (eqb-false (length before) (tileNumbers * tilesOf a) e)))
       (λ e.
-      outcome-answer (record { right-size = size; right-length = eqb-true (length before) (tileBytes * tilesOf a) e }) (outcomeOf a s)
+      outcome-answer (record { right-size = size; right-length = eqb-true (length before) (tileNumbers * tilesOf a) e }) (outcomeOf a s)
       (outcome-says a (sized-of a size) s s [] 0 (begun a) [] refl nothing (λ k l. absurd (omega arith)))))
     where
       P : Answer → Type 0

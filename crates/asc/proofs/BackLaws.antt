@@ -5,7 +5,7 @@ use mathlib.Core.List.{List, [], _∷_, _++_}
 use native.Mathlib.Omega.{arith}
 use native.Mathlib.Nat.{mod-lt}
 use lib.ListN.{length, getD}
-use Rattle.lists.specs.Search.{all}
+use Rattle.lists.specs.Search.{allFrom}
 use Rattle.lists.proofs.TableLaws.{tabulate-length, tabulate-zero}
 use Rattle.digits.specs.Digits.{digit}
 use Rattle.digits.proofs.DigitLaws.{from-digits-ext, from-digits-all}
@@ -23,11 +23,11 @@ plain-decimal : (n : ℕ) → n ≤ 255 → Plain (decimal n)
 plain-decimal n h k l e = let d = decimal-digits n h k l in omega arith
 
 pub plain-device : Plain deviceLine
-unfolding all
+unfolding allFrom
 plain-device = plain-check deviceLine refl
 
 pub plain-tile : (X Y : ℕ) → X ≤ 255 → Y ≤ 255 → Plain (tileLine X Y)
-unfolding all
+unfolding allFrom
 plain-tile X Y f g =
     plain-append (tileWord ++ (32 ∷ [])) (decimal X ++ (32 ∷ decimal Y)) (plain-check (tileWord ++ (32 ∷ [])) refl)
     (plain-append (decimal X) (32 ∷ decimal Y) (plain-decimal X f) (plain-append (32 ∷ []) (decimal Y) (plain-check (32 ∷ []) refl) (plain-decimal Y g)))

@@ -7,6 +7,7 @@ use mathlib.Core.List.{List, _++_, append-assoc, append-nil}
 use native.Mathlib.Omega.{arith}
 use lib.ListN.{length, getD, set, length-set}
 use lib.Seq.{getD-set-same, getD-set-other}
+use Rattle.ports.specs.Lengths.{tileNumbers}
 use Rattle.lists.specs.Tables.{zeros}
 use Rattle.lists.specs.Parts.{joined}
 use Rattle.lists.proofs.CaseLaws.{lt-or-le, eq-or-ne}
@@ -15,7 +16,7 @@ use Rattle.refusal.specs.declared.Answer.{Answer}
 use Rattle.refusal.specs.declared.Answer.the-variants.{Done}
 use Rattle.texts.specs.Pieces.{placed}
 use Rattle.texts.proofs.PlacedLaws.{placed-length, placed-before, placed-inside}
-use Rattle.asc.specs.Area.{positions, tileBytes, Area, tilesOf, sized}
+use Rattle.asc.specs.Area.{positions, Area, tilesOf, sized}
 use Rattle.asc.specs.Spelling.{tileLine}
 use Rattle.asc.specs.Stages.{stage, Turn, the-device, a-tile, a-row, Begins, nothing, one-more, whole}
 use Rattle.asc.specs.Content.{byteOf, packed, bitAt, rowDigits, rowText, rowsText, headText, tileText, deviceText, written}
@@ -134,8 +135,8 @@ module _ (a : Area) (bits : List ℕ) where
     read-tiles (suc t) l = read-tile (deviceText ++ joined (tileText a bits) t) t (omega arith) (read-tiles t (omega arith))
 
 -- the block's bits, and a yes, are what reading the written file says
-module _ (a : Area) (bits before : List ℕ) (size : sized a ≡ true) (long : length bits ≡ tileBytes * tilesOf a) (bytes : (i : ℕ) → getD bits i 0 < 256)
-    (room : length before ≡ tileBytes * tilesOf a) where
+module _ (a : Area) (bits before : List ℕ) (size : sized a ≡ true) (long : length bits ≡ tileNumbers * tilesOf a) (bytes : (i : ℕ) → getD bits i 0 < 256)
+    (room : length before ≡ tileNumbers * tilesOf a) where
   pub written-says : AscSays a (written a bits) before bits Done
   unfolding written packed
   written-says =
@@ -144,7 +145,7 @@ module _ (a : Area) (bits before : List ℕ) (size : sized a ≡ true) (long : l
         record {
           content = r .c;
           all-says = record { n = r .n; st = stage true false 0 (positions * tilesOf a) (r .g) (r .c); begins = r .begins; all-there = whole (r .marked); digits-are = refl };
-          bits-are = tabulate-is (byteOf (r .c)) 0 (tileBytes * tilesOf a) bits long (λ j l. byte-back bits (r .c) j (bytes j) (λ q m. r .digits q (omega arith)));
+          bits-are = tabulate-is (byteOf (r .c)) 0 (tileNumbers * tilesOf a) bits long (λ j l. byte-back bits (r .c) j (bytes j) (λ q m. r .digits q (omega arith)));
         },
       )
 

@@ -10,7 +10,7 @@ use native.Mathlib.Numerals.{add-one}
 use lib.Dec.{eqb}
 use lib.ListN.{length, take, drop, getD, length-drop, take-append-drop}
 use lib.Seq.{take-all, getD-drop}
-use Rattle.lists.specs.Search.{all}
+use Rattle.lists.specs.Search.{allFrom}
 use Rattle.lists.specs.Tables.{zeros}
 use Rattle.lists.proofs.TableLaws.{zeros-length}
 use Rattle.texts.proofs.LineEndLaws.{LineTo, lineFrom, front-more, line-plain, line-split}
@@ -82,11 +82,11 @@ module _ (a : Area) (s g c : List ℕ) (sc : Scan) (at n : ℕ) (go : Going a s 
 
   -- the end of the text, with the test that the code makes
   abbrev pub nothingMissing : Bool
-  nothingMissing = sc .device && (eqb (sc .left) 0 && all (λ t. eqb (getD g t 0) 1) 0 (length g))
+  nothingMissing = sc .device && (eqb (sc .left) 0 && allFrom (λ t. eqb (getD g t 0) 1) 0 (length g))
 
   whole-test : isWhole a (stageOf sc g c) ≡ nothingMissing
   unfolding isWhole
-  whole-test = ap (λ (m : ℕ). sc .device && (eqb (sc .left) 0 && all (λ t. eqb (getD g t 0) 1) 0 m)) (sym (go .fits .given-long))
+  whole-test = ap (λ (m : ℕ). sc .device && (eqb (sc .left) 0 && allFrom (λ t. eqb (getD g t 0) 1) 0 m)) (sym (go .fits .given-long))
 
   pub going-missing : length s ≤ at → nothingMissing ≡ false → StuckSays a s n
   going-missing l f = stuck-missing a s (take at s) n (stageOf sc g c) (go .begins) (sym (take-all at s l)) (whole-test ∙ f)

@@ -6,7 +6,7 @@ use mathlib.Core.List.{[], _∷_, _++_}
 use native.Mathlib.Omega.{arith}
 use lib.ListN.{length, drop, getD, length-append}
 use lib.Seq.{drop-append-add}
-use Rattle.lists.specs.Search.{all}
+use Rattle.lists.specs.Search.{allFrom}
 use Rattle.texts.specs.Decimal.{decimal, number}
 use Rattle.texts.specs.Lines.{word}
 use Rattle.texts.proofs.DecimalLaws.{decimal-digits, number-back}
@@ -14,11 +14,11 @@ use Rattle.texts.proofs.WordLaws.{word-length-at, word-at, no-space-check}
 use Rattle.asc.specs.Spelling.{deviceWord, deviceLine, tileWord, tileLine, lineX, lineY}
 
 pub device-word : word deviceLine ≡ deviceWord
-unfolding all
+unfolding allFrom
 device-word = word-at deviceWord (49 ∷ 107 ∷ []) (no-space-check deviceWord refl)
 
 pub tile-line-word : (X Y : ℕ) → word (tileLine X Y) ≡ tileWord
-unfolding all
+unfolding allFrom
 tile-line-word X Y = word-at tileWord (decimal X ++ (32 ∷ decimal Y)) (no-space-check tileWord refl)
 
 module _ (X Y : ℕ) (x-few : X ≤ 255) where

@@ -8,7 +8,7 @@ use native.Mathlib.Omega.{arith}
 use borrow.Author.Tests.{eq-eqb, ne-eqb}
 use lib.ListN.{length, take, drop, getD, length-drop, drop-of-length-le}
 use lib.Seq.{take-all}
-use Rattle.lists.specs.Search.{all}
+use Rattle.lists.specs.Search.{allFrom}
 use Rattle.texts.specs.Decimal.{number}
 use Rattle.texts.specs.Lines.{wordLength, word}
 use Rattle.asc.specs.Spelling.{behindWord, lineX, lineY, isBinary, isRow}
@@ -32,7 +32,7 @@ module _ (line rest : List ℕ) (r : rest ≡ behindWord line) (n : ℕ) (e : n 
   line-y-none h = ap number (sym (drop-of-length-le rest (let z : length rest ≤ n + 1 = omega arith in z))) ∙ line-y-is
 
 module _ (xs : List ℕ) where
-  pub row-long : length xs ≡ 54 → isRow xs ≡ all (λ k. isBinary (getD xs k 0)) 0 (length xs)
+  pub row-long : length xs ≡ 54 → isRow xs ≡ allFrom (λ k. isBinary (getD xs k 0)) 0 (length xs)
   unfolding isRow
   row-long e = rw (eq-eqb (length xs) 54 e)
 

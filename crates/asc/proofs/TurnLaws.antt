@@ -10,7 +10,7 @@ use lib.Dec.{leb}
 use lib.ListN.{length, getD}
 use Rattle.lists.proofs.CaseLaws.{cases, eq-or-ne, clash, and-left, and-right, equal-and}
 use Rattle.lists.proofs.SearchLaws.{all-at}
-use Rattle.lists.specs.Search.{all}
+use Rattle.lists.specs.Search.{allFrom}
 use Rattle.texts.specs.Lines.{same, word}
 use Rattle.texts.specs.Pieces.{placed}
 use Rattle.texts.proofs.SameLaws.{same-true, same-refl}
@@ -34,7 +34,7 @@ module _ {a : Area} {st : Stage} {line : List ℕ} where
 pub row-of : (line : List ℕ) → isRow line ≡ true → DigitRow line
 unfolding isRow
 row-of line e =
-    let r = equal-and (length line) 54 (all (λ k. isBinary (getD line k 0)) 0 (length line)) e in
+    let r = equal-and (length line) 54 (allFrom (λ k. isBinary (getD line k 0)) 0 (length line)) e in
     let l = r .0 in
     record {
       long = l;

@@ -3,13 +3,14 @@ use Prim.Native.Nat.{ℕ, suc, _*_}
 use mathlib.Core.Bool.{cond, _&&_}
 use mathlib.Core.List.{List, [], _∷_, _++_}
 use lib.Dec.{eqb}
-use Rattle.refusal.specs.declared.Refusal.the-variants.{Size, Length, AscLine}
+use Rattle.ports.specs.Lengths.{tileNumbers}
+use Rattle.refusal.specs.declared.Refusal.the-variants.{WrongSize, WrongLength, AscLine}
 use Rattle.refusal.specs.declared.Answer.{Answer}
 use Rattle.refusal.specs.declared.Answer.the-variants.{Done, Refused}
-use Rattle.refusal.specs.Grounds.{unless}
+use Rattle.refusal.specs.Grounds.{unless, numberOf, placeOf}
 use Rattle.asc.specs.declared.TextLength.{TextLength}
 use Rattle.asc.specs.declared.TextLength.the-variants as text-length
-use Rattle.asc.specs.Area.{tileBytes, Area, tilesOf, sized}
+use Rattle.asc.specs.Area.{Area, tilesOf, sized}
 use Rattle.asc.specs.Stages.{Stage, begun}
 use Rattle.asc.specs.Next.{Next, goes, fault, nextOf, isWhole}
 use Rattle.asc.specs.Content.{packed, textLength}
@@ -52,7 +53,7 @@ outcomeBits a (stuck-after n) = []
 
 -- `bits` is the length of the lent bits
 unfoldable pub readAnswer : Area → List ℕ → ℕ → Answer
-readAnswer a s bits = unless (sized a) (Refused Size) (unless (eqb bits (tileBytes * tilesOf a)) (Refused Length) (outcomeAnswer (outcomeOf a s)))
+readAnswer a s bits = unless (sized a) (Refused WrongSize) (unless (eqb bits (tileNumbers * tilesOf a)) (Refused WrongLength) (outcomeAnswer (outcomeOf a s)))
 
 -- the bits that a yes writes
 unfoldable pub bitsRead : Area → List ℕ → List ℕ
@@ -61,7 +62,16 @@ bitsRead a s = outcomeBits a (outcomeOf a s)
 -- ---- writing: grounds 1 and 2, in this order
 
 unfoldable pub writeAnswer : Area → ℕ → ℕ → Answer
-writeAnswer a bits text = unless (sized a) (Refused Size) (unless (eqb bits (tileBytes * tilesOf a) && eqb text (textLength a)) (Refused Length) Done)
+writeAnswer a bits text = unless (sized a) (Refused WrongSize) (unless (eqb bits (tileNumbers * tilesOf a) && eqb text (textLength a)) (Refused WrongLength) Done)
 
 unfoldable pub lengthAnswer : Area → TextLength
-lengthAnswer a = unless (sized a) (text-length.Refused Size) (text-length.Bytes (textLength a))
+lengthAnswer a = unless (sized a) (text-length.Refused WrongSize) (text-length.Bytes (textLength a))
+
+-- the paper's number of an answer, 0 for a yes, and what comes with it
+abbrev pub lengthNumber : TextLength → ℕ
+lengthNumber (text-length.Bytes n) = 0
+lengthNumber (text-length.Refused refusal) = numberOf refusal
+
+abbrev pub lengthValue : TextLength → ℕ
+lengthValue (text-length.Bytes n) = n
+lengthValue (text-length.Refused refusal) = placeOf refusal

@@ -2,6 +2,7 @@
 use Prim.Native.Nat.{ℕ, _+_, _*_}
 use mathlib.Core.Bool.{Bool, _&&_}
 use lib.Dec.{leb}
+use Rattle.ports.specs.declared.size.Size.{Size}
 
 -- "sixteen rows of 54 digits"
 abbrev pub rows : ℕ
@@ -12,11 +13,7 @@ columns = 54
 
 -- document 01: "A tile has 16 rows of 54 bits", and as many positions, 54r + c
 abbrev pub positions : ℕ
-positions = 864
-
--- document 01: "A tile is 108 bytes"
-abbrev pub tileBytes : ℕ
-tileBytes = 108
+positions = rows * columns
 
 -- "The caller names the south-west corner and the size": tile (i, j) of the block stands at x + i, y + j of the chip.
 pub record Area : Type 0 where
@@ -27,6 +24,9 @@ pub record Area : Type 0 where
 
 abbrev pub area : ℕ → ℕ → ℕ → ℕ → Area
 area w h x y = record { w = w; h = h; x = x; y = y }
+
+abbrev pub areaAt : Size → ℕ → ℕ → Area
+areaAt S x y = area (S .w) (S .h) x y
 
 -- document 01: "A block is W by H [..] tiles"
 abbrev pub tilesOf : Area → ℕ

@@ -3,11 +3,12 @@
 use Prim.Native.Nat.{ℕ, _+_, _*_, _/_, _%_}
 use mathlib.Core.List.{List, [], _++_}
 use lib.ListN.{length, getD}
+use Rattle.ports.specs.Lengths.{tileNumbers}
 use Rattle.lists.specs.Tables.{tabulate}
 use Rattle.lists.specs.Parts.{joined}
 use Rattle.digits.specs.Digits.{digit, fromDigits}
 use Rattle.texts.specs.Pieces.{lineEnd}
-use Rattle.asc.specs.Area.{rows, columns, positions, tileBytes, Area, tilesOf}
+use Rattle.asc.specs.Area.{rows, columns, positions, Area, tilesOf}
 use Rattle.asc.specs.Spelling.{deviceLine, tileLine}
 
 -- ---- reading
@@ -26,7 +27,7 @@ halfOf content p = 8 * valueAt content (p + 3) + 4 * valueAt content (p + 2) + 2
 
 -- the bytes of n tiles
 unfoldable pub packed : List ℕ → ℕ → List ℕ
-packed content n = tabulate (byteOf content) 0 (tileBytes * n)
+packed content n = tabulate (byteOf content) 0 (tileNumbers * n)
 
 -- ---- writing
 

@@ -5,14 +5,15 @@ use mathlib.Core.Bool.{true, false}
 use mathlib.Core.Logic.{_≢_}
 use mathlib.Core.List.{List, [], _∷_, _++_}
 use lib.ListN.{length}
+use Rattle.ports.specs.Lengths.{tileNumbers}
 use Rattle.refusal.specs.declared.Refusal.{Refusal}
-use Rattle.refusal.specs.declared.Refusal.the-variants.{Size, Length, AscLine}
+use Rattle.refusal.specs.declared.Refusal.the-variants.{WrongSize, WrongLength, AscLine}
 use Rattle.refusal.specs.declared.Answer.{Answer}
 use Rattle.refusal.specs.declared.Answer.the-variants.{Done, Refused}
 use Rattle.texts.specs.Lines.{Plain}
 use Rattle.asc.specs.declared.scan.Scanned.{Scanned}
 use Rattle.asc.specs.declared.scan.Scanned.the-variants.{AllThere, StuckAt}
-use Rattle.asc.specs.Area.{tileBytes, Area, tilesOf, sized}
+use Rattle.asc.specs.Area.{Area, tilesOf, sized}
 use Rattle.asc.specs.Stages.{Stage, stage, Turn, Begins, Whole}
 use Rattle.asc.specs.Content.{packed}
 
@@ -66,12 +67,12 @@ ScanSays a s (StuckAt n) content = StuckSays a s n
 -- 1 and 2 are not given: the size, and the length of the lent bits
 pub record Lent (a : Area) (bits : ℕ) : Type 0 where
   pub right-size : sized a ≡ true
-  pub right-length : bits ≡ tileBytes * tilesOf a
+  pub right-length : bits ≡ tileNumbers * tilesOf a
 
 -- what each no says, `bits` being the length of the lent bits: "13 [..] after 1 and 2, before all others"; there is no other
 pub data ReadNo (a : Area) (s : List ℕ) (bits : ℕ) : Refusal → Type 0 where
-  by-size : sized a ≡ false → ReadNo a s bits Size
-  by-length : sized a ≡ true → bits ≢ tileBytes * tilesOf a → ReadNo a s bits Length
+  by-size : sized a ≡ false → ReadNo a s bits WrongSize
+  by-length : sized a ≡ true → bits ≢ tileNumbers * tilesOf a → ReadNo a s bits WrongLength
   by-line : {place : ℕ} → Lent a bits → LineSays a s place → ReadNo a s bits (AscLine place)
 
 -- What an answer of `read` says of the text s, `before` and `after` being the lent bits: "On a refusal the outputs keep their old contents".

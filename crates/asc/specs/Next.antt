@@ -5,7 +5,7 @@ use mathlib.Core.Bool.{Bool, true, false, cond, _&&_, not}
 use mathlib.Core.List.{List, [], _∷_}
 use lib.Dec.{eqb, leb, ltb}
 use lib.ListN.{getD, set}
-use Rattle.lists.specs.Search.{all}
+use Rattle.lists.specs.Search.{allFrom}
 use Rattle.texts.specs.Pieces.{placed}
 use Rattle.texts.specs.Lines.{same, word}
 use Rattle.asc.specs.Area.{rows, columns, positions, Area, tilesOf}
@@ -63,7 +63,7 @@ nextOf a st (b ∷ line) = lineNext a st (b ∷ line)
 
 -- nothing is missing (`Whole`)
 unfoldable pub isWhole : Area → Stage → Bool
-isWhole a (stage d k l p g c) = d && (eqb l 0 && all (λ t. eqb (getD g t 0) 1) 0 (tilesOf a))
+isWhole a (stage d k l p g c) = d && (eqb l 0 && allFrom (λ t. eqb (getD g t 0) 1) 0 (tilesOf a))
 
 -- ---- as the code has them
 

@@ -4,7 +4,7 @@ use mathlib.Core.Bool.{Bool, _&&_}
 use mathlib.Core.List.{List, [], _∷_, _++_}
 use lib.Dec.{eqb, leb}
 use lib.ListN.{length, drop, getD}
-use Rattle.lists.specs.Search.{all}
+use Rattle.lists.specs.Search.{allFrom}
 use Rattle.texts.specs.Decimal.{decimal, number}
 use Rattle.texts.specs.Lines.{same, wordLength, word}
 use Rattle.asc.specs.Area.{columns}
@@ -45,4 +45,4 @@ abbrev pub isBinary : ℕ → Bool
 isBinary c = leb 48 c && leb c 49
 
 unfoldable pub isRow : List ℕ → Bool
-isRow line = eqb (length line) columns && all (λ k. isBinary (getD line k 0)) 0 (length line)
+isRow line = eqb (length line) columns && allFrom (λ k. isBinary (getD line k 0)) 0 (length line)

@@ -2,14 +2,12 @@
 ghost use mathlib.Core.Path.{_≡_};
 ghost use Rattle.asc.specs.Area.{area, sized};
 
-// A tile has sixteen rows of 54 digits, and so many positions, which are so many bytes of a block.
+// A tile has sixteen rows of 54 digits, and so many positions.
 pub const ROWS: usize = 16;
 
 pub const COLUMNS: usize = 54;
 
-pub const POSITIONS: usize = 864;
-
-pub const TILE_BYTES: usize = 108;
+pub const POSITIONS: usize = ROWS * COLUMNS;
 
 // Ground 1: W and H are 1 to 8, and the block does not reach past 255.
 // Rules out: a corner that wraps around.

@@ -7,16 +7,18 @@ ghost use mathlib.Core.Path.{_≡_};
 ghost use Prim.Native.Nat.{_*_, _^_, _<_};
 ghost use mathlib.Core.Bool.{true};
 ghost use lib.ListN.{length};
+ghost use Rattle.ports.specs.Lengths.{tileNumbers};
 ghost use Rattle.refusal.specs.Grounds.{answerNumber};
 ghost use Rattle.refusal.specs.Memory.{output};
-ghost use Rattle.asc.specs.Area.{positions, tileBytes, area, tilesOf, sized};
+ghost use Rattle.asc.specs.Area.{positions, area, areaAt, tilesOf, sized};
 ghost use Rattle.asc.specs.Content.{written};
 ghost use Rattle.asc.specs.Meaning.{AscSays, lineNumber};
 ghost use Rattle.asc.specs.Answers.{readAnswer, bitsRead, writeAnswer, lengthAnswer};
 use crate::area::POSITIONS;
-use crate::area::TILE_BYTES;
 use crate::area::is_sized;
 use crate::scan::Scanned;
+use ports::lengths::TILE_NUMBERS;
+use ports::size::Size;
 use refusal::Answer;
 use refusal::Refusal;
 
@@ -31,7 +33,7 @@ mod writing;
 
 // How long the file of a block is, or why there is none.
 pub enum TextLength {
-    Bytes(usize),
+    Bytes(u32),
     Refused(Refusal),
 }
 
@@ -56,7 +58,7 @@ fn read_into(
     given: &mut [u8],
     content: &mut [u8],
 ) -> Answer
-    requires { ⌜ (sized (area w h x y) ≡ true) × (length (now bits) ≡ tileBytes * tilesOf (area w h x y)) × (length (now given) ≡ tilesOf (area w h x y)) × (length (now content) ≡ positions * tilesOf (area w h x y)) ⌝ }
+    requires { ⌜ (sized (area w h x y) ≡ true) × (length (now bits) ≡ tileNumbers * tilesOf (area w h x y)) × (length (now given) ≡ tilesOf (area w h x y)) × (length (now content) ≡ positions * tilesOf (area w h x y)) ⌝ }
     ensures { λ r. ⌜ AscSays (area w h x y) (now (text .entry)) (now (bits .entry)) (now (bits .exit)) r ⌝ }
 {
     let scanned = scan::scan(w, h, x, y, text, given, content);
@@ -71,17 +73,19 @@ fn read_into(
 
 // Reads the bits of the block with its south-west corner at x, y from a file of any length. Grounds 1, 2, 13, in this order (`readAnswer`).
 // Rules out: refusing every file; bits written on a no; a second device, a tile given twice, a tile left out; a last line without its line feed.
-pub fn read(w: u32, h: u32, x: u32, y: u32, text: &[u8], bits: &mut [u8]) -> Answer
-    ensures answer { λ r. ⌜ r ≡ readAnswer (area w h x y) (now (text .entry)) (length (now (bits .entry))) ⌝ }
-    ensures bits { λ r. ⌜ now (bits .exit) ≡ output (answerNumber r) (now (bits .entry)) (bitsRead (area w h x y) (now (text .entry))) ⌝ }
-    ensures says { λ r. ⌜ AscSays (area w h x y) (now (text .entry)) (now (bits .entry)) (now (bits .exit)) r ⌝ }
+pub fn read(s: Size, x: u32, y: u32, text: &[u8], bits: &mut [u8]) -> Answer
+    ensures answer { λ r. ⌜ r ≡ readAnswer (areaAt s x y) (now (text .entry)) (length (now (bits .entry))) ⌝ }
+    ensures bits { λ r. ⌜ now (bits .exit) ≡ output (answerNumber r) (now (bits .entry)) (bitsRead (areaAt s x y) (now (text .entry))) ⌝ }
+    ensures says { λ r. ⌜ AscSays (areaAt s x y) (now (text .entry)) (now (bits .entry)) (now (bits .exit)) r ⌝ }
 {
+    let w = s.w;
+    let h = s.h;
     if !is_sized(w, h, x, y) {
-        return Answer::Refused(Refusal::Size);
+        return Answer::Refused(Refusal::WrongSize);
     }
     let n = (h * w) as usize;
-    if bits.len() != TILE_BYTES * n {
-        return Answer::Refused(Refusal::Length);
+    if bits.len() != TILE_NUMBERS * n {
+        return Answer::Refused(Refusal::WrongLength);
     }
     let mut given = room::given_room();
     let mut content = room::content_room();
@@ -99,30 +103,34 @@ pub fn read(w: u32, h: u32, x: u32, y: u32, text: &[u8], bits: &mut [u8]) -> Ans
 }
 
 // How long the file of a block is. Ground 1 (`lengthAnswer`).
-pub fn text_length(w: u32, h: u32, x: u32, y: u32) -> TextLength
-    ensures { λ r. ⌜ r ≡ lengthAnswer (area w h x y) ⌝ }
+pub fn text_length(s: Size, x: u32, y: u32) -> TextLength
+    ensures { λ r. ⌜ r ≡ lengthAnswer (areaAt s x y) ⌝ }
 {
+    let w = s.w;
+    let h = s.h;
     if !is_sized(w, h, x, y) {
-        return TextLength::Refused(Refusal::Size);
+        return TextLength::Refused(Refusal::WrongSize);
     }
-    TextLength::Bytes(writing::file_length(w, h, x, y))
+    TextLength::Bytes(writing::file_length(w, h, x, y) as u32)
 }
 
 // Writes a block as a file, .device first, tiles by index. Grounds 1, 2, in this order (`writeAnswer`).
 // Rules out: a room that is longer than the file; a file written on a no.
-pub fn write(w: u32, h: u32, x: u32, y: u32, bits: &[u8], text: &mut [u8]) -> Answer
-    ensures answer { λ r. ⌜ r ≡ writeAnswer (area w h x y) (length (now (bits .entry))) (length (now (text .entry))) ⌝ }
-    ensures text { λ r. ⌜ now (text .exit) ≡ output (answerNumber r) (now (text .entry)) (written (area w h x y) (now (bits .entry))) ⌝ }
+pub fn write(s: Size, x: u32, y: u32, bits: &[u8], text: &mut [u8]) -> Answer
+    ensures answer { λ r. ⌜ r ≡ writeAnswer (areaAt s x y) (length (now (bits .entry))) (length (now (text .entry))) ⌝ }
+    ensures text { λ r. ⌜ now (text .exit) ≡ output (answerNumber r) (now (text .entry)) (written (areaAt s x y) (now (bits .entry))) ⌝ }
 {
+    let w = s.w;
+    let h = s.h;
     if !is_sized(w, h, x, y) {
-        return Answer::Refused(Refusal::Size);
+        return Answer::Refused(Refusal::WrongSize);
     }
     let n = (h * w) as usize;
-    if bits.len() != TILE_BYTES * n {
-        return Answer::Refused(Refusal::Length);
+    if bits.len() != TILE_NUMBERS * n {
+        return Answer::Refused(Refusal::WrongLength);
     }
     if text.len() != writing::file_length(w, h, x, y) {
-        return Answer::Refused(Refusal::Length);
+        return Answer::Refused(Refusal::WrongLength);
     }
     writing::put_file(w, h, x, y, bits, text);
     Answer::Done

@@ -4,7 +4,7 @@ ghost use Prim.Native.Nat.{_*_, _<_};
 ghost use mathlib.Core.Bool.{true, _&&_};
 ghost use lib.Dec.{eqb};
 ghost use lib.ListN.{length, getD};
-ghost use Rattle.lists.specs.Search.{all};
+ghost use Rattle.lists.specs.Search.{allFrom};
 ghost use Rattle.asc.specs.Area.{positions, area, tilesOf, sized};
 ghost use Rattle.asc.specs.Meaning.{ScanSays};
 use crate::turn::Scan;
@@ -20,7 +20,7 @@ pub enum Scanned {
 
 // Every tile was given.
 fn all_given(given: &[u8]) -> bool
-    ensures { λ r. ⌜ r ≡ all (λ t. eqb (getD (now (given .entry)) t 0) 1) 0 (length (now (given .entry))) ⌝ }
+    ensures { λ r. ⌜ r ≡ allFrom (λ t. eqb (getD (now (given .entry)) t 0) 1) 0 (length (now (given .entry))) ⌝ }
 {
     let mut t = 0;
     while t < given.len() {
@@ -34,7 +34,7 @@ fn all_given(given: &[u8]) -> bool
 
 // Nothing is missing.
 fn is_whole(s: Scan, given: &[u8]) -> bool
-    ensures { λ r. ⌜ r ≡ (s .device && (eqb (s .left) 0 && all (λ t. eqb (getD (now (given .entry)) t 0) 1) 0 (length (now (given .entry))))) ⌝ }
+    ensures { λ r. ⌜ r ≡ (s .device && (eqb (s .left) 0 && allFrom (λ t. eqb (getD (now (given .entry)) t 0) 1) 0 (length (now (given .entry))))) ⌝ }
 {
     if !s.device {
         return false;

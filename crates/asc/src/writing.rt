@@ -3,8 +3,9 @@ ghost use mathlib.Core.Path.{_≡_};
 ghost use Prim.Native.Nat.{_+_, _*_, _/_, _%_, _^_, _<_, _≤_};
 ghost use mathlib.Core.Bool.{true};
 ghost use lib.ListN.{length};
+ghost use Rattle.ports.specs.Lengths.{tileNumbers};
 ghost use Rattle.texts.specs.Pieces.{placed};
-ghost use Rattle.asc.specs.Area.{columns, tileBytes, area, tilesOf, sized};
+ghost use Rattle.asc.specs.Area.{columns, area, tilesOf, sized};
 ghost use Rattle.asc.specs.Content.{rowDigits, rowText, rowsLength, rowsText, headText, tileText, written, textLength};
 use crate::area::COLUMNS;
 use crate::area::POSITIONS;
@@ -23,7 +24,7 @@ const TILE_TEXT: usize = 14 + ROWS * (COLUMNS + 1);
 // How long the file of a block is.
 pub fn file_length(w: u32, h: u32, x: u32, y: u32) -> usize
     requires { ⌜ sized (area w h x y) ≡ true ⌝ }
-    ensures { λ r. ⌜ r ≡ textLength (area w h x y) ⌝ }
+    ensures { λ r. ⌜ (r ≡ textLength (area w h x y)) × (r < 2 ^ 16) ⌝ }
 {
     let tiles = h * w;
     let mut length = DEVICE_TEXT;
@@ -65,7 +66,7 @@ fn put_row(bits: &[u8], place: usize, out: &mut [u8], at: usize) -> usize
 
 // The sixteen rows of tile t.
 fn put_rows(bits: &[u8], t: usize, out: &mut [u8], at: usize) -> usize
-    requires { ⌜ (t < 64) × (tileBytes * t + tileBytes ≤ length (now bits)) × (at + rowsLength ≤ length (now out)) ⌝ }
+    requires { ⌜ (t < 64) × (tileNumbers * t + tileNumbers ≤ length (now bits)) × (at + rowsLength ≤ length (now out)) ⌝ }
     ensures next { λ r. ⌜ r ≡ at + length (rowsText (now (bits .entry)) t) ⌝ }
     ensures out { λ r. ⌜ now (out .exit) ≡ placed at (rowsText (now (bits .entry)) t) (now (out .entry)) ⌝ }
 {
@@ -91,7 +92,7 @@ fn put_head(w: u32, h: u32, x: u32, y: u32, t: u32, out: &mut [u8], at: usize) -
 
 // The line and the rows of tile t.
 fn put_tile(w: u32, h: u32, x: u32, y: u32, t: u32, bits: &[u8], out: &mut [u8], at: usize) -> usize
-    requires { ⌜ (sized (area w h x y) ≡ true) × (t < tilesOf (area w h x y)) × (length (now bits) ≡ tileBytes * tilesOf (area w h x y)) × (at + length (tileText (area w h x y) (now bits) t) ≤ length (now out)) ⌝ }
+    requires { ⌜ (sized (area w h x y) ≡ true) × (t < tilesOf (area w h x y)) × (length (now bits) ≡ tileNumbers * tilesOf (area w h x y)) × (at + length (tileText (area w h x y) (now bits) t) ≤ length (now out)) ⌝ }
     ensures next { λ r. ⌜ r ≡ at + length (tileText (area w h x y) (now (bits .entry)) t) ⌝ }
     ensures out { λ r. ⌜ now (out .exit) ≡ placed at (tileText (area w h x y) (now (bits .entry)) t) (now (out .entry)) ⌝ }
 {
@@ -101,7 +102,7 @@ fn put_tile(w: u32, h: u32, x: u32, y: u32, t: u32, bits: &[u8], out: &mut [u8],
 
 // The whole file, in a room of its length.
 pub fn put_file(w: u32, h: u32, x: u32, y: u32, bits: &[u8], text: &mut [u8])
-    requires { ⌜ (sized (area w h x y) ≡ true) × (length (now bits) ≡ tileBytes * tilesOf (area w h x y)) × (length (now text) ≡ textLength (area w h x y)) ⌝ }
+    requires { ⌜ (sized (area w h x y) ≡ true) × (length (now bits) ≡ tileNumbers * tilesOf (area w h x y)) × (length (now text) ≡ textLength (area w h x y)) ⌝ }
     ensures { λ r. ⌜ now (text .exit) ≡ written (area w h x y) (now (bits .entry)) ⌝ }
 {
     let device = *b".device 1k\n";

@@ -7,7 +7,7 @@ use native.Mathlib.Omega.{arith}
 use borrow.Author.Tests.{eqb-false, not-true}
 use lib.Dec.{eqb}
 use lib.ListN.{length, getD}
-use Rattle.lists.specs.Search.{all}
+use Rattle.lists.specs.Search.{allFrom}
 use Rattle.lists.proofs.SearchLaws.{all-at}
 use Rattle.texts.specs.Lines.{Plain}
 
@@ -16,7 +16,7 @@ plain-append [] ys p q k l = q k l
 plain-append (x ∷ xs) ys p q zero l = p 0 (omega arith)
 plain-append (x ∷ xs) ys p q (suc k) l = plain-append xs ys (λ i b. p (suc i) (omega arith)) q k (omega arith)
 
-pub plain-check : (xs : List ℕ) → all (λ k. not (eqb (getD xs k 0) 10)) 0 (length xs) ≡ true → Plain xs
+pub plain-check : (xs : List ℕ) → allFrom (λ k. not (eqb (getD xs k 0) 10)) 0 (length xs) ≡ true → Plain xs
 plain-check xs e k l = eqb-false (getD xs k 0) 10 (not-true (eqb (getD xs k 0) 10) (all-at (λ k. not (eqb (getD xs k 0) 10)) 0 (length xs) k e (omega arith) (omega arith)))
 
 -- the first line feed parts a text in one way

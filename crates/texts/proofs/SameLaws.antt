@@ -9,7 +9,7 @@ use borrow.Author.Tests.{eqb-true, eq-eqb, ne-eqb}
 use lib.Dec.{eqb}
 use lib.ListN.{length, getD}
 use lib.Seq.{ext-getD}
-use Rattle.lists.specs.Search.{all}
+use Rattle.lists.specs.Search.{allFrom}
 use Rattle.lists.proofs.CaseLaws.{cases, equal-and, and-equal}
 use Rattle.lists.proofs.SearchLaws.{all-at, all-of}
 use Rattle.texts.specs.Lines.{same}
@@ -17,7 +17,7 @@ use Rattle.texts.specs.Lines.{same}
 pub same-true : (xs ys : List ℕ) → same xs ys ≡ true → xs ≡ ys
 unfolding same
 same-true xs ys e =
-    let r = equal-and (length xs) (length ys) (all (λ k. eqb (getD xs k 0) (getD ys k 0)) 0 (length xs)) e in
+    let r = equal-and (length xs) (length ys) (allFrom (λ k. eqb (getD xs k 0) (getD ys k 0)) 0 (length xs)) e in
     ext-getD 0 xs ys (r .0)
     (λ i h. eqb-true (getD xs i 0) (getD ys i 0) (all-at (λ k. eqb (getD xs k 0) (getD ys k 0)) 0 (length xs) i (r .1) (omega arith) (omega arith)))
 
@@ -31,7 +31,7 @@ pub same-false : (xs ys : List ℕ) → xs ≢ ys → same xs ys ≡ false
 same-false xs ys h = ⊎-elim (λ e. absurd (h (same-true xs ys e))) (λ e. e) (cases (same xs ys))
 
 -- as the loop looks at them
-pub same-long : (xs ys : List ℕ) → length xs ≡ length ys → same xs ys ≡ all (λ k. eqb (getD xs k 0) (getD ys k 0)) 0 (length xs)
+pub same-long : (xs ys : List ℕ) → length xs ≡ length ys → same xs ys ≡ allFrom (λ k. eqb (getD xs k 0) (getD ys k 0)) 0 (length xs)
 unfolding same
 same-long xs ys e = rw (eq-eqb (length xs) (length ys) e)
 

@@ -9,7 +9,7 @@ use borrow.Author.Tests.{eq-eqb, ne-eqb, eqb-false, not-true}
 use lib.Dec.{eqb}
 use lib.ListN.{length, take, getD, length-append, List·getD-append}
 use lib.Seq.{length-take-le, take-at, getD-at}
-use Rattle.lists.specs.Search.{all}
+use Rattle.lists.specs.Search.{allFrom}
 use Rattle.lists.proofs.SearchLaws.{first-at, first-le, all-at}
 use Rattle.texts.specs.Lines.{wordLength, word}
 
@@ -25,7 +25,7 @@ module _ (xs ys : List ℕ) (no-space : (k : ℕ) → k < length xs → getD xs 
   word-at = take-at xs (32 ∷ ys) (wordLength (xs ++ (32 ∷ ys))) (sym word-length-at)
 
 -- a text given byte by byte that has no space
-pub no-space-check : (xs : List ℕ) → all (λ k. not (eqb (getD xs k 0) 32)) 0 (length xs) ≡ true → (k : ℕ) → k < length xs → getD xs k 0 ≢ 32
+pub no-space-check : (xs : List ℕ) → allFrom (λ k. not (eqb (getD xs k 0) 32)) 0 (length xs) ≡ true → (k : ℕ) → k < length xs → getD xs k 0 ≢ 32
 no-space-check xs e k l = eqb-false (getD xs k 0) 32 (not-true (eqb (getD xs k 0) 32) (all-at (λ k. not (eqb (getD xs k 0) 32)) 0 (length xs) k e (omega arith) (omega arith)))
 
 module _ (xs : List ℕ) where

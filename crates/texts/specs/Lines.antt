@@ -5,7 +5,7 @@ use mathlib.Core.Logic.{_≢_}
 use mathlib.Core.List.{List}
 use lib.Dec.{eqb}
 use lib.ListN.{length, take, getD}
-use Rattle.lists.specs.Search.{first, all}
+use Rattle.lists.specs.Search.{first, allFrom}
 
 -- no byte of a line is a line feed
 abbrev pub Plain : List ℕ → Type 0
@@ -13,7 +13,7 @@ Plain line = (k : ℕ) → k < length line → getD line k 0 ≢ 10
 
 -- two texts are the same, byte by byte
 unfoldable pub same : List ℕ → List ℕ → Bool
-same xs ys = eqb (length xs) (length ys) && all (λ k. eqb (getD xs k 0) (getD ys k 0)) 0 (length xs)
+same xs ys = eqb (length xs) (length ys) && allFrom (λ k. eqb (getD xs k 0) (getD ys k 0)) 0 (length xs)
 
 -- "spaces part words": the first word of a line is what stands before its first space
 abbrev pub wordLength : List ℕ → ℕ

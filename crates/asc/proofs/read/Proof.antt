@@ -6,9 +6,9 @@ use native.Mathlib.Omega.{arith}
 use borrow.Author.Tests.{not-true, not-false}
 use borrow.Author.Needs.{needs}
 use lib.Seq.{length-take-le}
-use Rattle.refusal.specs.declared.Refusal.the-variants.{Size, Length}
+use Rattle.refusal.specs.declared.Refusal.the-variants.{WrongSize, WrongLength}
 use Rattle.refusal.specs.declared.Answer.the-variants.{Refused}
-use Rattle.asc.specs.Area.{Area, area, tilesOf, sized}
+use Rattle.asc.specs.Area.{Area, areaAt, tilesOf, sized}
 use Rattle.asc.specs.Meaning.{by-size, by-length}
 use Rattle.asc.proofs.AreaLaws.{sized-of, tiles-few}
 use Rattle.asc.proofs.AnswerLaws.{read-told}
@@ -16,7 +16,7 @@ use Rattle.asc.proofs.read.Statement.{statement}
 use Rattle.asc.proofs.read.Tie as tie
 
 abbrev own : tie.Start → Area
-own c = area (c .args .w) (c .args .h) (c .args .x) (c .args .y)
+own c = areaAt (c .args .s) (c .args .x) (c .args .y)
 
 abbrev start : tie.Else1 → tie.Start
 start c = c .before .before .before .before
@@ -35,7 +35,7 @@ returns : tie.Need-returns
 returns c =
     let at-is-sized = c .before in
     let at-start = at-is-sized .before .before .before in
-    read-told (own at-start) (at-start .args .text .now) (at-start .args .bits .now) (at-start .args .bits .now) (Refused Size) (refl, by-size (sym (at-is-sized .is-sized .ensures) ∙ not-true _ (c .if1 .taken)))
+    read-told (own at-start) (at-start .args .text .now) (at-start .args .bits .now) (at-start .args .bits .now) (Refused WrongSize) (refl, by-size (sym (at-is-sized .is-sized .ensures) ∙ not-true _ (c .if1 .taken)))
 
 mul-n : tie.Need-mul-n
 mul-n c = omega (arith, few c)
@@ -51,7 +51,7 @@ returns-2 c =
     let at-if1 = c .before in
     let at-is-sized = at-if1 .before in
     let at-start = at-is-sized .before .before .before in
-    read-told (own at-start) (at-start .args .text .now) (at-start .args .bits .now) (at-start .args .bits .now) (Refused Length) (refl, by-length (size at-if1) (c .if2 .taken))
+    read-told (own at-start) (at-start .args .text .now) (at-start .args .bits .now) (at-start .args .bits .now) (Refused WrongLength) (refl, by-length (size at-if1) (c .if2 .taken))
 
 given-room-requires : tie.Need-given-room-requires
 given-room-requires c κs = search needs

@@ -5,14 +5,14 @@ use mathlib.Core.Bool.{true}
 use native.Mathlib.Omega.{arith}
 use borrow.Author.Tests.{not-true, not-false}
 use borrow.Author.Needs.{needs}
-use Rattle.asc.specs.Area.{Area, area, tilesOf, sized}
+use Rattle.asc.specs.Area.{Area, areaAt, tilesOf, sized}
 use Rattle.asc.proofs.ReadLaws.{write-size, write-bits, write-text, write-done}
 use Rattle.asc.proofs.AreaLaws.{sized-of, tiles-few}
 use Rattle.asc.proofs.write.Statement.{statement}
 use Rattle.asc.proofs.write.Tie as tie
 
 abbrev own : tie.Else1 → Area
-own c = let args = c .before .before .before .before .args in area (args .w) (args .h) (args .x) (args .y)
+own c = let args = c .before .before .before .before .args in areaAt (args .s) (args .x) (args .y)
 
 -- past the first test the size is right
 size : (c : tie.Else1) → sized (own c) ≡ true
@@ -49,7 +49,7 @@ returns-3 c =
     let at-file-length = c .before in
     let at-if2 = at-file-length .before in
     let at-if1 = at-if2 .before in
-    (write-text _ _ _ (size at-if1) (at-if2 .if2 .left) (λ q. c .if3 .taken (q ∙ sym (at-file-length .file-length .ensures))), refl)
+    (write-text _ _ _ (size at-if1) (at-if2 .if2 .left) (λ q. c .if3 .taken (q ∙ sym (at-file-length .file-length .ensures .0))), refl)
 
 put-file-requires : tie.Need-put-file-requires
 put-file-requires c κs =
@@ -57,7 +57,7 @@ put-file-requires c κs =
     let at-file-length = at-if3 .before in
     let at-if2 = at-file-length .before in
     let at-if1 = at-if2 .before in
-    (size at-if1, at-if2 .if2 .left, at-if3 .if3 .left ∙ at-file-length .file-length .ensures)
+    (size at-if1, at-if2 .if2 .left, at-if3 .if3 .left ∙ at-file-length .file-length .ensures .0)
 
 same-length : tie.Need-same-length
 same-length c = search needs
@@ -69,7 +69,7 @@ returns-4 c =
     let at-file-length = at-if3 .before in
     let at-if2 = at-file-length .before in
     let at-if1 = at-if2 .before in
-    (write-done _ _ _ (size at-if1) (at-if2 .if2 .left) (at-if3 .if3 .left ∙ at-file-length .file-length .ensures), at-put-file .put-file .ensures)
+    (write-done _ _ _ (size at-if1) (at-if2 .if2 .left) (at-if3 .if3 .left ∙ at-file-length .file-length .ensures .0), at-put-file .put-file .ensures)
 
 pub write-spec : {M : Type 1} → statement M
 write-spec =

@@ -6,14 +6,14 @@ use borrow.Author.Needs.{needs}
 use borrow.Author.Tests.{not-true, not-false}
 use lib.ListN.{length, getD}
 use Rattle.lists.proofs.SearchLaws.{all-turn-hit, all-turn-skip, all-turn-end}
-use Rattle.lists.specs.Search.{all}
+use Rattle.lists.specs.Search.{allFrom}
 use Rattle.asc.specs.Spelling.{isRow, isBinary}
 use Rattle.asc.proofs.SpeltLaws.{row-long, row-short}
 use Rattle.asc.proofs.lines.is_row.Statement.{statement}
 use Rattle.asc.proofs.lines.is_row.Tie as tie
 
 abbrev Inv-loop : tie.InvT-loop
-Inv-loop line k₀ k = all (λ j. isBinary (getD line j 0)) k (length line - k) ≡ isRow line
+Inv-loop line k₀ k = allFrom (λ j. isBinary (getD line j 0)) k (length line - k) ≡ isRow line
 
 abbrev μ-loop : tie.MeasureT-loop
 μ-loop line k₀ k = length line - k

@@ -7,12 +7,12 @@ use borrow.Author.Tests.{eq-eqb, ne-eqb}
 use lib.Dec.{eqb}
 use lib.ListN.{length, getD}
 use Rattle.lists.proofs.SearchLaws.{all-turn-hit, all-turn-skip, all-turn-end}
-use Rattle.lists.specs.Search.{all}
+use Rattle.lists.specs.Search.{allFrom}
 use Rattle.asc.proofs.scan.all_given.Statement.{statement}
 use Rattle.asc.proofs.scan.all_given.Tie as tie
 
 abbrev Inv-loop : tie.InvT-loop
-Inv-loop given t₀ t = all (λ j. eqb (getD given j 0) 1) t (length given - t) ≡ all (λ j. eqb (getD given j 0) 1) 0 (length given)
+Inv-loop given t₀ t = allFrom (λ j. eqb (getD given j 0) 1) t (length given - t) ≡ allFrom (λ j. eqb (getD given j 0) 1) 0 (length given)
 
 abbrev μ-loop : tie.MeasureT-loop
 μ-loop given t₀ t = length given - t

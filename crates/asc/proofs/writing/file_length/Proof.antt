@@ -83,7 +83,9 @@ loop-again c =
     counted-turn _ _ _ (at-loop .loop .inv) (at-loop-test .loop-test .taken) _ _ (at-decimal-length .decimal-length .ensures) (c .decimal-length2 .ensures)
 
 returns : tie.Need-returns Inv-loop μ-loop
-returns c = counted-end _ _ _ (c .before .loop .inv) (c .loop-test .left)
+returns c =
+    let at-loop = c .before in
+    (counted-end _ _ _ (at-loop .loop .inv) (c .loop-test .left), omega (arith, counted at-loop))
 
 pub file-length-spec : {M : Type 1} → statement M
 file-length-spec =

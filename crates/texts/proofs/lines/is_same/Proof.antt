@@ -7,14 +7,14 @@ use borrow.Author.Tests.{eq-eqb, ne-eqb}
 use lib.Dec.{eqb}
 use lib.ListN.{length, getD}
 use Rattle.lists.proofs.SearchLaws.{all-turn-hit, all-turn-skip, all-turn-end}
-use Rattle.lists.specs.Search.{all}
+use Rattle.lists.specs.Search.{allFrom}
 use Rattle.texts.specs.Lines.{same}
 use Rattle.texts.proofs.SameLaws.{same-long, same-short}
 use Rattle.texts.proofs.lines.is_same.Statement.{statement}
 use Rattle.texts.proofs.lines.is_same.Tie as tie
 
 abbrev Inv-loop : tie.InvT-loop
-Inv-loop a b k₀ k = (length a ≡ length b) × (all (λ j. eqb (getD a j 0) (getD b j 0)) k (length a - k) ≡ same a b)
+Inv-loop a b k₀ k = (length a ≡ length b) × (allFrom (λ j. eqb (getD a j 0) (getD b j 0)) k (length a - k) ≡ same a b)
 
 abbrev μ-loop : tie.MeasureT-loop
 μ-loop a b k₀ k = length a - k

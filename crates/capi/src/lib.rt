@@ -14,6 +14,7 @@ use ports::size::Block;
 
 pub mod blocks;
 pub mod circuits;
+pub mod files;
 pub mod pack;
 
 // The number of the wire that a port of a tile is on, in a block of w by h tiles. Grounds 1 and 20.

@@ -1,4 +1,5 @@
-// Bytes of text, as frames and reports and files of lines have them: a byte at a position, a piece put in at one, and hexadecimal digits (`hex`).
+// Bytes of text, as frames and reports and files of lines have them: a byte at a position, a piece put in at one, hexadecimal
+// digits (`hex`), decimal numbers (`decimal`), lines and words (`lines`).
 // The theory that readers and writers of lines cite is in specs/ and proofs/: what stands from one position to another, pieces put one behind
 // the other. Nothing here knows what a line means.
 ghost use mathlib.Core.Path.{_≡_};
@@ -6,7 +7,9 @@ ghost use Prim.Native.Nat.{_+_, _≤_};
 ghost use lib.ListN.{length, getD};
 ghost use Rattle.texts.specs.Pieces.{placed};
 
+pub mod decimal;
 pub mod hex;
+pub mod lines;
 
 // "every line ended": a line feed
 pub const LINE_END: u8 = 10;

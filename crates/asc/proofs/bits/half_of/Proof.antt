@@ -1,0 +1,71 @@
+-- `bits::half_of` meets its contract: four digits, summed. Assumes nothing.
+use native.Mathlib.Omega.{arith}
+use borrow.Author.Needs.{needs}
+use Rattle.asc.proofs.ContentLaws.{half-sum}
+use Rattle.asc.proofs.bits.half_of.Statement.{statement}
+use Rattle.asc.proofs.bits.half_of.Tie as tie
+
+value-at-requires : tie.Need-value-at-requires
+value-at-requires c κs = search needs
+
+add-value-at : tie.Need-add-value-at
+add-value-at c = search needs
+
+value-at-requires-2 : tie.Need-value-at-requires-2
+value-at-requires-2 c κs = search needs
+
+add-value-at-2 : tie.Need-add-value-at-2
+add-value-at-2 c = search needs
+
+value-at-requires-3 : tie.Need-value-at-requires-3
+value-at-requires-3 c κs = search needs
+
+add-value-at-3 : tie.Need-add-value-at-3
+add-value-at-3 c = search needs
+
+value-at-requires-4 : tie.Need-value-at-requires-4
+value-at-requires-4 c κs = search needs
+
+mul-result : tie.Need-mul-result
+mul-result c = search needs
+
+mul-result-2 : tie.Need-mul-result-2
+mul-result-2 c = search needs
+
+add-result : tie.Need-add-result
+add-result c = search needs
+
+mul-result-3 : tie.Need-mul-result-3
+mul-result-3 c = search needs
+
+add-result-2 : tie.Need-add-result-2
+add-result-2 c = search needs
+
+add-result-3 : tie.Need-add-result-3
+add-result-3 c = search needs
+
+returns : tie.Need-returns
+returns c =
+    let at-value-at3 = c .before in
+    let at-value-at2 = at-value-at3 .before in
+    let at-value-at = at-value-at2 .before in
+    (half-sum _ _ _ _ _ _ (at-value-at .value-at .ensures .0) (at-value-at2 .value-at2 .ensures .0) (at-value-at3 .value-at3 .ensures .0) (c .value-at4 .ensures .0), omega arith)
+
+pub half-of-spec : {M : Type 1} → statement M
+half-of-spec =
+    tie.close
+    (tie.spec
+    value-at-requires
+    add-value-at
+    value-at-requires-2
+    add-value-at-2
+    value-at-requires-3
+    add-value-at-3
+    value-at-requires-4
+    mul-result
+    mul-result-2
+    add-result
+    mul-result-3
+    add-result-2
+    add-result-3
+    returns)

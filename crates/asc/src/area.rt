@@ -1,0 +1,36 @@
+// The part of a chip that the caller names, and the numbers of a tile.
+ghost use mathlib.Core.Path.{_≡_};
+ghost use Rattle.asc.specs.Area.{area, sized};
+
+// A tile has sixteen rows of 54 digits, and so many positions.
+pub const ROWS: usize = 16;
+
+pub const COLUMNS: usize = 54;
+
+pub const POSITIONS: usize = ROWS * COLUMNS;
+
+// Ground 1: W and H are 1 to 8, and the block does not reach past 255.
+// Rules out: a corner that wraps around.
+pub fn is_sized(w: u32, h: u32, x: u32, y: u32) -> bool
+    ensures { λ r. ⌜ r ≡ sized (area w h x y) ⌝ }
+{
+    if w < 1 {
+        return false;
+    }
+    if 8 < w {
+        return false;
+    }
+    if h < 1 {
+        return false;
+    }
+    if 8 < h {
+        return false;
+    }
+    if 256 - w < x {
+        return false;
+    }
+    if 256 - h < y {
+        return false;
+    }
+    true
+}

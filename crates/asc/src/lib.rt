@@ -1,0 +1,137 @@
+// IceStorm's ASCII files (document 02, W1): reading the logic tiles of a block from one, and writing a block as one. Nothing here knows of routing
+// tables or settings: a block is its bits.
+//
+// `read`, `text_length` and `write` take any input and none has a `requires`. specs/Stages.antt has what the lines of a file are, specs/Meaning.antt
+// what each answer of `read` says, proofs/ExactLaws.antt that it fits one answer only, proofs/RoundTrip.antt that a file is read back.
+ghost use mathlib.Core.Path.{_≡_};
+ghost use Prim.Native.Nat.{_*_, _^_, _<_};
+ghost use mathlib.Core.Bool.{true};
+ghost use lib.ListN.{length};
+ghost use Rattle.ports.specs.Lengths.{tileNumbers};
+ghost use Rattle.refusal.specs.Grounds.{answerNumber};
+ghost use Rattle.refusal.specs.Memory.{output};
+ghost use Rattle.asc.specs.Area.{positions, area, areaAt, tilesOf, sized};
+ghost use Rattle.asc.specs.Content.{written};
+ghost use Rattle.asc.specs.Meaning.{AscSays, lineNumber};
+ghost use Rattle.asc.specs.Answers.{readAnswer, bitsRead, writeAnswer, lengthAnswer};
+use crate::area::POSITIONS;
+use crate::area::is_sized;
+use crate::scan::Scanned;
+use ports::lengths::TILE_NUMBERS;
+use ports::size::Size;
+use refusal::Answer;
+use refusal::Refusal;
+
+mod area;
+mod bits;
+mod lines;
+mod room;
+mod scan;
+mod text;
+mod turn;
+mod writing;
+
+// How long the file of a block is, or why there is none.
+pub enum TextLength {
+    Bytes(u32),
+    Refused(Refusal),
+}
+
+// One more than so many lines, cut at 2^32 - 1.
+fn line_number(n: usize) -> u32
+    ensures { λ r. ⌜ r ≡ lineNumber n ⌝ }
+{
+    if n < 4294967295 {
+        return (n + 1) as u32;
+    }
+    4294967295
+}
+
+// Reads with rooms of the block's size: marks of the tiles, and digits.
+fn read_into(
+    w: u32,
+    h: u32,
+    x: u32,
+    y: u32,
+    text: &[u8],
+    bits: &mut [u8],
+    given: &mut [u8],
+    content: &mut [u8],
+) -> Answer
+    requires { ⌜ (sized (area w h x y) ≡ true) × (length (now bits) ≡ tileNumbers * tilesOf (area w h x y)) × (length (now given) ≡ tilesOf (area w h x y)) × (length (now content) ≡ positions * tilesOf (area w h x y)) ⌝ }
+    ensures { λ r. ⌜ AscSays (area w h x y) (now (text .entry)) (now (bits .entry)) (now (bits .exit)) r ⌝ }
+{
+    let scanned = scan::scan(w, h, x, y, text, given, content);
+    match scanned {
+        Scanned::StuckAt(n) => Answer::Refused(Refusal::AscLine(line_number(n))),
+        Scanned::AllThere => {
+            bits::pack(content, bits);
+            Answer::Done
+        }
+    }
+}
+
+// Reads the bits of the block with its south-west corner at x, y from a file of any length. Grounds 1, 2, 13, in this order (`readAnswer`).
+// Rules out: refusing every file; bits written on a no; a second device, a tile given twice, a tile left out; a last line without its line feed.
+pub fn read(s: Size, x: u32, y: u32, text: &[u8], bits: &mut [u8]) -> Answer
+    ensures answer { λ r. ⌜ r ≡ readAnswer (areaAt s x y) (now (text .entry)) (length (now (bits .entry))) ⌝ }
+    ensures bits { λ r. ⌜ now (bits .exit) ≡ output (answerNumber r) (now (bits .entry)) (bitsRead (areaAt s x y) (now (text .entry))) ⌝ }
+    ensures says { λ r. ⌜ AscSays (areaAt s x y) (now (text .entry)) (now (bits .entry)) (now (bits .exit)) r ⌝ }
+{
+    let w = s.w;
+    let h = s.h;
+    if !is_sized(w, h, x, y) {
+        return Answer::Refused(Refusal::WrongSize);
+    }
+    let n = (h * w) as usize;
+    if bits.len() != TILE_NUMBERS * n {
+        return Answer::Refused(Refusal::WrongLength);
+    }
+    let mut given = room::given_room();
+    let mut content = room::content_room();
+    let digits = POSITIONS * n;
+    read_into(
+        w,
+        h,
+        x,
+        y,
+        text,
+        bits,
+        &mut given[..n],
+        &mut content[..digits],
+    )
+}
+
+// How long the file of a block is. Ground 1 (`lengthAnswer`).
+pub fn text_length(s: Size, x: u32, y: u32) -> TextLength
+    ensures { λ r. ⌜ r ≡ lengthAnswer (areaAt s x y) ⌝ }
+{
+    let w = s.w;
+    let h = s.h;
+    if !is_sized(w, h, x, y) {
+        return TextLength::Refused(Refusal::WrongSize);
+    }
+    TextLength::Bytes(writing::file_length(w, h, x, y) as u32)
+}
+
+// Writes a block as a file, .device first, tiles by index. Grounds 1, 2, in this order (`writeAnswer`).
+// Rules out: a room that is longer than the file; a file written on a no.
+pub fn write(s: Size, x: u32, y: u32, bits: &[u8], text: &mut [u8]) -> Answer
+    ensures answer { λ r. ⌜ r ≡ writeAnswer (areaAt s x y) (length (now (bits .entry))) (length (now (text .entry))) ⌝ }
+    ensures text { λ r. ⌜ now (text .exit) ≡ output (answerNumber r) (now (text .entry)) (written (areaAt s x y) (now (bits .entry))) ⌝ }
+{
+    let w = s.w;
+    let h = s.h;
+    if !is_sized(w, h, x, y) {
+        return Answer::Refused(Refusal::WrongSize);
+    }
+    let n = (h * w) as usize;
+    if bits.len() != TILE_NUMBERS * n {
+        return Answer::Refused(Refusal::WrongLength);
+    }
+    if text.len() != writing::file_length(w, h, x, y) {
+        return Answer::Refused(Refusal::WrongLength);
+    }
+    writing::put_file(w, h, x, y, bits, text);
+    Answer::Done
+}

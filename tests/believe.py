@@ -30,6 +30,9 @@ ENTRIES = [
     ('block', 'src/lib.rt', 'build', '12'),
     ('block', 'src/lib.rt', 'follow', '1'),
     ('sim', 'src/lib.rt', 'step', '1'),
+    ('asc', 'src/lib.rt', 'read', '12'),
+    ('asc', 'src/lib.rt', 'text_length', '1'),
+    ('asc', 'src/lib.rt', 'write', '12'),
     ('frames', 'src/input.rt', 'parse', '1'),
     ('reporting', 'src/lib.rt', 'report', '1'),
     ('capi', 'src/lib.rt', 'ice40_wire_number', '1'),
@@ -40,6 +43,9 @@ ENTRIES = [
     ('capi', 'src/circuits.rt', 'ice40_build', '1'),
     ('capi', 'src/circuits.rt', 'ice40_follow', '1'),
     ('capi', 'src/circuits.rt', 'ice40_step', '1'),
+    ('capi', 'src/files.rt', 'ice40_asc_read', '1'),
+    ('capi', 'src/files.rt', 'ice40_asc_length', '1'),
+    ('capi', 'src/files.rt', 'ice40_asc_write', '1'),
 ]
 
 # What a yes of `build` and `step` writes is demand 3's: where a demand's roots are contracts, it is not one of them.
@@ -93,6 +99,10 @@ COMPUTED = [
     ('stepper/Settling.badRow', ['netlist/Checking.FirstBad'], ['netlist/first-bad-exact']),
     ('sim/Stepping.badByte', ['sim/Meaning.FirstAbove'], ['sim/step-says']),
     ('sim/Stepping.stepAnswer', ['sim/Meaning.StepSays'], ['sim/step-says']),
+    # ASCII files; the first word of a line is said by its law alone
+    ('texts/Lines.wordLength', [], ['texts/word-length-at', 'texts/word-at']),
+    ('asc/Answers.readAnswer', ['asc/Meaning.AscSays'], ['asc/read-told', 'asc/asc-exact']),
+    ('asc/Answers.bitsRead', ['asc/Meaning.AscSays'], ['asc/read-told', 'asc/asc-exact']),
     # frames and the report
     ('frames/Input.parsed', ['frames/Meaning.ParsedSays'], ['frames/parsed-says', 'frames/parsed-exact']),
     ('frames/Contents.tableOf', ['frames/Whole.Holds'], ['frames/table-holds']),
@@ -105,7 +115,7 @@ SEARCHES = {'lists/Search.first', 'lists/Search.allFrom', 'lists/Search.someBelo
 
 # The order in which the files are best read: what is of a crate that is not named comes last.
 ORDER = ['names', 'ports', 'fabric', 'routing', 'digits', 'codec', 'config', 'refusal', 'cell', 'equations', 'drivers', 'block', 'netlist',
-         'stepper', 'sim', 'theorem', 'texts', 'frames', 'lines', 'reporting', 'capi', 'lists']
+         'stepper', 'sim', 'theorem', 'texts', 'asc', 'frames', 'lines', 'reporting', 'capi', 'lists']
 FIRST = ['names/specs/Names.antt', 'ports/src/size.rt', 'ports/specs/Block.antt', 'fabric/specs/Joins.antt', 'routing/specs/TileKind.antt',
          'routing/specs/LogicTile.antt', 'routing/specs/Table.antt', 'routing/specs/Rules.antt', 'codec/specs/Bits.antt',
          'codec/specs/Settings.antt', 'codec/specs/Groups.antt', 'codec/specs/Reading.antt', 'config/specs/Blocks.antt',

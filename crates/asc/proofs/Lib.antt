@@ -18,3 +18,4 @@ pub mod LengthLaws  -- tile-of: where tile t stands; tile-text-length, written-l
 pub mod WriteLaws  -- RowsPut, TilesPut with their start, turn and end: a file written piece by piece
 pub mod BackLaws  -- plain-tile, row-is, byte-back: the lines of a written file, one by one
 pub mod RoundTrip  -- asc-back, read-written, write-read: a written file read back at its corner and size gives the same block
+pub mod AgainLaws  -- read-again: a file that was read, and is written, reads the same; read-bytes

@@ -2,20 +2,22 @@
 -- `undecodable-lowest`; `encoded-at`, `encoded-reads`, `bitless-lowest`, `none-bitless`. Assumes nothing.
 use mathlib.Core.Path.{_≡_, sym, subst}
 use mathlib.Core.Bool.{true, false}
-use mathlib.Core.List.{List}
-use Prim.Native.Nat.{ℕ, _*_, _<_, _≤_}
+use mathlib.Core.Logic.{⊎-elim}
+use mathlib.Core.List.{List, _++_}
+use Prim.Native.Nat.{ℕ, zero, suc, _+_, _-_, _*_, _^_, _<_, _≤_}
 use native.Mathlib.Omega.{arith}
 use borrow.Author.Tests.{ltb-true, ltb-false, le-ltb, not-true, not-false}
-use lib.ListN.{length, take}
-use lib.Seq.{length-take-le}
-use Rattle.lists.proofs.CaseLaws.{clash}
+use lib.ListN.{length, take, getD, List·getD-append}
+use lib.Seq.{length-take-le, getD-append-add}
+use Rattle.lists.specs.Parts.{joined}
+use Rattle.lists.proofs.CaseLaws.{clash, lt-or-le}
 use Rattle.lists.proofs.SearchLaws.{first-le, first-true, first-before}
 use Rattle.lists.proofs.PartLaws.{part-length, joined-length, part-joined}
 use Rattle.routing.specs.LogicTile.{logicTile}
 use Rattle.routing.specs.Rules.{TableRules}
 use Rattle.routing.specs.Slots.{slotsOf}
 use Rattle.ports.specs.Lengths.{tileNumbers, settingsLength}
-use Rattle.codec.specs.Bits.{bitAt, tileOf}
+use Rattle.codec.specs.Bits.{unit, bitAt, tileOf, Bytes}
 use Rattle.codec.specs.Reading.{Decodable, ReadsTo, HasBits}
 use Rattle.codec.specs.Decode.{decode}
 use Rattle.codec.specs.Encode.{encode, slotValue}
@@ -23,7 +25,7 @@ use Rattle.codec.specs.Fault.{faultAt, tileFault}
 use Rattle.codec.specs.Limits.{settingsFit}
 use Rattle.codec.specs.Writing.{Writable}
 use Rattle.codec.proofs.DecodeLaws.{decode-length}
-use Rattle.codec.proofs.EncodeLaws.{encode-length}
+use Rattle.codec.proofs.EncodeLaws.{encode-length, encode-bytes}
 use Rattle.codec.proofs.TileRunLaws.{slot-value-lt}
 use Rattle.codec.proofs.FaultyLaws.{tile-fault-exact, tile-fault-lowest}
 use Rattle.codec.proofs.ReadingLaws.{decode-reads, settings-fit-exact}
@@ -89,6 +91,20 @@ module _ (table bits : List ℕ) (n : ℕ) where
 
 -- ---- settings to bits
 
+-- parts that are bytes, joined
+joined-bytes : (f : ℕ → List ℕ) (n : ℕ) → ((t : ℕ) → t < n → Bytes (f t)) → Bytes (joined f n)
+unfolding joined
+joined-bytes f zero by i = omega arith
+joined-bytes f (suc n) by i = ⊎-elim front back (lt-or-le i (length (joined f n)))
+  where
+    front : i < length (joined f n) → getD (joined f n ++ f n) i 0 < 2 ^ unit
+    front l = rw (List·getD-append (joined f n) (f n) 0 i l) (joined-bytes f n (λ t h. by t (omega arith)) i)
+
+    back : length (joined f n) ≤ i → getD (joined f n ++ f n) i 0 < 2 ^ unit
+    back l =
+        subst (λ (k : ℕ). getD (joined f n ++ f n) k 0 < 2 ^ unit) (let e : length (joined f n) + (i - length (joined f n)) ≡ i = omega arith in e)
+        (rw (getD-append-add (joined f n) (f n) (i - length (joined f n)) 0) (by n (omega arith) (i - length (joined f n))))
+
 module _ (table settings : List ℕ) (n : ℕ) where
   encoded-tile : (t : ℕ) → t < n → length (encodedAt table settings t) ≡ tileNumbers
   unfolding encodedAt
@@ -96,6 +112,12 @@ module _ (table settings : List ℕ) (n : ℕ) where
 
   pub encoded-length : length (encoded table settings n) ≡ tileNumbers * n
   encoded-length = joined-length tileNumbers (encodedAt table settings) n encoded-tile
+
+  pub encoded-bytes : Bytes (encoded table settings n)
+  unfolding encodedAt
+  encoded-bytes =
+      joined-bytes (encodedAt table settings) n
+      (λ t h. encode-bytes (slotsOf logicTile table) (slotValue table (settingsAt settings t)) (slot-value-lt table (settingsAt settings t)))
 
   pub encoded-at : (t : ℕ) → t < n → bitsAt (encoded table settings n) t ≡ encode table (settingsAt settings t)
   unfolding encodedAt

@@ -33,6 +33,7 @@ use Rattle.config.proofs.BlocksLaws.{clean-decodable, decodable-clean}
 use Rattle.config.proofs.MeaningLaws.{read-means}
 use Rattle.config.proofs.RoundTrip.{written-reads, read-writes}
 use Rattle.theorem.specs.Demand2.{Demand2}
+use Rattle.theorem.proofs.FileLaws.{filed-reads, read-files}
 use Rattle.theorem.proofs.FightLaws.{fight-exactly, fight-lowest, follow-fight-exactly, follow-fight-lowest}
 
 module _ (S : Size) (table bits : List ℕ) (settings : ℕ) where
@@ -83,6 +84,8 @@ demand2 = record {
   reads-one = reads-one;
   written-reads = written-reads;
   read-writes = read-writes;
+  filed-reads = filed-reads;
+  read-files = read-files;
   numbered = λ B T q size lt lq. (wireOf B (portOf T q), sym (wire-number-wire B T q size lt lq));
   one-wire = one-wire;
   lowest-port = lowest-port;

@@ -14,3 +14,4 @@ pub mod ListingLaws  -- listing: one row for each wire, in document 01's order
 pub mod OrderLowest  -- order-lowest: the order in the paper's words
 pub mod ShapeLaws  -- shaped: the numbers that a row's kind does not use are 0
 pub mod OwnListLaws  -- own-list-passes: ground 12 lets a block's own list pass
+pub mod FileLaws  -- filed-reads, read-files: demand 2 by way of an ASCII file

@@ -2,6 +2,7 @@
 --   built == what `build` answers        settingsRead == what a yes of `read` writes      listBuilt == what a yes of `build` writes
 --   followed == what `follow` answers    stepped == what `step` answers
 --   valuesStepped, stateStepped == what a yes of `step` writes
+--   fileOf == the file of settings that are written to bits, and these to it
 --   PassesFour, PassesNine == checks 1 to 4 of `build`, and 1, 2, 3 and 9 of `follow`, pass
 use mathlib.Core.Path.{_≡_}
 use mathlib.Core.List.{List}
@@ -9,11 +10,14 @@ use Prim.Native.Nat.{ℕ}
 use lib.ListN.{length}
 use Rattle.refusal.specs.declared.Answer.{Answer}
 use Rattle.refusal.specs.declared.Answer.the-variants.{Done}
+use Rattle.ports.specs.declared.size.Size.{Size}
 use Rattle.ports.specs.declared.size.Block.{Block}
-use Rattle.ports.specs.Block.{sizeOf, tiles}
+use Rattle.ports.specs.Block.{sizeOf, tileCount, tiles}
 use Rattle.ports.specs.Lengths.{bitsLength, ports}
-use Rattle.config.specs.Blocks.{decoded, tilesOf}
+use Rattle.config.specs.Blocks.{decoded, encoded, tilesOf}
 use Rattle.config.specs.Entry.{readAnswer, writeAnswer}
+use Rattle.asc.specs.Area.{areaAt}
+use Rattle.asc.specs.Content.{written}
 use Rattle.equations.specs.Settling.{blockList}
 use Rattle.block.specs.declared.Built.{Built}
 use Rattle.block.specs.declared.Followed.{Followed}
@@ -38,6 +42,10 @@ pub record PassesFour (B : Block) (table bits settings : List ℕ) (room : RoomL
 
 abbrev pub settingsRead : Block → (table bits : List ℕ) → List ℕ
 settingsRead B table bits = decoded table (tilesOf bits) (tiles B)
+
+-- the ASCII file, at corner x, y, of the bits that a yes of `write` writes for these settings
+abbrev pub fileOf : Size → (x y : ℕ) → (table settings : List ℕ) → List ℕ
+fileOf S x y table settings = written (areaAt S x y) (encoded table settings (tileCount S))
 
 abbrev pub listBuilt : Block → (table bits : List ℕ) → List ℕ
 listBuilt B table bits = blockList B table (settingsRead B table bits)

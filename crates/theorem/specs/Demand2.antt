@@ -1,4 +1,4 @@
--- Demand 2, sentence by sentence, over the answers of `read`, `write`, `wire_number`, `build` and `follow`. Proved, with no other hypothesis, by
+-- Demand 2, sentence by sentence, over the answers of `read`, `write`, those for ASCII files, `wire_number`, `build` and `follow`. Proved, with no other hypothesis, by
 -- `demand2` (proofs/Demand2Laws.antt).
 use Prim.Native.Nat.{ℕ, _<_}
 use mathlib.Core.Path.{_≡_}
@@ -22,11 +22,14 @@ use Rattle.config.specs.Blocks.{settingsAt, tilesOf, decoded, encoded}
 use Rattle.config.specs.Entry.{readAnswer, writeAnswer}
 use Rattle.config.specs.Facts.{Checked}
 use Rattle.config.specs.Meaning.{ReadSays}
+use Rattle.asc.specs.Area.{areaAt}
+use Rattle.asc.specs.Content.{written}
+use Rattle.asc.specs.Answers as files
 use Rattle.equations.specs.Switches.{Contention, LowestContention}
 use Rattle.block.specs.declared.Built.the-variants as builts
 use Rattle.block.specs.declared.Followed.the-variants as followeds
 use Rattle.block.specs.declared.lengths.RoomLent.{RoomLent}
-use Rattle.theorem.specs.Calls.{PassesFour, PassesNine, built, followed, settingsRead}
+use Rattle.theorem.specs.Calls.{PassesFour, PassesNine, built, followed, settingsRead, fileOf}
 
 pub record Demand2 : Type 0 where
   -- "Settings are read as the IceStorm tile documents and the lent routing table say": what each answer of `read` says of bits and settings; a yes
@@ -46,6 +49,16 @@ pub record Demand2 : Type 0 where
   pub read-writes : (S : Size) (table bits : List ℕ) (settings : ℕ) → Bytes bits → readAnswer S table bits settings ≡ Done
       → (writeAnswer S table (decoded table (tilesOf bits) (tileCount S)) (length bits) ≡ Done)
       × (encoded table (decoded table (tilesOf bits) (tileCount S)) (tileCount S) ≡ bits)
+  -- document 02, W1: "A written file read back at its corner and size gives the same block. Demand 2 then covers this route to the bits as well":
+  -- settings that are written to bits, and these to a file, are the same when both are read back; and a file that was read, and is written, reads the same
+  pub filed-reads : (S : Size) (x y : ℕ) (table settings bits text : List ℕ) → writeAnswer S table settings (length bits) ≡ Done
+      → files.writeAnswer (areaAt S x y) (length bits) (length text) ≡ Done
+      → (files.readAnswer (areaAt S x y) (fileOf S x y table settings) (length bits) ≡ Done)
+      × ((readAnswer S table (files.bitsRead (areaAt S x y) (fileOf S x y table settings)) (length settings) ≡ Done)
+      × (decoded table (tilesOf (files.bitsRead (areaAt S x y) (fileOf S x y table settings))) (tileCount S) ≡ settings))
+  pub read-files : (S : Size) (x y : ℕ) (text bits : List ℕ) → files.readAnswer (areaAt S x y) text (length bits) ≡ Done
+      → (files.readAnswer (areaAt S x y) (written (areaAt S x y) (files.bitsRead (areaAt S x y) text)) (length bits) ≡ Done)
+      × (files.bitsRead (areaAt S x y) (written (areaAt S x y) (files.bitsRead (areaAt S x y) text)) ≡ files.bitsRead (areaAt S x y) text)
   -- "Two port names are one wire exactly if the published joins inside the block link them": every port has a number, that of its wire
   pub numbered : (B : Block) (T q : ℕ) → Sized B → T < tiles B → q < portsPerTile → (w : ℕ) × (wireNumber B T q ≡ Wire w)
   pub one-wire : (B : Block) (T q T′ q′ w w′ : ℕ) → wireNumber B T q ≡ Wire w → wireNumber B T′ q′ ≡ Wire w′

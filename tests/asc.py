@@ -287,13 +287,13 @@ def check_round_trip(files, inputs):
 
 # ---- real designs
 
-def cutters(path):
+def cutter(text):
     """The Python cutter of tools/ over a design: a block's bytes, or None where it finds no such block."""
-    _, tiles = asc_to_frames.read_design(path)
+    _, tiles = asc_to_frames.read_design(text)
     cut = {}
     for at in tiles:
         try:
-            cut[at] = bytes.fromhex(asc_to_frames.tile_frame(asc_to_frames.logic_rows(tiles, at))[2:])
+            cut[at] = asc_to_frames.tile_bytes(asc_to_frames.logic_rows(tiles, at))
         except Mistake:
             pass
 
@@ -307,7 +307,7 @@ def check_designs(files, inputs):
     count = Count('every corner of every design, five sizes, the Python cutter')
     blocks = 0
     for name, text in inputs.texts.items():
-        block = cutters(inputs.paths[name])
+        block = cutter(text)
         lines = text.count(b'\n')
         memory = (ctypes.c_char * len(text)).from_buffer_copy(text)
         for x in range(14):

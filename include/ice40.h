@@ -4,18 +4,19 @@
  * low 32 bits, or, for a no, the ground's number times 2^32 plus its place. ICE40_GROUND and ICE40_VALUE take it apart.
  *
  * Memory. A slice is a pointer and a length, counted in numbers and not in bytes. Every length is exact: another one is refused with
- * ground 2. On a no the outputs keep their old contents; the work room comes back zeroed, or untouched under grounds 1 and 2.
+ * ground 2; only the text that ice40_asc_read reads may have any length. On a no the outputs keep their old contents; the work room comes back zeroed, or untouched under grounds 1 and 2.
  *
  *   - Slices that are only read (const) may overlap one another, or be the same.
  *   - A slice that is written, output or work room, must not overlap any other slice of the call, read or written. What a call does
  *     otherwise is not promised: the proofs are about separate slices. The answer may be wrong.
- *   - A slice of length 0 may have any pointer, NULL too. No exact length is 0, so it is refused with ground 2, or with 1 before that.
+ *   - A slice of length 0 may have any pointer, NULL too. No exact length is 0, so it is refused with ground 2, or with 1 before that; a text
+ *     of length 0 that is read is a file without a line, ground 13 at line 1.
  *   - Any other pointer is to as many numbers of its type as the length says. The library cannot check that.
  *
  * Threads. The library has no variables: nothing is kept from one call to the next. Calls that share no memory which one of them writes may
  * run at the same time.
  *
- * Stack. ICE40_STACK_BYTES is enough for any call. Measured: ice40_read takes 82 kB, every other call less than 8 kB.
+ * Stack. ICE40_STACK_BYTES is enough for any call. Measured: ice40_read takes 82 kB, ice40_asc_read 56 kB, every other call less than 8 kB.
  *
  * No call takes memory from the heap, opens a file, prints, or calls back. */
 #ifndef ICE40_H
@@ -25,9 +26,9 @@
 #include <stdint.h>
 
 #define ICE40_VERSION_MAJOR 0
-#define ICE40_VERSION_MINOR 1
+#define ICE40_VERSION_MINOR 2
 #define ICE40_VERSION_PATCH 0
-#define ICE40_VERSION "0.1.0"
+#define ICE40_VERSION "0.2.0"
 
 #define ICE40_STACK_BYTES 131072
 
@@ -38,7 +39,7 @@
 
 /* ---- the grounds for a no (document 01, 'Grounds for a no', and 02): X(number, NAME, words, what the place is)
  *
- * ICE40_NO_SIZE .. are the numbers. Calls of this version give 1 to 10, 12 and 20, the report program 11 too; 13 to 16 come with the
+ * ICE40_NO_SIZE .. are the numbers. Calls of this version give 1 to 10, 12, 13 and 20, the report program 11 too; 14 to 16 come with the
  * requests of document 02. */
 #define ICE40_GROUNDS(X) \
     X(1, SIZE, "W or H is not 1 to 8, or not 1 to 3 for the programs", "") \
@@ -218,6 +219,21 @@ uint64_t ice40_step(uint32_t w, uint32_t h, const uint16_t *table, size_t table_
                     size_t before_length, const uint8_t *after, size_t after_length, uint8_t *values, size_t values_length, uint8_t *next,
                     size_t next_length, uint16_t *wires, size_t wires_length, uint16_t *own, size_t own_length, uint16_t *marks,
                     size_t marks_length, uint8_t *first, size_t first_length, uint8_t *second, size_t second_length);
+
+/* ---- IceStorm's ASCII files (.asc) of a 1k. The block is w by h logic tiles with its south-west one at x, y of the chip; the other tiles and sections
+ * of a file are skipped. A block that reaches past 255 is refused with ground 1. A text is bytes, with no 0 at its end */
+
+/* Reads a block's bits from a file; the value is 0. Grounds 1, 2, 13. The text may have any length and hold any bytes; one of length 0 is refused with
+ * 13 at line 1, and its pointer may be NULL. The place of 13 is the line, from 1, cut at 2^32 - 1: the first line that is not of the shape due there (one without a
+ * line feed too), another or a second device, a block tile given twice; or one past the last for what is missing. */
+uint64_t ice40_asc_read(uint32_t w, uint32_t h, uint32_t x, uint32_t y, const uint8_t *text, size_t text_length, uint8_t *bits, size_t bits_length);
+
+/* How many bytes the file of such a block has, 57,611 at most. Ground 1. */
+uint64_t ice40_asc_length(uint32_t w, uint32_t h, uint32_t x, uint32_t y);
+
+/* Writes a block as a file: .device 1k, then its tiles by index; the value is 0. Grounds 1, 2. The text has exactly the length that ice40_asc_length
+ * tells. Read back at its corner and size it gives the same bits. */
+uint64_t ice40_asc_write(uint32_t w, uint32_t h, uint32_t x, uint32_t y, const uint8_t *bits, size_t bits_length, uint8_t *text, size_t text_length);
 
 #ifdef __cplusplus
 }

@@ -5,7 +5,7 @@
 //     mod ice40;
 #![allow(dead_code)]
 
-pub const VERSION: &str = "0.1.0";
+pub const VERSION: &str = "0.2.0";
 pub const STACK_BYTES: usize = 131072;
 
 /// The ground of an answer: 0 for a yes.
@@ -118,4 +118,7 @@ extern "C" {
                       wires: *mut u16, wires_length: usize, own: *mut u16, own_length: usize,
                       marks: *mut u16, marks_length: usize, first: *mut u8, first_length: usize,
                       second: *mut u8, second_length: usize) -> u64;
+    pub fn ice40_asc_read(w: u32, h: u32, x: u32, y: u32, text: *const u8, text_length: usize, bits: *mut u8, bits_length: usize) -> u64;
+    pub fn ice40_asc_length(w: u32, h: u32, x: u32, y: u32) -> u64;
+    pub fn ice40_asc_write(w: u32, h: u32, x: u32, y: u32, bits: *const u8, bits_length: usize, text: *mut u8, text_length: usize) -> u64;
 }

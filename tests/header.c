@@ -6,14 +6,15 @@
 #include <string.h>
 #include "ice40.h"
 
-enum { N = ICE40_TILES_LIMIT, THREADS = 4, ROUNDS = 10 };
+enum { N = ICE40_TILES_LIMIT, TEXT = 57611, X = 9, Y = 98, THREADS = 4, ROUNDS = 10 };
 
 /* Everything that the calls of a block are lent. */
 typedef struct {
     uint16_t table[ICE40_TABLE_LENGTH], settings[ICE40_SETTINGS_LENGTH(N)], list[ICE40_LIST_LENGTH(N)];
     uint8_t bits[ICE40_BITS_LENGTH(N)], written[ICE40_BITS_LENGTH(N)], state[ICE40_STATE_LENGTH(N)], next[ICE40_STATE_LENGTH(N)];
     uint8_t before[ICE40_PORTS_LENGTH(N)], after[ICE40_PORTS_LENGTH(N)], values[ICE40_PORTS_LENGTH(N)];
-    uint64_t answers[6];
+    uint8_t text[TEXT], again[ICE40_BITS_LENGTH(N)];
+    uint64_t answers[9];
     /* work room */
     uint16_t room_settings[ICE40_SETTINGS_LENGTH(N)], rows[ICE40_LIST_LENGTH(N)], a[ICE40_PORTS_LENGTH(N)], b[ICE40_PORTS_LENGTH(N)];
     uint16_t c[ICE40_PORTS_LENGTH(N)], d[ICE40_PORTS_LENGTH(N)];
@@ -54,6 +55,9 @@ static void call_all(Work *k) {
                                  k->b, ports, k->c, ports);
     k->answers[4] = step(k, k->before, k->after);
     k->answers[5] = ice40_bit_count(w, h, k->bits, ICE40_BITS_LENGTH(n), 0) + ice40_wire_number(w, h, 0, ICE40_PORT_OUT) + ice40_lookup(0xF0F0, 4);
+    k->answers[6] = ice40_asc_length(w, h, X, Y);
+    k->answers[7] = ice40_asc_write(w, h, X, Y, k->bits, ICE40_BITS_LENGTH(n), k->text, ICE40_VALUE(k->answers[6]));
+    k->answers[8] = ice40_asc_read(w, h, X, Y, k->text, ICE40_VALUE(k->answers[6]), k->again, ICE40_BITS_LENGTH(n));
 }
 
 static void *call_often(void *work) {
@@ -111,6 +115,26 @@ static uint64_t no(uint64_t ground) {
     return ground << 32;
 }
 
+/* A block as a file: its length, what is read back, and a text that is a part of the lent memory of another call. */
+static void try_files(const Work *result) {
+    Work *k = copy_of(result);
+    size_t length = ICE40_VALUE(k->answers[6]);
+    same(ICE40_GROUND(k->answers[6]) == 0 && k->answers[7] == 0 && k->answers[8] == 0, "length, write, read");
+    same(!memcmp(k->again, k->bits, sizeof k->bits), "the bits come back");
+    same(ice40_asc_length(8, 8, 248, 248) == TEXT, "the longest file");
+    same(ice40_asc_length(w, h, 257 - w, 0) == no(1) && ice40_asc_length(w, h, 0, UINT32_MAX) == no(1), "a block that reaches past 255");
+    same(ice40_asc_write(w, h, X, Y, k->bits, ICE40_BITS_LENGTH(n), k->text, length - 1) == no(2), "a text that is too short");
+    same(ice40_asc_read(w, h, X, Y, k->text, length - 1, k->again, ICE40_BITS_LENGTH(n)) == (no(13) | (1 + 17 * n)), "a last line without a line feed");
+    same(ice40_asc_read(w, h, X, Y, k->text, 11, k->again, ICE40_BITS_LENGTH(n)) == (no(13) | 2), "the tiles missing");
+    same(ice40_asc_read(w, h, X, Y, NULL, 0, k->again, ICE40_BITS_LENGTH(n)) == (no(13) | 1), "no text");
+    same(ice40_asc_read(w, h, X, Y, NULL, 0, NULL, 0) == no(2) && ice40_asc_write(w, h, X, Y, NULL, 0, NULL, 0) == no(2), "NULL with length 0");
+    same(ice40_asc_read(9, h, X, Y, NULL, 0, NULL, 0) == no(1) && ice40_asc_write(9, h, X, Y, NULL, 0, NULL, 0) == no(1), "NULL with length 0 and a wrong size");
+    same(ice40_asc_read(w, h, X, Y, (const uint8_t *)k->table, sizeof k->table, k->again, ICE40_BITS_LENGTH(n)) >> 32 == 13, "any bytes");
+    same(equal(k, result), "nothing touched");
+    free(k);
+    done("ASCII files");
+}
+
 /* NULL with length 0 in each place, with a size that is right and one that is not. */
 static void try_null(const Work *result) {
     Work *k = copy_of(result);
@@ -159,6 +183,7 @@ int main(int argc, char **argv) {
     try_threads(start, result);
     try_overlap(result);
     try_null(result);
+    try_files(result);
     free(start), free(result);
     return 0;
 }

@@ -99,13 +99,14 @@ def compare_trail(count, tile, scene, at):
 
 
 def compare_design(path, program):
-    device, tiles = asc_to_frames.read_design(path)
+    with open(path, 'rb') as file:
+        device, tiles = asc_to_frames.read_design(file.read())
     table = ''.join(line + '\n' for line in frames.table_frames(frames.read_table(data('%s.tab' % device))))
     count, expected = Count(os.path.basename(path)), explained_tiles(path)
     totals = {'tiles': 0, 'of them in use': 0, 'switches': 0, 'cells': 0, 'fields': 0, 'refused': 0}
     for at, lines in sorted(expected.items()):
         tile = Tile(lines)
-        text = table + ''.join(line + '\n' for line in asc_to_frames.block_frames(tiles, at, 1, 1))
+        text = table + ''.join(line + '\n' for line in asc_to_frames.block_frames(asc_to_frames.python_block(tiles, at, 1, 1), 1, 1))
         done = subprocess.run([program], input=text.encode(), stdout=subprocess.PIPE, check=True)
         scene, report = explain.Scene(None, path, at), explain.Report(done.stdout.decode())
         scene.text = text

@@ -2,7 +2,8 @@
 """Compares the scripts of tools/ with the bundled tables and blocks and with document 01's names; bad input of every kind. What explain.py
 says of reports is in tests/words.py.
 
-    python3 tests/tools.py                      needs Python 3 alone
+    python3 tests/tools.py                      needs Python 3 alone; the shared library (make lib), where it is built, is tried too
+    python3 tests/tools.py --library FILE       the shared library, if not where `make lib` writes it
     python3 tests/tools.py --chipdb FOLDER      where chipdb-1k.txt and the others are, if not where Debian puts them
     python3 tests/tools.py --designs FOLDER     .asc files beyond the two in tests/data
 
@@ -25,6 +26,7 @@ sys.path.insert(0, TOOLS)
 import frames  # noqa: E402
 import ice40  # noqa: E402
 import names  # noqa: E402
+import proved  # noqa: E402
 
 DEBIAN = '/usr/share/fpga-icestorm/chipdb'
 TABLES = [('1k', []), ('384', []), ('5k', []), ('8k', []), ('1k-ltin', ['--ltin'])]
@@ -36,11 +38,32 @@ CUTS = {'counter8_2x2': ('counter8', 5, 6, 2, 2), 'counter8_1x1': ('counter8', 5
 FLAGS = ['carry', 'flip-flop', 'set', 'asynchronous']
 
 
-def run(tool, *arguments, stdin=''):
-    """A tool's exit status, output and errors."""
+BUILT = os.path.join(ROOT, 'target', 'lib', 'libice40.so')
+
+
+def run(tool, *arguments, stdin='', reader=''):
+    """A tool's exit status, output and errors. `reader` is the library that reads .asc files, or '' for Python."""
     command = [sys.executable, os.path.join(TOOLS, tool + '.py')] + [str(argument) for argument in arguments]
-    done = subprocess.run(command, input=stdin.encode(), stdout=subprocess.PIPE, stderr=subprocess.PIPE)
+    environment = dict(os.environ, **{proved.VARIABLE: reader})
+    done = subprocess.run(command, input=stdin.encode(), stdout=subprocess.PIPE, stderr=subprocess.PIPE, env=environment)
     return done.returncode, done.stdout.decode(), done.stderr.decode()
+
+
+def readers(path):
+    """The two ways to read an .asc file: Python, and the library where it is built."""
+    try:
+        proved.Library(path)
+    except (OSError, AttributeError):
+        print('left out, no library to read .asc files (make lib): %s' % os.path.relpath(path, ROOT))
+        return ['']
+    return ['', path]
+
+
+def read_by(reader, device='1k'):
+    """What the note of asc_to_frames says of who read a design."""
+    if reader and device == '1k':
+        return 'the proved library'
+    return 'Python, as the library takes a 1k, and this is a ' + device if reader else 'Python, as no library is there (make lib)'
 
 
 def data(name):
@@ -67,15 +90,45 @@ def check_tables(folder):
     return count.done()
 
 
-def check_blocks(folders):
-    count = Count('.asc files to blocks, byte for byte')
+def check_blocks(folders, reader):
+    count = Count('.asc files to blocks, byte for byte, by ' + ('the library' if reader else 'Python'))
     for name, (design, x, y, w, h) in CUTS.items():
         found = [path for path in (os.path.join(folder, design + '.asc') for folder in folders) if os.path.exists(path)]
         for path in found[:1]:
-            status, whole, note = run('asc_to_frames', path, x, y, w, h, '--table', data('1k.tab'))
-            count.same((status, whole, bool(note)), (0, contents(data(name + '.in')), max(w, h) > 3), name)
-            frames = run('asc_to_frames', path, x, y, w, h)[1]
+            status, whole, notes = run('asc_to_frames', path, x, y, w, h, '--table', data('1k.tab'), reader=reader)
+            who, *size = notes.splitlines()
+            count.same((status, whole, who, len(size)), (0, contents(data(name + '.in')), 'note: %s was read by %s' % (path, read_by(reader)), int(max(w, h) > 3)), name)
+            frames = run('asc_to_frames', path, x, y, w, h, reader=reader)[1]
             count.same(contents(data('1k.tab')) + frames, whole, name)
+    return count.done()
+
+
+def check_strict(designs, reader):
+    """What Python passes over and the library does not: each is refused at its line, with the file's device."""
+    count = Count('.asc files that only Python takes: refused by the library')
+    text, frames = contents(data('counter8.asc')), run('asc_to_frames', data('counter8.asc'), 5, 6, 1, 1)[1]
+    start, end = text.index('.logic_tile 5 6\n'), text.count('\n') + 1
+    device, header, row = text[:text.index('.device')].count('\n') + 1, text[:start].count('\n') + 1, start + len('.logic_tile 5 6\n')
+    for changed, line, shown in (
+            (text.replace('\n', '\r\n'), device, r"'.device 1k\r'"), (text.replace('.device 1k', '.device  1k'), device, "'.device  1k'"),
+            (text.replace('.logic_tile 5 6', '.logic_tile 05 6'), header, "'.logic_tile 05 6'"), (text[:row] + '# words\n' + text[row:], header + 1, "'# words'"),
+            (text[:row] + ' ' + text[row:], header + 1, "' 0"), (text[:row] + ' \n' + text[row:], header + 1, "' '"),
+            (text + '.comment', end, "'.comment', without a line feed"), (text + '.logic_tile 300 1\n', end, "'.logic_tile 300 1'")):
+        path = designs.write(changed)
+        count.same(run('asc_to_frames', path, 5, 6, 1, 1)[:2], (0, frames), shown)
+        status, output, errors = run('asc_to_frames', path, 5, 6, 1, 1, reader=reader)
+        words = 'the library refuses it with ground 13 (device: 1k): line %d is %s' % (line, shown)
+        count.same((status, output, errors.count('\n'), words in errors), (2, '', 1, True), errors)
+    for corner, words in (((250, 6), 'ground 1 '), ((-1, 6), 'ground 1 '), ((1 << 32 | 5, 6), 'ground 1 '), ((5, 200), 'ground 13 ')):
+        count.same(words in run('asc_to_frames', data('counter8.asc'), *corner, 8, 8, reader=reader)[2], True, corner)
+    return count.done()
+
+
+def check_no_library():
+    count = Count('a library that is named and cannot be loaded: a mistake')
+    for path in ('/none/libice40.so', data('1k.tab'), DATA):
+        status, output, errors = run('asc_to_frames', data('counter8.asc'), 5, 6, 1, 1, reader=path)
+        count.same((status, output, errors.count('\n'), proved.VARIABLE in errors), (2, '', 1, True), errors)
     return count.done()
 
 
@@ -153,19 +206,21 @@ def check_positions():
 
 # ---- devices
 
-def check_devices(designs):
-    count = Count('tables and designs of all devices: a mismatch is an error')
+def check_devices(designs, reader):
+    count = Count('tables and designs of all devices, by ' + ('the library' if reader else 'Python'))
     fits = {'1k': {'1k', '1k-ltin'}, '384': {'384'}, '5k': {'5k', '8k'}, '8k': {'5k', '8k'}, 'lm4k': {'5k', '8k'}, 'u4k': {'5k', '8k'}}
     for device, tables in fits.items():
         path = designs.write(contents(data('counter8.asc')).replace('.device 1k', '.device ' + device))
         for table, _ in TABLES:
-            status, output, errors = run('asc_to_frames', path, 5, 6, 1, 1, '--table', data(table + '.tab'))
+            status, output, errors = run('asc_to_frames', path, 5, 6, 1, 1, '--table', data(table + '.tab'), reader=reader)
             count.same((status, bool(output), 'the design is for a %s' % device in errors), (0, True, False) if table in tables else (2, False, True),
                        (device, table))
+            count.same('was read by %s\n' % read_by(reader, device) in errors, table in tables, (device, table))
         for told in fits:
-            status, output, errors = run('asc_to_frames', path, 5, 6, 1, 1, '--table', data('384.tab'), '--device', told)
+            status, output, errors = run('asc_to_frames', path, 5, 6, 1, 1, '--table', data('384.tab'), '--device', told, reader=reader)
             count.same((status, 'the table for a %s' % told in errors), (0, False) if told == device else (2, True), (device, told))
-        count.same(run('asc_to_frames', path, 5, 6, 1, 1)[0], 0, 'no table, no device to hold against')
+        count.same(run('asc_to_frames', path, 5, 6, 1, 1, reader=reader)[0], 0, 'no table, no device to hold against')
+        count.same('(device: %s)' % device in run('asc_to_frames', path, 3, 6, 1, 1, reader=reader)[2], True, 'the device is named in the error')
     other = designs.write('01000000680067\n02010005\n')
     count.same('--device' in run('asc_to_frames', data('counter8.asc'), 5, 6, 1, 1, '--table', other)[2], True, 'a table of no known device')
     count.same(run('asc_to_frames', data('counter8.asc'), 5, 6, 1, 1, '--table', other, '--device', '1k')[0], 0, 'the tool is told')
@@ -244,12 +299,12 @@ USAGES = [('asc_to_frames', ['design.asc', 5, 6, 1]), ('chipdb_to_frames', []), 
           ('explain', ['--input', os.devnull, os.devnull, os.devnull]), ('names', ['--nothing'])]
 
 
-def check_mistakes():
-    count = Count('mistakes: exit status 2, one line, no output')
+def check_mistakes(reader):
+    count = Count('mistakes: exit status 2, one line, no output, by ' + ('the library' if reader else 'Python'))
     with tempfile.TemporaryDirectory() as folder:
         designs = Folder(folder)
         for tool, arguments, words in [*mistakes(), *damaged_designs(designs), *damaged_databases(designs)]:
-            status, output, errors = run(tool, *arguments)
+            status, output, errors = run(tool, *arguments, reader=reader)
             count.same((status, output, words in errors, errors.count('\n')), (2, '', True, 1), (tool, arguments, errors))
     for tool, arguments in USAGES:
         status, output, errors = run(tool, *arguments)
@@ -273,6 +328,8 @@ def check_channels(folder):
     count.same(shell('%s %s/explain.py 1 1 <&-' % (sys.executable, TOOLS)), (2, '', 'explain.py: standard input: it is closed\n'))
     count.same(shell('cat %s | %s %s/asc_to_frames.py - 5 7 1 1 --table <(cat %s)' % (design, sys.executable, TOOLS, table)),
                (0, contents(data('counter8_1x1.in')), ''))
+    for closed in ('2>&-', '2>/dev/full'):
+        count.same(shell('%s %s/asc_to_frames.py %s 5 7 1 1 --table %s %s' % (sys.executable, TOOLS, design, table, closed)), (0, contents(data('counter8_1x1.in')), ''), closed)
     count.same(shell('echo 08070162 | %s %s/explain.py --input <(cat %s)' % (sys.executable, TOOLS, block))[0], 1)
     if os.path.exists(database):
         count.same(shell('cat %s | %s %s/chipdb_to_frames.py -' % (database, sys.executable, TOOLS)), (0, contents(table), ''))
@@ -281,19 +338,27 @@ def check_channels(folder):
 
 
 def shell(command):
-    """A shell's exit status, output and errors."""
+    """A shell's exit status, output and errors, but for notes."""
     done = subprocess.run(['bash', '-c', command], stdout=subprocess.PIPE, stderr=subprocess.PIPE, timeout=60)
-    return done.returncode, done.stdout.decode(), done.stderr.decode()
+    return done.returncode, done.stdout.decode(), without_notes(done.stderr.decode())
+
+
+def without_notes(errors):
+    return ''.join(line for line in errors.splitlines(True) if not line.startswith('note: '))
 
 
 def main():
     parser = argparse.ArgumentParser(description=__doc__, formatter_class=argparse.RawDescriptionHelpFormatter)
+    parser.add_argument('--library', metavar='FILE', default=BUILT)
     parser.add_argument('--chipdb', metavar='FOLDER', default=DEBIAN)
     parser.add_argument('--designs', metavar='FOLDER', action='append', default=[])
     arguments = parser.parse_args()
     with tempfile.TemporaryDirectory() as folder:
-        return library.run([(check_tables, arguments.chipdb), (check_blocks, [DATA] + arguments.designs), (check_wires,), (check_names,),
-                            (check_positions,), (check_devices, Folder(folder)), (check_mistakes,), (check_channels, arguments.chipdb)], 1)
+        tests = [(check_tables, arguments.chipdb), (check_wires,), (check_names,), (check_positions,), (check_no_library,), (check_channels, arguments.chipdb)]
+        for reader in readers(arguments.library):
+            tests += [(check_blocks, [DATA] + arguments.designs, reader), (check_devices, Folder(folder), reader), (check_mistakes, reader)]
+            tests += [(check_strict, Folder(folder), reader)] if reader else []
+        return library.run(tests, 1)
 
 
 if __name__ == '__main__':

@@ -6,22 +6,31 @@
 X and Y are the chip's coordinates of the block's south-west tile; W and H, its size, are 1 to 8. With --table the routing table's
 frames come first, so that the output is a whole input of the report program. The table must be for the design's device: a table says
 by its passive list, the bits of the column buffers, which devices it is for, or --device says it. A file may be - for standard input.
+
+The design of a 1k is read by the proved library where that is built (`make lib`); a design of another device, and any where there is no
+library, by Python. A note says which of the two it was. The library takes what document 02, W1, says and refuses the rest.
 """
 import argparse
-import sys
+import io
+import itertools
+import re
 
+import proved
 from frames import read_table, table_frames
 from ice40 import COLUMNS, PROGRAM_LIMIT, ROWS, check_size
-from icestorm import coordinates, sections, table_devices
-from tool import Mistake, about, counted, number, run
+from icestorm import LINE, coordinates, sections, table_devices
+from tool import Mistake, about, bytes_of, counted, file_name, lines_in, note, number, run
+
+LIBRARY_DEVICE = '1k'  # the one whose files the library reads
+LONGEST = 1 << 28  # bytes of a file; a real one has some millions at most
 
 KINDS = {'io': 'an IO tile', 'ramb': 'a RAM tile', 'ramt': 'a RAM tile', 'ipcon': 'an IP connect tile'}  # the rest are parts of DSP tiles
 
 
-def read_design(path):
-    """The device of the file, and every tile: coordinates to (kind, rows), the kind being logic, io, ramb, ramt, .."""
+def read_design(text):
+    """The device of a file's bytes, and every tile: coordinates to (kind, rows), the kind being logic, io, ramb, ramt, .."""
     devices, tiles = [], {}
-    for head, rows in sections(path):
+    for head, rows in sections(lines_in(io.BytesIO(text), LINE)):
         if head[0] == '.device':
             devices.append(' '.join(head[1:]))
         if not head[0].endswith('_tile'):
@@ -50,16 +59,78 @@ def logic_rows(tiles, at):
     return [words[0] for words in rows]
 
 
-def tile_frame(rows):
-    """The frame 05 of a tile. Position p, counted along the rows, is in byte p/8 with weight 2^(p mod 8)."""
+def tile_bytes(rows):
+    """The bytes of a tile. Position p, counted along the rows, is in byte p/8 with weight 2^(p mod 8)."""
     bits = int(''.join(rows)[::-1], 2)
-    return '05' + bits.to_bytes(ROWS * COLUMNS // 8, 'little').hex().upper()
+    return bits.to_bytes(ROWS * COLUMNS // 8, 'little')
 
 
-def block_frames(tiles, corner, w, h):
-    """Frame 04 and the frames 05 of a block, tiles by index: west to east, then north."""
+def python_block(tiles, corner, w, h):
+    """The bytes of each tile of a block, by index: west to east, then north."""
     rows = [logic_rows(tiles, (corner[0] + x, corner[1] + y)) for y in range(h) for x in range(w)]
-    return ['04%02X%02X' % (w, h)] + [tile_frame(each) for each in rows]
+    return [tile_bytes(each) for each in rows]
+
+
+def block_frames(block, w, h):
+    """Frame 04 and the frames 05 of a block."""
+    return ['04%02X%02X' % (w, h)] + ['05' + tile.hex().upper() for tile in block]
+
+
+# ---- which of the two reads a file
+
+def devices_named(text):
+    """The devices that a file's bytes name, each once: which of the two can read it, and what an error says of it."""
+    words = re.findall(rb'^\.device[ \t]+(\S+)', text, re.MULTILINE)
+    return [word.decode('ascii', 'backslashreplace')[:20] for word in dict.fromkeys(words)]
+
+
+def named(text):
+    """The file's device, for an error."""
+    return ' and '.join(devices_named(text)[:3]) or 'none named'
+
+
+def line_of(text, place):
+    """A line of a file as it stands, cut short, with what cannot be seen written out."""
+    line = next(itertools.islice(io.BytesIO(text), place - 1, None), None)
+    if line is None:
+        return 'something is missing where it ends, at line %d' % place
+    ended, line = line.endswith(b'\n'), line.rstrip(b'\n')
+    return 'line %d is %s' % (place, ascii(line[:60].decode('latin-1')) + ' ..' * (len(line) > 60) + ', without a line feed' * (not ended))
+
+
+def words_of(text, corner, w, h):
+    """What Python finds wrong with a block that the library refused, if anything."""
+    try:
+        python_block(read_design(text)[1], corner, w, h)
+    except Mistake as mistake:
+        return ['%s' % mistake]
+    return []
+
+
+def library_block(library, text, corner, w, h):
+    """The bytes of each tile, by the library; its no in words, to which Python may add some."""
+    try:
+        return library.read_block(text, corner, w, h)
+    except proved.Refused as refused:
+        where = line_of(text, refused.place) if refused.ground == proved.ASC_LINE else 'the block reaches outside 0 to 255'
+        raise Mistake('the library refuses it with ground %d (device: %s): %s' % (
+            refused.ground, named(text), '; '.join([where] + words_of(text, corner, w, h)))) from None
+
+
+def read_block(text, corner, w, h):
+    """The device of a file's bytes, the bytes of each tile of a block, and what read them, in words."""
+    library, devices = proved.library(), devices_named(text)
+    if library and (LIBRARY_DEVICE in devices or not devices):
+        return LIBRARY_DEVICE, library_block(library, text, corner, w, h), 'the proved library'
+    device, tiles = read_design(text)
+    try:
+        block = python_block(tiles, corner, w, h)
+    except Mistake as mistake:
+        raise Mistake('%s (device: %s)' % (mistake, device)) from None
+    return device, block, 'Python, as %s' % ('the library takes a 1k, and this is a %s' % device if library else 'no library is there (make lib)')
+
+
+# ---- the tool
 
 
 def check_device(device, table, told):
@@ -74,7 +145,7 @@ def check_device(device, table, told):
 def note_size(w, h):
     """Tells the user of a block that only the library takes."""
     if max(w, h) > PROGRAM_LIMIT:
-        print('note: %d by %d is for the library; the programs take W and H up to %d' % (w, h, PROGRAM_LIMIT), file=sys.stderr)
+        note('%d by %d is for the library; the programs take W and H up to %d' % (w, h, PROGRAM_LIMIT))
 
 
 def main():
@@ -88,12 +159,13 @@ def main():
     check_size(arguments.W, arguments.H)
     table = read_table(arguments.table) if arguments.table else None
     with about(arguments.design):
-        device, tiles = read_design(arguments.design)
+        text = bytes_of(arguments.design, LONGEST, "a text file of IceStorm's")
+        device, block, reader = read_block(text, (arguments.X, arguments.Y), arguments.W, arguments.H)
         if table:
             check_device(device, table, arguments.device)
-        frames = block_frames(tiles, (arguments.X, arguments.Y), arguments.W, arguments.H)
+    note('%s was read by %s' % (file_name(arguments.design), reader))
     note_size(arguments.W, arguments.H)
-    return (list(table_frames(table)) if table else []) + frames, 0
+    return (list(table_frames(table)) if table else []) + block_frames(block, arguments.W, arguments.H), 0
 
 
 if __name__ == '__main__':

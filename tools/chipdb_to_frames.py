@@ -10,8 +10,8 @@ import functools
 
 from frames import FIELDS, Group, Table, table_frames
 from ice40 import CELL_BITS, CELLS, COLUMNS, NEIGHBOURS, PORT, ROWS, cell_position, position_at
-from icestorm import coordinates, sections
-from tool import Mistake, about, run
+from icestorm import LINE, coordinates, sections
+from tool import Mistake, about, pieces, run
 
 CHAIN = [PORT['carry_in'], PORT['carry_in_mux']]  # the one switch that is a field and no group
 # the switch that the database lacks: the cascade of the tile below, selected by a bit of its own
@@ -28,7 +28,7 @@ class Database:
         self.switches = []  # the tile's sections: a destination net and its bits, then for each source a pattern and a net
         take = {'.logic_tile': self.add_tile, '.logic_tile_bits': self.add_bits, '.net': self.add_net, '.buffer': self.add_switch,
                 '.routing': self.add_switch}
-        for head, rows in sections(path):
+        for head, rows in sections(pieces(path, LINE)):
             self.known.add(head[0])
             if head[0] in take:
                 take[head[0]](head, rows)

@@ -1,5 +1,5 @@
 """IceStorm's text files, chip databases and .asc files: their sections, and which device they are of."""
-from tool import Mistake, pieces
+from tool import Mistake
 
 LINE = 1 << 16  # characters of a line; IceStorm's have some hundred at most
 
@@ -12,11 +12,11 @@ COLUMN_BUFFERS = {
 }
 
 
-def sections(path):
-    """The dot sections of a file, one at a time: the words of the dot line, and those of each line below it. Comments (#) and empty lines
+def sections(lines):
+    """The dot sections of a file, from its lines of at most LINE characters, one at a time: the words of the dot line, and those of each line below it. Comments (#) and empty lines
     are passed over; anything else before the first section is no IceStorm file."""
     head, rows = None, []
-    for line in pieces(path, LINE):
+    for line in lines:
         words = line.split()
         if line.startswith('.'):
             if head:

@@ -3,6 +3,7 @@
 A tool's `main` gives the lines for standard output and the exit status. Whatever goes wrong is a Mistake: one line on standard error, exit
 status 2 and nothing on standard output. explain.py alone has the status 1, for a no.
 """
+import io
 import os
 import re
 import signal
@@ -65,6 +66,16 @@ def complain(text):
         os._exit(COULD_NOT)
 
 
+def note(text):
+    """A line on standard error beside the output. Where that is closed or full there is none: the output stands without it."""
+    try:
+        if sys.stderr is not None:
+            sys.stderr.write('note: %s\n' % text)
+            sys.stderr.flush()
+    except OSError:
+        sys.stderr = None
+
+
 # ---- files: a path, or - for standard input
 
 def file_name(path):
@@ -80,15 +91,37 @@ def about(path):
         raise Mistake('%s: %s' % (file_name(path), mistake)) from None
 
 
-def pieces(path, size, newline=None):
-    """A text file a line or `size` characters at a time, whichever is less. A byte that is no ASCII shows as such."""
+@contextmanager
+def opened(path):
+    """A file's bytes."""
     try:
         if path == '-' and sys.stdin is None:
             raise Mistake('it is closed')
-        with open(0 if path == '-' else path, encoding='ascii', errors='backslashreplace', newline=newline) as file:
-            yield from iter(lambda: file.readline(size), '')
+        with open(0 if path == '-' else path, 'rb') as file:
+            yield file
     except OSError as error:
         raise Mistake(error.strerror) from None
+
+
+def lines_in(file, size, newline=None):
+    """The text of a file of bytes, a line or `size` characters at a time, whichever is less. A byte that is no ASCII shows as such."""
+    text = io.TextIOWrapper(file, encoding='ascii', errors='backslashreplace', newline=newline)
+    return iter(lambda: text.readline(size), '')
+
+
+def pieces(path, size, newline=None):
+    """A text file, as `lines_in` gives it."""
+    with opened(path) as file:
+        yield from lines_in(file, size, newline)
+
+
+def bytes_of(path, limit, what):
+    """A whole file's bytes, which is of some kind that is never longer."""
+    with opened(path) as file:
+        data = file.read(limit + 1)
+    if len(data) > limit:
+        raise Mistake('too long for %s' % what)
+    return data
 
 
 def start_of(path):

@@ -1,9 +1,11 @@
 //! The proved library against a baseline without proofs: first the same answers, then the time of each.
 //!
 //!     bench DATA                          compares, measures and prints the tables; DATA is the folder of the blocks
-//!     bench DATA proved BLOCK CALL N      only calls N times (or `baseline`), for a profiler
+//!     bench DATA files                    the same for ASCII files alone
+//!     bench DATA proved BLOCK CALL N      only calls N times (or `baseline`), for a profiler; BLOCK `asc` with the calls asc_read, asc_write
 mod baseline;
 mod compare;
+mod files;
 mod inputs;
 mod proved;
 mod timing;
@@ -17,7 +19,7 @@ use std::process::ExitCode;
 use std::time::Duration;
 use timing::Times;
 
-const USAGE: &str = "usage: bench DATA [proved|baseline BLOCK CALL N]";
+const USAGE: &str = "usage: bench DATA [files | proved|baseline BLOCK CALL N]";
 const CALLS: [&str; 4] = ["read", "write", "step", "build"];
 
 /// How often everything is measured, and how long each time.
@@ -194,6 +196,14 @@ fn profile(blocks: Vec<(Block, bool)>, side: &str, name: &str, call: &str, times
     Ok(())
 }
 
+fn profile_files(data: &Path, side: &str, call: &str, times: &str) -> Result<(), String> {
+    let times: u32 = times.parse().map_err(|_| format!("{times} is no number of times"))?;
+    one_of("reader", side, &["proved", "baseline"])?;
+    one_of("call", call, &["asc_read", "asc_write"])?;
+    files::profile(data, side, call, times);
+    Ok(())
+}
+
 fn run(words: &[String]) -> Result<(), String> {
     let (data, rest) = words.split_first().ok_or(USAGE)?;
     let data = Path::new(data);
@@ -202,13 +212,21 @@ fn run(words: &[String]) -> Result<(), String> {
     }
     match rest {
         [] => (),
+        [word] if word == "files" => {
+            files::compare(data)?;
+            files::measure(data);
+            return Ok(());
+        }
+        [side, name, call, times] if name == "asc" => return profile_files(data, side, call, times),
         [side, name, call, times] => return profile(blocks(data), side, name, call, times),
         _ => return Err(USAGE.to_string()),
     }
     let blocks = blocks(data);
     compare_all(&blocks, data)?;
+    files::compare(data)?;
     ratios(&blocks);
     growth(&inputs::load(data, "big8_8x8"));
+    files::measure(data);
     Ok(())
 }
 

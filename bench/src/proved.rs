@@ -2,8 +2,8 @@
 #[path = "../../include/ice40.rs"]
 mod ice40;
 
-use crate::baseline::{Answer, No, Step, PORTS, ROW, SETTINGS};
-use ice40::{ice40_build, ice40_read, ice40_step, ice40_write};
+use crate::baseline::{Answer, Area, No, Step, PORTS, ROW, SETTINGS};
+use ice40::{ice40_asc_length, ice40_asc_read, ice40_asc_write, ice40_build, ice40_read, ice40_step, ice40_write};
 
 /// The work room of a block: what building needs, and what a step needs.
 pub struct Room {
@@ -92,4 +92,16 @@ pub fn step(s: &Step, values: &mut [u8], next: &mut [u8], room: &mut Room) -> An
             second.as_mut_ptr(), second.len(),
         )
     })
+}
+
+pub fn asc_read(a: Area, text: &[u8], bits: &mut [u8]) -> Answer {
+    unpack(unsafe { ice40_asc_read(a.w, a.h, a.x, a.y, text.as_ptr(), text.len(), bits.as_mut_ptr(), bits.len()) })
+}
+
+pub fn asc_length(a: Area) -> Answer {
+    unpack(unsafe { ice40_asc_length(a.w, a.h, a.x, a.y) })
+}
+
+pub fn asc_write(a: Area, bits: &[u8], text: &mut [u8]) -> Answer {
+    unpack(unsafe { ice40_asc_write(a.w, a.h, a.x, a.y, bits.as_ptr(), bits.len(), text.as_mut_ptr(), text.len()) })
 }

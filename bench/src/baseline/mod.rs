@@ -2,6 +2,7 @@
 //!
 //! Each call makes the checks of document 01 in their order and answers a value or a ground with its place. It takes memory from the
 //! heap where the proved library is lent a work room.
+mod asc;
 mod build;
 mod codec;
 mod order;
@@ -9,6 +10,7 @@ mod step;
 mod table;
 mod wires;
 
+pub use asc::{asc_length, asc_read, asc_write, Area};
 pub use build::build;
 pub use codec::{read, write};
 pub use step::{step, Step};

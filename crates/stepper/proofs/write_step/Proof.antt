@@ -81,9 +81,11 @@ returns c =
     let at-start = at-settle .before .before .before .before .before .before .before .before .before .before .before .before .before .before in
     let a = at-start .args in (
       at-write-values .write-values .ensures ∙ ap (portValues (a .b)) (at-settle .settle .ensures),
-      (at-clock .clock .ensures
-          ∙ ap₂ (λ (f s : List ℕ). nextStates (a .b) (a .settings .now) f s (a .state .now)) (at-settle .settle .ensures) (at-settle2 .settle2 .ensures),
-      (at-settle .settle .ensures, at-settle2 .settle2 .ensures)),
+      (
+        at-clock .clock .ensures
+            ∙ ap₂ (λ (f s : List ℕ). nextStates (a .b) (a .settings .now) f s (a .state .now)) (at-settle .settle .ensures) (at-settle2 .settle2 .ensures),
+        (at-settle .settle .ensures, at-settle2 .settle2 .ensures),
+      ),
     )
 
 pub write-step-spec : {M : Type 1} → statement M

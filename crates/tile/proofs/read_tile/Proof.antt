@@ -38,8 +38,10 @@ returns-2 c =
     let at-start = at-try-decode .before .before .before .before .before .before in
     let faulty = eqb-false _ 864 (sym (at-try-decode .try-decode .ensures .0) ∙ at-if1 .if1 .left) in (
       c .tile-fault .ensures,
-      (λ e. absurd (faulty (sym (c .tile-fault .ensures) ∙ e)),
-      λ l. at-clear .clear .ensures ∙ ap zeros (at-try-decode .try-decode .kept .1 .1 .1 .0 ∙ at-start .pre .3)),
+      (
+        λ e. absurd (faulty (sym (c .tile-fault .ensures) ∙ e)),
+        λ l. at-clear .clear .ensures ∙ ap zeros (at-try-decode .try-decode .kept .1 .1 .1 .0 ∙ at-start .pre .3),
+      ),
     )
 
 pub read-tile-spec : {M : Type 1} → statement M

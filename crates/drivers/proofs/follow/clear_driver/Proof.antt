@@ -46,9 +46,11 @@ returns c =
     let at-short-walk = at-then .before .before in
     let at-start = at-short-walk .before .before .before in
     let a = at-start .args in
-    let u = at-short-walk .short-walk .result in
-    (c .end-driver .ensures ∙ ap (endDriver u) (c .before .drive-of .ensures)
-    ∙ driver-trace (a .sources .now) (a .wire) (a .b) (End u) (sym (at-short-walk .short-walk .ensures .1 (at-then .if1 .taken))), at-start .pre .4)
+    let u = at-short-walk .short-walk .result in (
+      c .end-driver .ensures ∙ ap (endDriver u) (c .before .drive-of .ensures)
+          ∙ driver-trace (a .sources .now) (a .wire) (a .b) (End u) (sym (at-short-walk .short-walk .ensures .1 (at-then .if1 .taken))),
+      at-start .pre .4,
+    )
 
 marked-driver-requires : tie.Need-marked-driver-requires
 marked-driver-requires c κs =

@@ -61,9 +61,11 @@ returns-2 c =
     let at-start = at-clear .before .before .before .before in
     let table = at-start .args .table .now in (
       at-check-parts .check-parts .ensures .0,
-      (λ ok. absurd (at-if1 .if1 .left (at-check-parts .check-parts .ensures .0 ∙ eqb-true (faultyPart logicTile table) (partCount logicTile table) ok
-          ∙ ap (λ (x : ℕ). 2 + x) (sym (at-group-count .group-count .ensures)))),
-      λ e. at-clear2 .clear2 .ensures ∙ ap zeros (at-check-parts .check-parts .kept .1 .0 ∙ at-clear .clear .kept .0 ∙ at-start .pre .1)),
+      (
+        λ ok. absurd (at-if1 .if1 .left (at-check-parts .check-parts .ensures .0 ∙ eqb-true (faultyPart logicTile table) (partCount logicTile table) ok
+            ∙ ap (λ (x : ℕ). 2 + x) (sym (at-group-count .group-count .ensures)))),
+        λ e. at-clear2 .clear2 .ensures ∙ ap zeros (at-check-parts .check-parts .kept .1 .0 ∙ at-clear .clear .kept .0 ∙ at-start .pre .1),
+      ),
     )
 
 pub check-table-spec : {M : Type 1} → statement M

@@ -46,9 +46,11 @@ returns-2 : tie.Need-returns-2
 returns-2 c =
     let at-start = c .before .before .before .before .before .before .before in
     let args = at-start .args in
-    let pre = at-start .pre in
-    (λ z. taken-single (args .table .now) (args .bits .now) (args .settings .now) (args .p) (args .own .now) (pre .1) (pre .3) (pre .5)
-    (c .before .if1 .left) (c .if2 .taken) (pre .4), λ z. clash refl z)
+    let pre = at-start .pre in (
+      λ z. taken-single (args .table .now) (args .bits .now) (args .settings .now) (args .p) (args .own .now) (pre .1) (pre .3) (pre .5)
+          (c .before .if1 .left) (c .if2 .taken) (pre .4),
+      λ z. clash refl z,
+    )
 
 add-if3 : tie.Need-add-if3
 add-if3 c =
@@ -81,9 +83,11 @@ returns-3 c =
     let at-if2 = c .before .before in
     let at-start = at-if2 .before .before .before .before .before .before .before in
     let args = at-start .args in
-    let pre = at-start .pre in
-    (λ z. taken-known (args .table .now) (args .bits .now) (args .settings .now) (args .p) (args .own .now) (pre .1) (pre .3) (pre .5)
-    (at-if2 .if2 .left) (c .if3 .taken), λ z. clash refl z)
+    let pre = at-start .pre in (
+      λ z. taken-known (args .table .now) (args .bits .now) (args .settings .now) (args .p) (args .own .now) (pre .1) (pre .3) (pre .5)
+          (at-if2 .if2 .left) (c .if3 .taken),
+      λ z. clash refl z,
+    )
 
 group-setting-requires : tie.Need-group-setting-requires
 group-setting-requires c κs =
@@ -144,9 +148,11 @@ returns-5 c =
     let at-if2 = at-group-setting .before .before .before in
     let at-start = at-if2 .before .before .before .before .before .before .before in
     let args = at-start .args in
-    let pre = at-start .pre in
-    (λ z. taken-group (args .table .now) (args .bits .now) (args .settings .now) (args .p) (args .own .now) (pre .1) (pre .3) (pre .5)
-    (at-if2 .if2 .left) _ (at-group-setting .group-setting .ensures) (c .if4 .left), λ z. clash refl z)
+    let pre = at-start .pre in (
+      λ z. taken-group (args .table .now) (args .bits .now) (args .settings .now) (args .p) (args .own .now) (pre .1) (pre .3) (pre .5)
+          (at-if2 .if2 .left) _ (at-group-setting .group-setting .ensures) (c .if4 .left),
+      λ z. clash refl z,
+    )
 
 pub take-bit-spec : {M : Type 1} → statement M
 take-bit-spec =

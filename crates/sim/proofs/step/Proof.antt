@@ -96,16 +96,10 @@ same-length-2 c =
     at-step-checked .step-checked .kept .1 .1 .1 .1 .1 .1 .1 .1 .0
 
 same-length-3 : tie.Need-same-length-3
-same-length-3 c =
-    let at-clear = c .before .before .before .before .before .before .before .before .before .before .before .before .before .before .before .before .before .before in
-    let at-step-checked = at-clear .before .before .before .before .before .before .before .before .before .before .before .before .before .before .before .before in
-    at-clear .clear .kept .0 ∙ at-step-checked .step-checked .kept .1 .1 .1 .1 .1 .1 .1 .1 .1 .0
+same-length-3 c = search needs
 
 same-length-4 : tie.Need-same-length-4
-same-length-4 c =
-    let at-clear2 = c .before .before .before .before .before .before .before .before .before .before .before .before .before .before in
-    let at-step-checked = at-clear2 .before .before .before .before .before .before .before .before .before .before .before .before .before .before .before .before .before .before .before .before in
-    at-clear2 .clear2 .kept .0 ∙ at-step-checked .step-checked .kept .1 .1 .1 .1 .1 .1 .1 .1 .1 .1 .0
+same-length-4 c = search needs
 
 same-length-5 : tie.Need-same-length-5
 same-length-5 c =

@@ -2,19 +2,13 @@
 use Prim.Native.Nat.{ℕ, _<_}
 use mathlib.Core.Path.{_≡_, sym, ap, _∙_}
 use mathlib.Core.Logic.{_↔_}
-use mathlib.Core.List.{List}
 use native.Mathlib.Omega.{arith}
 use borrow.Author.Tests.{ltb-true}
 use lib.Dec.{ltb}
-use lib.ListN.{length}
-use Rattle.lists.proofs.SearchLaws.{first-none}
-use Rattle.lists.proofs.PartLaws.{joined-is}
 use Rattle.refusal.proofs.GroundsLaws.{unless-passed}
-use Rattle.refusal.specs.declared.Answer.the-variants.{Done}
-use Rattle.ports.specs.declared.size.Size.{Size}
 use Rattle.ports.specs.declared.size.Block.{Block}
-use Rattle.ports.specs.Block.{tileCount, tiles, sized, portOf}
-use Rattle.ports.specs.Lengths.{ports, portsPerTile, settingsLength, settingsTotal}
+use Rattle.ports.specs.Block.{tiles, sized, portOf}
+use Rattle.ports.specs.Lengths.{ports, portsPerTile}
 use Rattle.ports.proofs.BlockLaws.{port-of-lt}
 use Rattle.fabric.specs.declared.WireNumber.the-variants.{Wire}
 use Rattle.fabric.specs.Joins.{Linked, Lowest}
@@ -22,40 +16,13 @@ use Rattle.fabric.specs.Wire.{wireOf}
 use Rattle.fabric.specs.WireNumber.{wireNumber, wireAnswerNumber, wireAnswerValue}
 use Rattle.fabric.proofs.WireLaws.{wire-exact, wire-lowest}
 use Rattle.fabric.proofs.WireNumberLaws.{wire-number-wire}
-use Rattle.codec.specs.Reading.{Decodable, ReadsTo}
-use Rattle.codec.proofs.ReadingLaws.{decode-reads, reads-unique}
-use Rattle.config.specs.Blocks.{bitsAt, settingsAt, tilesOf, undecodableAt, decodedAt, decoded}
-use Rattle.config.specs.Entry.{readAnswer}
-use Rattle.config.specs.Facts.{Checked}
-use Rattle.config.proofs.EntryLaws.{read-done}
-use Rattle.config.proofs.PassedLaws.{read-passed, read-clean}
-use Rattle.config.proofs.BlocksLaws.{clean-decodable, decodable-clean}
 use Rattle.config.proofs.MeaningLaws.{read-means}
 use Rattle.config.proofs.RoundTrip.{written-reads, read-writes}
 use Rattle.theorem.specs.Demand2.{Demand2}
 use Rattle.theorem.proofs.FileLaws.{filed-reads, read-files}
+use Rattle.theorem.proofs.ReadingLaws.{reads-exactly, reads-one}
+use Rattle.theorem.proofs.PassesLaws.{four-exactly}
 use Rattle.theorem.proofs.FightLaws.{fight-exactly, fight-lowest, follow-fight-exactly, follow-fight-lowest}
-
-module _ (S : Size) (table bits : List ℕ) (settings : ℕ) where
-  pub reads-exactly : (readAnswer S table bits settings ≡ Done)
-      ↔ (Checked S table (length bits) settings × ((T : ℕ) → T < tileCount S → Decodable table (tilesOf bits T)))
-  reads-exactly = (
-    λ done.
-        let C = read-passed S table bits settings done in
-        (C, λ T l. clean-decodable table bits (tileCount S) (C .rules) T (read-clean S table bits settings done T l)),
-    λ c. sym (read-done S table bits settings (c .0) (tileCount S)
-        (sym (first-none (undecodableAt table (tilesOf bits)) (tileCount S) (λ T l. decodable-clean table bits (tileCount S) (c .0 .rules) T (c .1 T l))))
-        (omega arith)),
-  )
-
-  reads-one : readAnswer S table bits settings ≡ Done → (st : List ℕ) → length st ≡ settingsTotal S
-      → ((T : ℕ) → T < tileCount S → ReadsTo table (tilesOf bits T .bit) (settingsAt st T)) → decoded table (tilesOf bits) (tileCount S) ≡ st
-  unfolding decodedAt
-  reads-one done st long to =
-      let C = read-passed S table bits settings done in
-      joined-is settingsLength (tileCount S) (decodedAt table (tilesOf bits)) st long
-      (λ T l. reads-unique table (bitsAt bits T) (C .rules) (clean-decodable table bits (tileCount S) (C .rules) T (read-clean S table bits settings done T l))
-      _ _ (decode-reads table (bitsAt bits T) (C .rules)) (to T l))
 
 module _ (B : Block) where
   -- what a yes of `wire_number` shows
@@ -90,6 +57,7 @@ demand2 = record {
   one-wire = one-wire;
   lowest-port = lowest-port;
   fight-exactly = fight-exactly;
+  four-exactly = four-exactly;
   fight-lowest = fight-lowest;
   follow-fight-exactly = follow-fight-exactly;
   follow-fight-lowest = follow-fight-lowest;

@@ -15,6 +15,7 @@ use Rattle.block.proofs.MeaningLaws.{build-says}
 use Rattle.theorem.specs.Calls.{built, settingsRead}
 use Rattle.theorem.specs.Demand3.{PassesSix, AcceptedBlock, Demand3}
 use Rattle.theorem.proofs.ReadableLaws.{readable-of-four, readable-routed, readable-built}
+use Rattle.theorem.proofs.PassesLaws.{six-exactly}
 use Rattle.theorem.proofs.AcceptedLaws.{list-loop-exactly, only-choice, own-listing}
 use Rattle.theorem.proofs.StepDone.{step-done, step-meant}
 
@@ -52,4 +53,4 @@ module _ (B : Block) (t bits settings : List ℕ) (room : RoomLent) where
       }
 
 pub demand3 : Demand3
-demand3 = record { loop-exactly = loop-exactly; loop-lowest = loop-lowest; accepted = accepted }
+demand3 = record { loop-exactly = loop-exactly; six-exactly = six-exactly; loop-lowest = loop-lowest; accepted = accepted }

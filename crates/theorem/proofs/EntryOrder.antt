@@ -35,7 +35,7 @@ use Rattle.config.proofs.PassedLaws.{write-passed, write-fit}
 use Rattle.config.proofs.BlocksLaws.{fit-bits}
 use Rattle.config.proofs.MeaningLaws.{read-says, write-says}
 use Rattle.theorem.specs.EntryGrounds.{AllHaveBits, WireGrounds, LookupGrounds, CountGrounds, ReadGrounds, WriteGrounds}
-use Rattle.theorem.proofs.Demand2Laws.{reads-exactly}
+use Rattle.theorem.proofs.ReadingLaws.{reads-exactly}
 
 -- a table that keeps the rules has no part that breaks one
 pub no-broken : (table : List ℕ) (i : ℕ) → FirstBroken logicTile table i → TableRules logicTile table → ⊥

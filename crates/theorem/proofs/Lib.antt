@@ -5,6 +5,8 @@ pub mod BlockOrder  -- those of build and follow
 pub mod StepOrder  -- those of step
 pub mod Demand2Laws  -- demand2: demand 2, closed
 pub mod Demand3Laws  -- demand3: demand 3, closed
+pub mod ReadingLaws  -- reads-exactly, reads-one: when `read` says yes, and that the bits read to one settings only
+pub mod PassesLaws  -- four-exactly, six-exactly: checks pass exactly if `build` gives none of their grounds
 pub mod ReadableLaws  -- readable-of-four, readable-built, readable-routed: what checks 1 to 4 show
 pub mod FightLaws  -- fight-exactly, fight-lowest, follow-fight-exactly: fights, over the answers of `build` and `follow`
 pub mod AcceptedLaws  -- list-loop-exactly, only-choice, own-passes, step-means: of settings that passed their checks

@@ -6,8 +6,10 @@
 --   PassesFour, PassesNine == checks 1 to 4 of `build`, and 1, 2, 3 and 9 of `follow`, pass
 use mathlib.Core.Path.{_≡_}
 use mathlib.Core.List.{List}
-use Prim.Native.Nat.{ℕ}
+use Prim.Native.Nat.{ℕ, _<_}
 use lib.ListN.{length}
+use Rattle.refusal.specs.declared.Refusal.{Refusal}
+use Rattle.refusal.specs.Grounds.{numberOf}
 use Rattle.refusal.specs.declared.Answer.{Answer}
 use Rattle.refusal.specs.declared.Answer.the-variants.{Done}
 use Rattle.ports.specs.declared.size.Size.{Size}
@@ -20,6 +22,7 @@ use Rattle.asc.specs.Area.{areaAt}
 use Rattle.asc.specs.Content.{written}
 use Rattle.equations.specs.Settling.{blockList}
 use Rattle.block.specs.declared.Built.{Built}
+use Rattle.block.specs.declared.Built.the-variants.{Refused}
 use Rattle.block.specs.declared.Followed.{Followed}
 use Rattle.block.specs.declared.lengths.RoomLent.{RoomLent}
 use Rattle.block.specs.Lengths.{RoomLong, buildLent, buildExact, followLent, followExact}
@@ -34,6 +37,10 @@ use Rattle.sim.specs.Stepping.{stepAnswer}
 -- `settings` is the first part of the work room of `build`; `room` has the lengths of the list and of the other parts
 abbrev pub built : Block → (table bits settings : List ℕ) → RoomLent → Built
 built B table bits settings room = buildAnswer B table (tilesOf bits) (buildExact B (buildLent table bits settings room))
+
+-- `build` gives none of grounds 1 to n
+abbrev pub Beyond : ℕ → Built → Type 0
+Beyond n answer = (refusal : Refusal) → answer ≡ Refused refusal → n < numberOf refusal
 
 -- checks 1 to 4: `read` says yes to these bits, and the rest of what is lent to `build` is as long as it must be
 pub record PassesFour (B : Block) (table bits settings : List ℕ) (room : RoomLent) : Type 0 where

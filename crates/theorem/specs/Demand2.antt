@@ -29,7 +29,7 @@ use Rattle.equations.specs.Switches.{Contention, LowestContention}
 use Rattle.block.specs.declared.Built.the-variants as builts
 use Rattle.block.specs.declared.Followed.the-variants as followeds
 use Rattle.block.specs.declared.lengths.RoomLent.{RoomLent}
-use Rattle.theorem.specs.Calls.{PassesFour, PassesNine, built, followed, settingsRead, fileOf}
+use Rattle.theorem.specs.Calls.{PassesFour, PassesNine, Beyond, built, followed, settingsRead, fileOf}
 
 pub record Demand2 : Type 0 where
   -- "Settings are read as the IceStorm tile documents and the lent routing table say": what each answer of `read` says of bits and settings; a yes
@@ -68,6 +68,10 @@ pub record Demand2 : Type 0 where
   pub fight-exactly : (B : Block) (table bits settings : List ℕ) (room : RoomLent) → PassesFour B table bits settings room
       → ((w : ℕ) × (built B table bits settings room ≡ builts.Refused (refusals.Contention w)))
       ↔ ((w : ℕ) × Contention B table (settingsRead B table bits) w)
+  -- .. those are passed exactly if `build` gives none of their grounds ..
+  pub four-exactly : (B : Block) (table bits settings : List ℕ) (room : RoomLent)
+      → PassesFour B table bits settings room ↔ Beyond 4 (built B table bits settings room)
+  -- .. and "5: fight: lowest wire"
   pub fight-lowest : (B : Block) (table bits settings : List ℕ) (room : RoomLent) (w : ℕ)
       → built B table bits settings room ≡ builts.Refused (refusals.Contention w) → LowestContention B table (settingsRead B table bits) w
   pub follow-fight-exactly : (B : Block) (table settings wires sources marks : List ℕ) (tile port : ℕ)

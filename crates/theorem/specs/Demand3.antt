@@ -15,7 +15,7 @@ use Rattle.block.specs.Meaning.{NoDisabledCarry}
 use Rattle.stepper.specs.Settling.{settledBy}
 use Rattle.sim.specs.declared.lengths.StepRoomLent.{StepRoomLent}
 use Rattle.sim.specs.Lengths.{StepRoomLong}
-use Rattle.theorem.specs.Calls.{PassesFour, built, settingsRead, listBuilt, stepped, valuesStepped, stateStepped}
+use Rattle.theorem.specs.Calls.{PassesFour, Beyond, built, settingsRead, listBuilt, stepped, valuesStepped, stateStepped}
 use Rattle.theorem.specs.Choice.{OnlyChoice, StepMeans, StepInputs}
 use Rattle.theorem.specs.Listing.{Listing}
 
@@ -50,7 +50,10 @@ pub record Demand3 : Type 0 where
   -- "Each block that passes checks 1 to 6 [..] is refused as a loop, by every call that makes check 7, exactly if some wire depends on itself."
   pub loop-exactly : (B : Block) (table bits settings : List ℕ) (room : RoomLent) → PassesSix B table bits settings room
       → ((w : ℕ) × (built B table bits settings room ≡ Refused (Loop w))) ↔ ((w : ℕ) × Depends B table (settingsRead B table bits) w w)
-  -- "7: loop: lowest wire depending on itself"
+  -- .. those are passed exactly if `build` gives none of their grounds ..
+  pub six-exactly : (B : Block) (table bits settings : List ℕ) (room : RoomLent)
+      → PassesSix B table bits settings room ↔ Beyond 6 (built B table bits settings room)
+  -- .. and "7: loop: lowest wire depending on itself"
   pub loop-lowest : (B : Block) (table bits settings : List ℕ) (room : RoomLent) (w : ℕ) → built B table bits settings room ≡ Refused (Loop w)
       → LowestLooped B table (settingsRead B table bits) w
   pub accepted : (B : Block) (table bits settings : List ℕ) (room : RoomLent) (rows : ℕ) → built B table bits settings room ≡ Listed rows

@@ -1,2 +1,2 @@
-// Demand 3 in one place: what building and the step promise, read together, says what the committee asks. There is no code here;
-// specs/Demand3.antt is the demand, sentence by sentence, and proofs/Demand3Laws.antt proves it for every block.
+// The three demands, each one statement over the answers of the calls. There is no code here; specs/Demand1.antt, Demand2.antt and Demand3.antt have the
+// demands, sentence by sentence, and proofs/Demand1Laws.antt, Demand2Laws.antt and Demand3Laws.antt prove them.

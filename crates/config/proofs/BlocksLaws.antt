@@ -91,19 +91,22 @@ module _ (table bits : List ℕ) (n : ℕ) where
 
 -- ---- settings to bits
 
--- parts that are bytes, joined
+-- bytes behind bytes, and parts that are bytes, joined
+append-bytes : (front back : List ℕ) → Bytes front → Bytes back → Bytes (front ++ back)
+append-bytes front back F B i = ⊎-elim within behind (lt-or-le i (length front))
+  where
+    within : i < length front → getD (front ++ back) i 0 < 2 ^ unit
+    within l = rw (List·getD-append front back 0 i l) (F i)
+
+    behind : length front ≤ i → getD (front ++ back) i 0 < 2 ^ unit
+    behind l =
+        subst (λ (k : ℕ). getD (front ++ back) k 0 < 2 ^ unit) (let e : length front + (i - length front) ≡ i = omega arith in e)
+        (rw (getD-append-add front back (i - length front) 0) (B (i - length front)))
+
 joined-bytes : (f : ℕ → List ℕ) (n : ℕ) → ((t : ℕ) → t < n → Bytes (f t)) → Bytes (joined f n)
 unfolding joined
-joined-bytes f zero by i = omega arith
-joined-bytes f (suc n) by i = ⊎-elim front back (lt-or-le i (length (joined f n)))
-  where
-    front : i < length (joined f n) → getD (joined f n ++ f n) i 0 < 2 ^ unit
-    front l = rw (List·getD-append (joined f n) (f n) 0 i l) (joined-bytes f n (λ t h. by t (omega arith)) i)
-
-    back : length (joined f n) ≤ i → getD (joined f n ++ f n) i 0 < 2 ^ unit
-    back l =
-        subst (λ (k : ℕ). getD (joined f n ++ f n) k 0 < 2 ^ unit) (let e : length (joined f n) + (i - length (joined f n)) ≡ i = omega arith in e)
-        (rw (getD-append-add (joined f n) (f n) (i - length (joined f n)) 0) (by n (omega arith) (i - length (joined f n))))
+joined-bytes f zero by = λ i. omega arith
+joined-bytes f (suc n) by = append-bytes (joined f n) (f n) (joined-bytes f n (λ t h. by t (omega arith))) (by n (omega arith))
 
 module _ (table settings : List ℕ) (n : ℕ) where
   encoded-tile : (t : ℕ) → t < n → length (encodedAt table settings t) ≡ tileNumbers

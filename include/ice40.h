@@ -4,7 +4,8 @@
  * low 32 bits, or, for a no, the ground's number times 2^32 plus its place. ICE40_GROUND and ICE40_VALUE take it apart.
  *
  * Memory. A slice is a pointer and a length, counted in numbers and not in bytes. Every length is exact: another one is refused with
- * ground 2; only the text that ice40_asc_read reads may have any length. On a no the outputs keep their old contents; the work room comes back zeroed, or untouched under grounds 1 and 2.
+ * ground 2; only the text that ice40_asc_read reads may have any length. On a no the outputs keep their old contents; the work room comes
+ * back zeroed, or untouched under grounds 1 and 2.
  *
  *   - Slices that are only read (const) may overlap one another, or be the same.
  *   - A slice that is written, output or work room, must not overlap any other slice of the call, read or written. What a call does
@@ -220,20 +221,23 @@ uint64_t ice40_step(uint32_t w, uint32_t h, const uint16_t *table, size_t table_
                     size_t next_length, uint16_t *wires, size_t wires_length, uint16_t *own, size_t own_length, uint16_t *marks,
                     size_t marks_length, uint8_t *first, size_t first_length, uint8_t *second, size_t second_length);
 
-/* ---- IceStorm's ASCII files (.asc) of a 1k. The block is w by h logic tiles with its south-west one at x, y of the chip; the other tiles and sections
- * of a file are skipped. A block that reaches past 255 is refused with ground 1. A text is bytes, with no 0 at its end */
+/* ---- IceStorm's ASCII files (.asc) of a 1k. The block is w by h logic tiles with its south-west one at x, y of the chip; the other tiles
+ * and sections of a file are skipped. A block that reaches past 255 is refused with ground 1. A text is bytes, with no 0 at its end */
 
-/* Reads a block's bits from a file; the value is 0. Grounds 1, 2, 13. The text may have any length and hold any bytes; one of length 0 is refused with
- * 13 at line 1, and its pointer may be NULL. The place of 13 is the line, from 1, cut at 2^32 - 1: the first line that is not of the shape due there (one without a
- * line feed too), another or a second device, a block tile given twice; or one past the last for what is missing. */
-uint64_t ice40_asc_read(uint32_t w, uint32_t h, uint32_t x, uint32_t y, const uint8_t *text, size_t text_length, uint8_t *bits, size_t bits_length);
+/* Reads a block's bits from a file; the value is 0. Grounds 1, 2, 13. The text may have any length and hold any bytes; one of length 0 is
+ * refused with 13 at line 1, and its pointer may be NULL. The place of 13 is the line, from 1, cut at 2^32 - 1: the first line that is not
+ * of the shape due there (one without a line feed too), another or a second device, or a block tile given twice; one past the last line
+ * for what is missing. */
+uint64_t ice40_asc_read(uint32_t w, uint32_t h, uint32_t x, uint32_t y, const uint8_t *text, size_t text_length,
+                        uint8_t *bits, size_t bits_length);
 
 /* How many bytes the file of such a block has, 57,611 at most. Ground 1. */
 uint64_t ice40_asc_length(uint32_t w, uint32_t h, uint32_t x, uint32_t y);
 
-/* Writes a block as a file: .device 1k, then its tiles by index; the value is 0. Grounds 1, 2. The text has exactly the length that ice40_asc_length
- * tells. Read back at its corner and size it gives the same bits. */
-uint64_t ice40_asc_write(uint32_t w, uint32_t h, uint32_t x, uint32_t y, const uint8_t *bits, size_t bits_length, uint8_t *text, size_t text_length);
+/* Writes a block as a file: .device 1k, then its tiles by index; the value is 0. Grounds 1, 2. The text has exactly the length that
+ * ice40_asc_length tells. Read back at its corner and size it gives the same bits. */
+uint64_t ice40_asc_write(uint32_t w, uint32_t h, uint32_t x, uint32_t y, const uint8_t *bits, size_t bits_length,
+                         uint8_t *text, size_t text_length);
 
 #ifdef __cplusplus
 }

@@ -5,7 +5,7 @@ and with IceStorm's own programs.
     python3 tests/asc.py                    needs the Rattle kit (rt), a C compiler and Python 3
     python3 tests/asc.py --rounds 20000     the same with so many random cases (2,000 unless said)
     python3 tests/asc.py --vectors FOLDER   where w1-asc_read.jsonl and w1-asc_write.jsonl are, if not in ../shared/vectors-02
-    python3 tests/asc.py --designs FOLDER   .asc files beyond the two in tests/data
+    python3 tests/asc.py --designs FOLDER   .asc files beyond the two in tests/data, if not in ../shared/realdata/designs
 
 What is written goes through icepack, iceunpack and icebox_explain where they are installed (Debian: fpga-icestorm). It prints a line for each
 group of cases and ends with the number of differences.
@@ -30,7 +30,7 @@ sys.path.insert(0, os.path.join(ROOT, 'tools'))
 import asc_to_frames  # noqa: E402
 from tool import Mistake  # noqa: E402
 
-VECTORS = os.path.join(os.path.dirname(ROOT), 'shared', 'vectors-02')
+SHARED = os.path.join(os.path.dirname(ROOT), 'shared')
 BIG = 100_000_000  # bytes
 DAMAGED = ('uart_tx', 3, 3, 5, 10)  # design, size, corner: each line of it is damaged
 
@@ -75,7 +75,7 @@ class Inputs:
     """The .asc files, by name, and the folder of the users' vectors."""
 
     def __init__(self, folders, vectors, rounds):
-        self.vectors, self.rounds = vectors, rounds
+        self.vectors, self.designs, self.rounds = vectors, folders[-1], rounds
         paths = [path for folder in folders for path in sorted(glob.glob(os.path.join(folder, '*.asc')))]
         self.paths = {os.path.basename(path)[:-4]: path for path in paths}
         self.texts = {name: whole(path) for name, path in self.paths.items()}
@@ -164,20 +164,23 @@ def spelt():
     yield 'E1.3 empty lines', '\n\n' + device + '\n' + tile.replace('\n', '\n\n') + '\n\n', 0
     yield 'E1.3 a blank between rows', device + tile.replace('\n', '\n \n', 1), 3
     yield 'E1.3 a carriage return is no empty line', device + '\r\n' + tile, 2
-    for words in ('256 0', '0 256', '03 5', '3 05', '00 5', '3', '3 5 ', '3  5', ' 3 5', '3 5 0', '-3 5', '+3 5', '3,5', 'x y', '', ' ', '3 5\r', '3\t5', '1000 5', '99999999999 5',
-                  '4294967299 5', '3 5.', '3 ', '3 0x5', '\u0663 5', '300 5', '3 999', '3 5\0'):
+    for words in ('256 0', '0 256', '03 5', '3 05', '00 5', '3', '3 5 ', '3  5', ' 3 5', '3 5 0', '-3 5', '+3 5', '3,5', 'x y', '', ' ', '3 5\r',
+                  '3\t5', '1000 5', '99999999999 5', '4294967299 5', '3 5.', '3 ', '3 0x5', '\xb3 5', '300 5', '3 999', '3 5\0'):
         yield 'E1.4 .logic_tile ' + words, device + '.logic_tile ' + words + '\n' + tile, 2
     yield 'E1.4 no coordinates', device + '.logic_tile\n' + tile, 2
     for x, y in ((0, 0), (255, 255), (3, 4), (3, 6), (2, 5), (4, 5), (5, 3), (35, 5), (3, 55)):
         yield 'E1.4 a tile outside', device + '.logic_tile %d %d\nwhat follows\n' % (x, y) + tile, 0
     yield 'E1.5 skipped lines', device + '.io_tile 0 0\n\xff\0\x80 \t\r\n ..\n' + '9' * 5000 + '\n' + tile, 0
-    for word in ('.devices 1k', '.Device 8k', '.logic_tiles 3 5', '.device\t8k', '.', '..', '. device 1k', '.logic_tile\t3 5', '.logic_tile_bits', '.dev', '.logic_til', '.DEVICE 8k'):
+    for word in ('.devices 1k', '.Device 8k', '.logic_tiles 3 5', '.device\t8k', '.', '..', '. device 1k', '.logic_tile\t3 5',
+                 '.logic_tile_bits', '.dev', '.logic_til', '.DEVICE 8k'):
         yield 'E1.6 another section, ' + word, device + word + '\nskipped\n' + tile, 0
-    for word in ('.device', '.device ', '.device 1k ', '.device  1k', '.device 1k 1k', '.device 8k', '.device 1K', '.device 1', '.device 1k\r', '.device 1k\0', '.device 01k', '.device 384'):
+    for word in ('.device', '.device ', '.device 1k ', '.device  1k', '.device 1k 1k', '.device 8k', '.device 1K', '.device 1',
+                 '.device 1k\r', '.device 1k\0', '.device 01k', '.device 384'):
         yield 'E1.6 the word and not the shape, ' + word, word + '\n' + tile, 1
     yield 'E1.7 a blank before the dot', ' ' + good, 1
     yield 'E1.7 a blank before the dot, skipped', '.comment\n .device 8k\n' + good, 0
-    for text, line in ((good[:-1], 18), (good + '.comment', 19), (good + '.comment\nx', 20), (good + ' ', 19), (good + '.device 8k', 19), ('.', 1), (device + '.io_tile 0 0\n1', 3)):
+    for text, line in ((good[:-1], 18), (good + '.comment', 19), (good + '.comment\nx', 20), (good + ' ', 19), (good + '.device 8k', 19),
+                       ('.', 1), (device + '.io_tile 0 0\n1', 3)):
         yield 'E1.8 no line feed at the end', text, line
     yield 'E1.8 nothing but line feeds', '\n\n\n', 4
     yield 'E1.8 nothing', '', 1
@@ -203,7 +206,7 @@ def spelt():
 def check_readings(files):
     count = Count('what the readings say, each with its answer written down')
     for words, text, line in spelt():
-        text = text.encode('latin-1', 'replace')
+        text = text.encode('latin-1')
         expected = (13, line) if line else bytes(108)
         count.same(files.read(1, 1, 3, 5, text), expected, words)
         count.same(asc_model.read(1, 1, 3, 5, text), expected, 'the model: ' + words)
@@ -212,8 +215,8 @@ def check_readings(files):
 
 # ---- random files
 
-PIECES = ['.device 1k', '.device 8k', '.device', '.device 1k ', '.comment', '.comment x', '.', '.logic_tile', '.logic_tile 1 2 3', '.logic_tile 01 2', '.logic_tile 256 1',
-          '.logic_tilex 1 1', '', ' ', 'text', '0' * 54, '1' * 54, '0' * 53, '0' * 55, '.io_tile 0 1', '\r', '.\0']
+PIECES = ['.device 1k', '.device 8k', '.device', '.device 1k ', '.comment', '.comment x', '.', '.logic_tile', '.logic_tile 1 2 3',
+          '.logic_tile 01 2', '.logic_tile 256 1', '.logic_tilex 1 1', '', ' ', 'text', '0' * 54, '1' * 54, '0' * 53, '0' * 55, '.io_tile 0 1', '\r', '.\0']
 
 
 def random_lines(w, h, x, y):
@@ -320,6 +323,8 @@ def check_designs(files, inputs):
                     got = out.raw if answer == (0, 0) else answer
                     count.same(got, (13, lines + 1) if expected is None else expected, (name, w, h, x, y))
     wrong = count.done()
+    if not glob.glob(os.path.join(inputs.designs, '*.asc')):
+        print('left out, no further designs (--designs FOLDER): %s' % os.path.relpath(inputs.designs, ROOT))
     print('  %d designs; of these blocks %d are logic tiles only' % (len(inputs.texts), blocks))
     return wrong
 
@@ -416,12 +421,12 @@ def check_big(files, inputs):
 def main():
     parser = argparse.ArgumentParser(description=__doc__, formatter_class=argparse.RawDescriptionHelpFormatter)
     parser.add_argument('--rounds', metavar='N', type=int, default=2000)
-    parser.add_argument('--vectors', metavar='FOLDER', default=VECTORS)
-    parser.add_argument('--designs', metavar='FOLDER', action='append', default=[])
+    parser.add_argument('--vectors', metavar='FOLDER', default=os.path.join(SHARED, 'vectors-02'))
+    parser.add_argument('--designs', metavar='FOLDER', default=os.path.join(SHARED, 'realdata', 'designs'))
     arguments = parser.parse_args()
-    files, inputs = Files(), Inputs([DATA] + arguments.designs, arguments.vectors, arguments.rounds)
-    return library.run([(check_vectors, files, inputs), (check_sizes, files), (check_readings, files), (check_random, files, inputs), (check_round_trip, files, inputs),
-                        (check_designs, files, inputs), (check_damaged, files, inputs), (check_icestorm, files, inputs), (check_big, files, inputs)], 1)
+    files, inputs = Files(), Inputs([DATA, arguments.designs], arguments.vectors, arguments.rounds)
+    tests = [check_vectors, check_random, check_round_trip, check_designs, check_damaged, check_icestorm, check_big]
+    return library.run([(check_sizes, files), (check_readings, files)] + [(test, files, inputs) for test in tests], 1)
 
 
 if __name__ == '__main__':

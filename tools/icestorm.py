@@ -13,8 +13,8 @@ COLUMN_BUFFERS = {
 
 
 def sections(lines):
-    """The dot sections of a file, from its lines of at most LINE characters, one at a time: the words of the dot line, and those of each line below it. Comments (#) and empty lines
-    are passed over; anything else before the first section is no IceStorm file."""
+    """The dot sections of a file, one at a time: the words of the dot line, and those of each line below it. The lines have LINE characters
+    at most. Comments (#) and empty lines are passed over; anything else before the first section is no IceStorm file."""
     head, rows = None, []
     for line in lines:
         words = line.split()

@@ -3,12 +3,11 @@ ghost use mathlib.Core.Path.{_≡_};
 ghost use Prim.Native.Nat.{_<_};
 ghost use lib.ListN.{length};
 ghost use Rattle.routing.specs.LogicTile.{logicTile};
-ghost use Rattle.routing.specs.Table.{groupCount};
 ghost use Rattle.routing.specs.Rules.{TableRules};
 ghost use Rattle.routing.specs.Slots.{Owned, slotsOf, slotCount};
 ghost use Rattle.ports.specs.Lengths.{tileNumbers};
 ghost use Rattle.codec.specs.Bits.{bitAt, tileOf};
-ghost use Rattle.codec.specs.Groups.{readGroup};
+ghost use Rattle.codec.specs.Groups.{GroupLent, readGroup};
 ghost use Rattle.codec.specs.Fault.{isUnlisted, carryPair, faultAt};
 use crate::bits::read_bit;
 use crate::groups::GroupRead;
@@ -26,7 +25,7 @@ const GROUPS: usize = GROUP_SLOTS + 1;
 
 // Whether a group's pattern is neither zero nor listed.
 pub fn is_unlisted(table: &[u16], g: usize, bits: &[u8]) -> bool
-    requires { ⌜ (TableRules logicTile (now table)) × (g < groupCount logicTile (now table)) × (length (now bits) ≡ tileNumbers) ⌝ }
+    requires { ⌜ GroupLent (now table) g (now bits) ⌝ }
     ensures { λ r. ⌜ r ≡ isUnlisted (readGroup logicTile (now (table .entry)) (bitAt (now (bits .entry))) g) ⌝ }
 {
     let r = read_group(table, g, bits);

@@ -1,13 +1,11 @@
 // The bits of one group of the routing table, and its setting (document 01, 'The routing table').
 ghost use mathlib.Core.Path.{_≡_};
 ghost use Prim.Native.Nat.{ℕ, _<_, _≤_};
-ghost use lib.ListN.{length};
 ghost use Rattle.routing.specs.LogicTile.{logicTile};
 ghost use Rattle.routing.specs.Table.{groupCount, widthOf, positionAt, entryCount};
 ghost use Rattle.routing.specs.Rules.{TableRules};
-ghost use Rattle.ports.specs.Lengths.{tileNumbers};
 ghost use Rattle.codec.specs.Bits.{setBits, bitAt};
-ghost use Rattle.codec.specs.Groups.{groupBit, groupPattern, settingOfPattern, readGroup, patternOf};
+ghost use Rattle.codec.specs.Groups.{GroupLent, groupBit, groupPattern, settingOfPattern, readGroup, patternOf};
 use crate::bits::read_bit;
 use crate::bits::write_clear_bit;
 
@@ -19,7 +17,7 @@ pub enum GroupRead {
 
 // The pattern that a group's bits have, the first position with weight 1.
 pub fn read_pattern(table: &[u16], g: usize, bits: &[u8]) -> u16
-    requires { ⌜ (TableRules logicTile (now table)) × (g < groupCount logicTile (now table)) × (length (now bits) ≡ tileNumbers) ⌝ }
+    requires { ⌜ GroupLent (now table) g (now bits) ⌝ }
     ensures { λ r. ⌜ r ≡ groupPattern logicTile (now (table .entry)) (bitAt (now (bits .entry))) g ⌝ }
 {
     let n = routing::table::width(table, g);
@@ -52,7 +50,7 @@ pub fn setting_of(table: &[u16], g: usize, pattern: u16) -> GroupRead
 
 // The setting that a group's bits give.
 pub fn read_group(table: &[u16], g: usize, bits: &[u8]) -> GroupRead
-    requires { ⌜ (TableRules logicTile (now table)) × (g < groupCount logicTile (now table)) × (length (now bits) ≡ tileNumbers) ⌝ }
+    requires { ⌜ GroupLent (now table) g (now bits) ⌝ }
     ensures { λ r. ⌜ r ≡ readGroup logicTile (now (table .entry)) (bitAt (now (bits .entry))) g ⌝ }
 {
     let pattern = read_pattern(table, g, bits);
@@ -61,7 +59,7 @@ pub fn read_group(table: &[u16], g: usize, bits: &[u8]) -> GroupRead
 
 // A pattern written to a group's positions, which are clear, the first with weight 1.
 pub fn write_pattern(table: &[u16], g: usize, bits: &mut [u8], pattern: u16)
-    requires { ⌜ (TableRules logicTile (now table)) × (g < groupCount logicTile (now table)) × (length (now bits) ≡ tileNumbers) ×
+    requires { ⌜ (GroupLent (now table) g (now bits)) ×
         ((k : ℕ) → k < widthOf logicTile (now table) g → groupBit logicTile (now table) (bitAt (now bits)) g k ≡ 0) ⌝ }
     ensures { λ r. ⌜ now (bits .exit) ≡ setBits (now (bits .entry)) (positionAt logicTile (now (table .entry)) g) pattern
         (widthOf logicTile (now (table .entry)) g) ⌝ }
@@ -77,7 +75,7 @@ pub fn write_pattern(table: &[u16], g: usize, bits: &mut [u8], pattern: u16)
 
 // A group's setting written where all its bits are clear, so that a group that is off takes no time.
 pub fn write_group(table: &[u16], g: usize, bits: &mut [u8], setting: u16)
-    requires { ⌜ (TableRules logicTile (now table)) × (g < groupCount logicTile (now table)) × (length (now bits) ≡ tileNumbers) ×
+    requires { ⌜ (GroupLent (now table) g (now bits)) ×
         (setting ≤ entryCount logicTile (now table) g) × ((k : ℕ) → k < widthOf logicTile (now table) g → groupBit logicTile
         (now table) (bitAt (now bits)) g k ≡ 0) ⌝ }
     ensures { λ r. ⌜ now (bits .exit) ≡ setBits (now (bits .entry)) (positionAt logicTile (now (table .entry)) g)

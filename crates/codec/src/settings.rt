@@ -4,12 +4,11 @@ ghost use mathlib.Core.Path.{_≡_};
 ghost use Prim.Native.Nat.{_<_};
 ghost use lib.ListN.{length};
 ghost use Rattle.routing.specs.LogicTile.{logicTile};
-ghost use Rattle.routing.specs.Table.{groupCount};
 ghost use Rattle.routing.specs.Rules.{TableRules};
 ghost use Rattle.ports.specs.Lengths.{tileNumbers, settingsLength};
 ghost use Rattle.codec.specs.Bits.{bitAt};
 ghost use Rattle.codec.specs.Settings.{groupsFrom};
-ghost use Rattle.codec.specs.Groups.{readGroup};
+ghost use Rattle.codec.specs.Groups.{GroupLent, readGroup};
 ghost use Rattle.codec.specs.Decode.{settingNumber, settingAt};
 ghost use Rattle.codec.specs.Limits.{limitAt, limitsOf, bothCarries};
 use crate::bits::read_bit;
@@ -28,7 +27,7 @@ pub const GROUPS_FROM: usize = PASSIVES_FROM + MAX_PASSIVES;
 
 // A group's setting.
 pub fn group_setting(table: &[u16], g: usize, bits: &[u8]) -> u16
-    requires { ⌜ (TableRules logicTile (now table)) × (g < groupCount logicTile (now table)) × (length (now bits) ≡ tileNumbers) ⌝ }
+    requires { ⌜ GroupLent (now table) g (now bits) ⌝ }
     ensures { λ r. ⌜ r ≡ settingNumber (readGroup logicTile (now (table .entry)) (bitAt (now (bits .entry))) g) ⌝ }
 {
     let r = read_group(table, g, bits);

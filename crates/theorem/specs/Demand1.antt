@@ -21,8 +21,11 @@ use Rattle.block.specs.Building.{builtNumber, builtValue}
 use Rattle.block.specs.Drivers.{followedNumber, followedValue}
 use Rattle.sim.specs.declared.lengths.StepRoomLent.{StepRoomLent}
 use Rattle.sim.specs.Lengths.{inputsLent, stepLent}
+use Rattle.asc.specs.Area.{areaAt}
+use Rattle.asc.specs.Answers as files
 use Rattle.theorem.specs.Calls.{built, followed, stepped, settingsRead}
 use Rattle.theorem.specs.EntryGrounds.{WireGrounds, LookupGrounds, CountGrounds, ReadGrounds, WriteGrounds}
+use Rattle.theorem.specs.FileGrounds.{FileReadGrounds, FileLengthGrounds, FileWriteGrounds}
 use Rattle.theorem.specs.BlockGrounds.{BuildGrounds, FollowGrounds, StepGrounds}
 
 pub record Demand1 : Type 0 where
@@ -37,6 +40,14 @@ pub record Demand1 : Type 0 where
   pub write : (S : Size) (table settings bits : List ℕ)
       → WriteGrounds S table settings bits (answerNumber (writeAnswer S table settings (length bits)))
       (answerValue (writeAnswer S table settings (length bits)))
+  pub file-read : (S : Size) (x y : ℕ) (text bits : List ℕ)
+      → FileReadGrounds (areaAt S x y) text bits (answerNumber (files.readAnswer (areaAt S x y) text (length bits)))
+      (answerValue (files.readAnswer (areaAt S x y) text (length bits)))
+  pub file-length : (S : Size) (x y : ℕ)
+      → FileLengthGrounds (areaAt S x y) (files.lengthNumber (files.lengthAnswer (areaAt S x y))) (files.lengthValue (files.lengthAnswer (areaAt S x y)))
+  pub file-write : (S : Size) (x y : ℕ) (bits text : List ℕ)
+      → FileWriteGrounds (areaAt S x y) bits text (answerNumber (files.writeAnswer (areaAt S x y) (length bits) (length text)))
+      (answerValue (files.writeAnswer (areaAt S x y) (length bits) (length text)))
   pub build : (B : Block) (table bits settings : List ℕ) (room : RoomLent)
       → BuildGrounds B table bits (settingsRead B table bits) (buildLent table bits settings room)
       (builtNumber (built B table bits settings room)) (builtValue (built B table bits settings room))

@@ -47,10 +47,12 @@ write-group-requires c κs =
     let at-start = c .before .before .before .before .before .before .before .before in
     let at-group-count = c .before .before .before .before in
     let at-loop = c .before .before .before in (
-      at-start .pre .0 .rules,
-      (let q : at-loop .loop .g < groupCount logicTile (at-start .args .table .now) = omega
-          (arith, at-group-count .group-count .ensures) in q),
-      at-loop .loop .inv .1 .long,
+      (
+        at-start .pre .0 .rules,
+        (let q : at-loop .loop .g < groupCount logicTile (at-start .args .table .now) = omega
+            (arith, at-group-count .group-count .ensures) in q),
+        at-loop .loop .inv .1 .long,
+      ),
       fit-group (at-start .args .table .now)
           (at-start .args .settings .now) (at-start .pre .0 .fit) (at-loop .loop .g)
           (omega (arith, at-group-count .group-count .ensures, at-start .pre .0 .rules .few-groups))

@@ -18,7 +18,7 @@ returns c =
     sym (ap (λ (s : ℕ). setBits (at-start .args .bits .now) (positionAt logicTile (at-start .args .table .now) (at-start .args .g))
     (patternOf logicTile (at-start .args .table .now) (at-start .args .g) s) (widthOf logicTile (at-start .args .table .now) (at-start .args .g)))
     (c .if1 .taken) ∙ set-bits-clear (at-start .args .bits .now) (positionAt logicTile (at-start .args .table .now) (at-start .args .g))
-    (widthOf logicTile (at-start .args .table .now) (at-start .args .g)) (at-start .pre .4))
+    (widthOf logicTile (at-start .args .table .now) (at-start .args .g)) (at-start .pre .2))
 
 sub-pattern : tie.Need-sub-pattern
 sub-pattern c = search needs
@@ -26,10 +26,10 @@ sub-pattern c = search needs
 pattern-requires : tie.Need-pattern-requires
 pattern-requires c κs =
     let at-start = c .before .before .before in (
-      at-start .pre .0 .long,
-      omega (arith, at-start .pre .0 .few-groups),
+      at-start .pre .0 .0 .long,
+      omega (arith, at-start .pre .0 .0 .few-groups),
       omega
-          (arith, at-start .pre .0 .groups (at-start .args .g) (at-start .pre .1) .few-entries),
+          (arith, at-start .pre .0 .0 .groups (at-start .args .g) (at-start .pre .0 .1) .few-entries),
     )
 
 write-pattern-requires : tie.Need-write-pattern-requires

@@ -23,7 +23,7 @@ abbrev μ-loop : tie.MeasureT-loop
 μ-loop table g bits₀ pattern n k₀ bits k = n - k
 
 width-requires : tie.Need-width-requires Inv-loop μ-loop
-width-requires c κs = let at-start = c .before .before in (at-start .pre .0 .long, omega (arith, at-start .pre .0 .few-groups))
+width-requires c κs = let at-start = c .before .before in (at-start .pre .0 .0 .long, omega (arith, at-start .pre .0 .0 .few-groups))
 
 loop-holds : tie.Need-loop-holds Inv-loop μ-loop
 unfolding setBits
@@ -33,23 +33,23 @@ position-requires : tie.Need-position-requires Inv-loop μ-loop
 position-requires c κs =
     let at-start = c .before .before .before .before .before in
     let at-width = c .before .before in (
-      at-start .pre .0 .long,
-      omega (arith, at-start .pre .0 .few-groups),
+      at-start .pre .0 .0 .long,
+      omega (arith, at-start .pre .0 .0 .few-groups),
       omega
-          (arith, at-width .width .ensures, at-start .pre .0 .groups (at-start .args .g) (at-start .pre .1) .few-positions),
+          (arith, at-width .width .ensures, at-start .pre .0 .0 .groups (at-start .args .g) (at-start .pre .0 .1) .few-positions),
     )
 
 cast-write-clear-bit : tie.Need-cast-write-clear-bit Inv-loop μ-loop
 cast-write-clear-bit c =
     let at-start = c .before .before .before .before .before .before .before in
     let at-width = c .before .before .before .before in
-    omega (arith, at-width .width .ensures, at-start .pre .0 .groups (at-start .args .g) (at-start .pre .1) .few-positions)
+    omega (arith, at-width .width .ensures, at-start .pre .0 .0 .groups (at-start .args .g) (at-start .pre .0 .1) .few-positions)
 
 shr-write-clear-bit : tie.Need-shr-write-clear-bit Inv-loop μ-loop
 shr-write-clear-bit c =
     let at-start = c .before .before .before .before .before .before .before in
     let at-width = c .before .before .before .before in
-    omega (arith, at-width .width .ensures, at-start .pre .0 .groups (at-start .args .g) (at-start .pre .1) .few-positions)
+    omega (arith, at-width .width .ensures, at-start .pre .0 .0 .groups (at-start .args .g) (at-start .pre .0 .1) .few-positions)
 
 cast-write-clear-bit-2 : tie.Need-cast-write-clear-bit-2 Inv-loop μ-loop
 cast-write-clear-bit-2 c =
@@ -63,15 +63,15 @@ write-clear-bit-requires c κs =
     let at-width = c .before .before .before .before in
     let at-loop = c .before .before .before in (
       position-within (subst (λ (x : ℕ). x < 864) (sym (c .before .position .ensures))
-          (group-position-lt (at-start .args .table .now) (at-start .pre .0) (at-start .args .g) (at-loop .loop .k) (at-start .pre .1)
+          (group-position-lt (at-start .args .table .now) (at-start .pre .0 .0) (at-start .args .g) (at-loop .loop .k) (at-start .pre .0 .1)
           (omega (arith, at-width .width .ensures)))) (at-loop .loop .inv .1),
       omega (arith, and-one (at-start .args .pattern / 2 ^ at-loop .loop .k)),
       set-bits-next (at-start .args .bits .now) (positionAt logicTile (at-start .args .table .now) (at-start .args .g)) (at-start .args .pattern)
           (at-loop .loop .k) _ (at-loop .loop .bits) (at-loop .loop .inv .2) (c .before .position .ensures)
-          (at-start .pre .3 (at-loop .loop .k) (omega (arith, at-width .width .ensures)))
+          (at-start .pre .1 (at-loop .loop .k) (omega (arith, at-width .width .ensures)))
           (λ j l e. omega (
             arith,
-            group-position-once (at-start .args .table .now) (at-start .pre .0) (at-start .args .g) (at-loop .loop .k) j (at-start .pre .1)
+            group-position-once (at-start .args .table .now) (at-start .pre .0 .0) (at-start .args .g) (at-loop .loop .k) j (at-start .pre .0 .1)
                 (omega (arith, at-width .width .ensures)) (omega (arith, at-width .width .ensures)) e,
           )),
     )
@@ -96,7 +96,7 @@ loop-again c =
     )
 
 same-length : tie.Need-same-length Inv-loop μ-loop
-same-length c = let at-start = c .before .before .before .before .before in c .before .loop .inv .1 ∙ sym (at-start .pre .2)
+same-length c = let at-start = c .before .before .before .before .before in c .before .loop .inv .1 ∙ sym (at-start .pre .0 .2)
 
 returns : tie.Need-returns Inv-loop μ-loop
 returns c =

@@ -1,7 +1,7 @@
--- The line from a position up to the next line feed (`LineTo`). Main laws: `line-to`, `none-left`, `line-plain`, `line-split`, `front-more`.
+-- The line from a position up to the next line feed (`LineTo`). Main laws: `line-to`, `none-left`, `line-plain`, `line-split`, `front-more`, `first-turn-skip-four`.
 use Prim.Native.Nat.{ℕ, zero, suc, _+_, _-_, _<_, _≤_}
-use mathlib.Core.Path.{_≡_, sym, ap, ap₂, _∙_}
-use mathlib.Core.Bool.{Bool}
+use mathlib.Core.Path.{_≡_, sym, ap, ap₂, _∙_, subst}
+use mathlib.Core.Bool.{Bool, false}
 use mathlib.Core.Logic.{⊎-elim, _≢_}
 use mathlib.Core.List.{List, [], _∷_, _++_}
 use native.Mathlib.Omega.{arith}
@@ -11,7 +11,7 @@ use lib.ListN.{length, take, drop, getD, length-drop, take-append-drop}
 use lib.Seq.{length-take-le, take-add, take-append-add, drop-drop, drop-cons, getD-take, getD-drop}
 use Rattle.lists.specs.Search.{first}
 use Rattle.lists.proofs.CaseLaws.{cases}
-use Rattle.lists.proofs.SearchLaws.{first-le, first-true, first-before}
+use Rattle.lists.proofs.SearchLaws.{first-le, first-true, first-before, first-turn-skip}
 use Rattle.texts.specs.Lines.{Plain}
 
 -- ---- where a line ends
@@ -81,3 +81,16 @@ module _ (s : List ℕ) (at end : ℕ) (l : LineTo s at end) where
       ap (λ (k : ℕ). take k s) q ∙ take-add at (end - at + 1) s
       ∙ ap (λ (x : List ℕ). take at s ++ x)
       (ap₂ (λ (k : ℕ) (x : List ℕ). take (k + 1) x) (sym line-length) line-split ∙ take-append-add (lineFrom s at end) (10 ∷ drop (suc end) s) 1)
+
+-- ---- a search that takes four bytes a turn
+
+module _ (p : ℕ → Bool) (i n x : ℕ) (inv : first p i (n - i) ≡ x) where
+  step-to : (j k : ℕ) → j + 1 ≡ k → first p j (n - j) ≡ x → j < n → p j ≡ false → first p k (n - k) ≡ x
+  step-to j k e before h q = subst (λ (m : ℕ). first p m (n - m) ≡ x) e (first-turn-skip p j n x before h q)
+
+  pub first-turn-skip-four : 4 ≤ n - i → p i ≡ false → p (i + 1) ≡ false → p (i + 2) ≡ false → p (i + 3) ≡ false → first p (i + 4) (n - (i + 4)) ≡ x
+  first-turn-skip-four h a b c d =
+      let one = first-turn-skip p i n x inv (omega arith) a in
+      let two = step-to (i + 1) (i + 2) (omega arith) one (omega arith) b in
+      let three = step-to (i + 2) (i + 3) (omega arith) two (omega arith) c in
+      step-to (i + 3) (i + 4) (omega arith) three (omega arith) d

@@ -15,6 +15,17 @@ pub fn line_end(text: &[u8], at: usize) -> usize
     ensures { λ r. ⌜ r ≡ first (λ k. eqb (getD (now (text .entry)) k 0) 10) at (length (now (text .entry)) - at) ⌝ }
 {
     let mut k = at;
+    // four bytes a turn, while none of them is a line feed: most of a file is read here
+    while text.len() - k >= 4 {
+        if text[k] == LINE_END
+            || text[k + 1] == LINE_END
+            || text[k + 2] == LINE_END
+            || text[k + 3] == LINE_END
+        {
+            break;
+        }
+        k += 4;
+    }
     while k < text.len() {
         if text[k] == LINE_END {
             return k;

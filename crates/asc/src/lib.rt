@@ -58,7 +58,8 @@ fn read_into(
     given: &mut [u8],
     content: &mut [u8],
 ) -> Answer
-    requires { ⌜ (sized (area w h x y) ≡ true) × (length (now bits) ≡ tileNumbers * tilesOf (area w h x y)) × (length (now given) ≡ tilesOf (area w h x y)) × (length (now content) ≡ positions * tilesOf (area w h x y)) ⌝ }
+    requires { ⌜ (sized (area w h x y) ≡ true) × (length (now bits) ≡ tileNumbers * tilesOf (area w h x y)) ×
+        (length (now given) ≡ tilesOf (area w h x y)) × (length (now content) ≡ positions * tilesOf (area w h x y)) ⌝ }
     ensures { λ r. ⌜ AscSays (area w h x y) (now (text .entry)) (now (bits .entry)) (now (bits .exit)) r ⌝ }
 {
     let scanned = scan::scan(w, h, x, y, text, given, content);

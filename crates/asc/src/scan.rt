@@ -56,7 +56,8 @@ pub fn scan(
     given: &mut [u8],
     content: &mut [u8],
 ) -> Scanned
-    requires { ⌜ (sized (area w h x y) ≡ true) × (length (now given) ≡ tilesOf (area w h x y)) × (length (now content) ≡ positions * tilesOf (area w h x y)) ⌝ }
+    requires { ⌜ (sized (area w h x y) ≡ true) × (length (now given) ≡ tilesOf (area w h x y)) ×
+        (length (now content) ≡ positions * tilesOf (area w h x y)) ⌝ }
     ensures { λ r. ⌜ ScanSays (area w h x y) (now (text .entry)) r (now (content .exit)) ⌝ }
 {
     lists::clear_bytes(given);

@@ -32,7 +32,8 @@ pub enum Turned {
 // A line where a row is due.
 fn row(line: &[u8], s: Scan, content: &mut [u8]) -> Turned
     requires { ⌜ (0 < s .left) × (s .place + columns ≤ length (now content)) ⌝ }
-    ensures { λ r. ⌜ ((g : List ℕ) → rowNext (s .device) (s .skipping) (s .left - 1) (s .place) g (now (content .entry)) (now (line .entry)) ≡ turnedTo r g (now (content .exit))) ⌝ }
+    ensures { λ r. ⌜ ((g : List ℕ) → rowNext (s .device) (s .skipping) (s .left - 1) (s .place) g (now (content .entry))
+        (now (line .entry)) ≡ turnedTo r g (now (content .exit))) ⌝ }
 {
     if !lines::is_row(line) {
         return Turned::Fault;
@@ -79,7 +80,8 @@ fn skipping(s: Scan) -> Turned
 // The line of the tile at tx, ty.
 fn tile(w: u32, h: u32, x: u32, y: u32, tx: u32, ty: u32, s: Scan, given: &mut [u8]) -> Turned
     requires { ⌜ (sized (area w h x y) ≡ true) × (length (now given) ≡ tilesOf (area w h x y)) ⌝ }
-    ensures { λ r. ⌜ ((c : List ℕ) → tileNext (area w h x y) (s .device) (s .skipping) (s .place) (now (given .entry)) c tx ty ≡ turnedTo r (now (given .exit)) c) ⌝ }
+    ensures { λ r. ⌜ ((c : List ℕ) → tileNext (area w h x y) (s .device) (s .skipping) (s .place) (now (given .entry)) c tx ty ≡
+        turnedTo r (now (given .exit)) c) ⌝ }
 {
     if !is_inside(w, h, x, y, tx, ty) {
         return skipping(s);
@@ -119,7 +121,8 @@ fn device(line: &[u8], s: Scan) -> Turned
 // A line whose first byte is a dot, where a dot line may stand.
 fn dot(w: u32, h: u32, x: u32, y: u32, line: &[u8], s: Scan, given: &mut [u8]) -> Turned
     requires { ⌜ (sized (area w h x y) ≡ true) × (length (now given) ≡ tilesOf (area w h x y)) ⌝ }
-    ensures { λ r. ⌜ ((c : List ℕ) → dotNext (area w h x y) (s .device) (s .skipping) (s .place) (now (given .entry)) c (now (line .entry)) ≡ turnedTo r (now (given .exit)) c) ⌝ }
+    ensures { λ r. ⌜ ((c : List ℕ) → dotNext (area w h x y) (s .device) (s .skipping) (s .place) (now (given .entry)) c
+        (now (line .entry)) ≡ turnedTo r (now (given .exit)) c) ⌝ }
 {
     let n = word_length(line);
     let device_word = *b".device";
@@ -152,8 +155,10 @@ pub fn turn(
     given: &mut [u8],
     content: &mut [u8],
 ) -> Turned
-    requires { ⌜ (sized (area w h x y) ≡ true) × (length (now given) ≡ tilesOf (area w h x y)) × (s .place + columns * s .left ≤ length (now content)) ⌝ }
-    ensures { λ r. ⌜ nextOf (area w h x y) (stageOf s (now (given .entry)) (now (content .entry))) (now (line .entry)) ≡ turnedTo r (now (given .exit)) (now (content .exit)) ⌝ }
+    requires { ⌜ (sized (area w h x y) ≡ true) × (length (now given) ≡ tilesOf (area w h x y)) ×
+        (s .place + columns * s .left ≤ length (now content)) ⌝ }
+    ensures { λ r. ⌜ nextOf (area w h x y) (stageOf s (now (given .entry)) (now (content .entry))) (now (line .entry)) ≡ turnedTo r
+        (now (given .exit)) (now (content .exit)) ⌝ }
 {
     if line.len() == 0 {
         return Turned::Goes(s);

@@ -92,7 +92,9 @@ fn put_head(w: u32, h: u32, x: u32, y: u32, t: u32, out: &mut [u8], at: usize) -
 
 // The line and the rows of tile t.
 fn put_tile(w: u32, h: u32, x: u32, y: u32, t: u32, bits: &[u8], out: &mut [u8], at: usize) -> usize
-    requires { ⌜ (sized (area w h x y) ≡ true) × (t < tilesOf (area w h x y)) × (length (now bits) ≡ tileNumbers * tilesOf (area w h x y)) × (at + length (tileText (area w h x y) (now bits) t) ≤ length (now out)) ⌝ }
+    requires { ⌜ (sized (area w h x y) ≡ true) × (t < tilesOf (area w h x y)) ×
+        (length (now bits) ≡ tileNumbers * tilesOf (area w h x y)) × (at + length (tileText (area w h x y) (now bits) t) ≤ length
+        (now out)) ⌝ }
     ensures next { λ r. ⌜ r ≡ at + length (tileText (area w h x y) (now (bits .entry)) t) ⌝ }
     ensures out { λ r. ⌜ now (out .exit) ≡ placed at (tileText (area w h x y) (now (bits .entry)) t) (now (out .entry)) ⌝ }
 {
@@ -102,7 +104,8 @@ fn put_tile(w: u32, h: u32, x: u32, y: u32, t: u32, bits: &[u8], out: &mut [u8],
 
 // The whole file, in a room of its length.
 pub fn put_file(w: u32, h: u32, x: u32, y: u32, bits: &[u8], text: &mut [u8])
-    requires { ⌜ (sized (area w h x y) ≡ true) × (length (now bits) ≡ tileNumbers * tilesOf (area w h x y)) × (length (now text) ≡ textLength (area w h x y)) ⌝ }
+    requires { ⌜ (sized (area w h x y) ≡ true) × (length (now bits) ≡ tileNumbers * tilesOf (area w h x y)) ×
+        (length (now text) ≡ textLength (area w h x y)) ⌝ }
     ensures { λ r. ⌜ now (text .exit) ≡ written (area w h x y) (now (bits .entry)) ⌝ }
 {
     let device = *b".device 1k\n";

@@ -1,5 +1,6 @@
 // The report program once more, from Rust and for blocks up to 8 by 8: reads the frames of an input (01 to 05) and prints the report's own
-// lines, for tools/explain.py. Exit status: 0 a yes, 1 a no, 2 it could not be told.
+// lines, for tools/explain.py. Exit status: 0 a yes, 1 a no, 2 it could not be told. A standard output that is closed goes unseen: Rust's
+// runtime opens /dev/null in its place before main; a full disk is told.
 //
 //     make && rustc -O examples/build.rs -L target/staticlib -l static=capi -o target/build_rs
 //     target/build_rs block.frames | tools/explain.py --input block.frames

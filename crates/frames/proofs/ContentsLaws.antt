@@ -1,5 +1,5 @@
 -- The numbers of `tableOf` by place, and what stands at each place of a group. Main laws: `table-head`, `table-group`, `passive-number`,
--- `position-number`, `pattern-number`, `source-number`; `flat-joined`.
+-- `position-number`, `pattern-number`, `source-number`; `flat-joined`; `table-long`, `bits-long`.
 use Prim.Native.Nat.{ℕ, zero, suc, _+_, _-_, _*_, _/_, _%_, _<_, _≤_}
 use mathlib.Core.Path.{_≡_, refl, sym, ap, ap₂, _∙_}
 use mathlib.Core.Bool.{Bool, true, false, cond}
@@ -8,17 +8,18 @@ use native.Mathlib.Omega.{arith}
 use native.Mathlib.Nat.{zero-add}
 use borrow.Author.Tests.{lt-ltb, le-ltb, eq-eqb, ne-eqb}
 use lib.Dec.{ltb}
-use lib.ListN.{length, getD, drop, List·getD-append}
+use lib.ListN.{length, getD, drop, length-append, List·getD-append}
 use lib.Seq.{getD-append-add, getD-take, getD-drop}
 use Rattle.lists.specs.Tables.{tabulate, zeros}
 use Rattle.lists.specs.Parts.{joined}
 use Rattle.lists.proofs.TableLaws.{tabulate-length, tabulate-zero, zeros-length}
-use Rattle.lists.proofs.PartLaws.{part-joined}
+use Rattle.lists.proofs.PartLaws.{joined-length, part-joined}
+use Rattle.ports.specs.Lengths.{tileBytes, tableLength}
 use Rattle.texts.specs.Each.{each}
 use Rattle.texts.specs.Hex.{pairAt, quadAt}
 use Rattle.frames.specs.Lines.{passiveCount, positionCount, entryCount}
-use Rattle.frames.specs.Input.{groupAt, groupCount}
-use Rattle.frames.specs.Contents.{headNumber, entryNumber, groupNumber, groupNumbers, tableOf}
+use Rattle.frames.specs.Input.{groupAt, groupCount, tileAt}
+use Rattle.frames.specs.Contents.{headNumber, entryNumber, groupNumber, groupNumbers, tableOf, bytesOfTile, bitsOf}
 use Rattle.texts.proofs.EachLaws.{each-append, tabulate-last}
 use Rattle.frames.proofs.BoundLaws.{group-count-le}
 
@@ -50,6 +51,17 @@ module _ (s : List ℕ) where
       ∙ sym (getD-drop (75 * g) (joined (groupNumbers s) 512) k 0) ∙ sym (getD-take 75 (drop (75 * g) (joined (groupNumbers s) 512)) k 0 lk)
       ∙ ap (λ (l : List ℕ). getD l k 0) (part-joined 75 (groupNumbers s) 512 g (omega arith) (λ j _. numbers-length j))
       ∙ rw (lt-ltb g (groupCount s) lg) (tabulate-zero (groupNumber s (groupAt s g)) 0 75 k lk)
+
+  -- as long as building asks
+  pub table-long : length (tableOf s) ≡ tableLength
+  unfolding tableOf
+  table-long =
+      length-append (tabulate (headNumber s) 0 69) (joined (groupNumbers s) 512)
+      ∙ ap₂ _+_ head-length (joined-length 75 (groupNumbers s) 512 (λ j _. numbers-length j))
+
+  pub bits-long : (n : ℕ) → length (bitsOf s n) ≡ tileBytes * n
+  unfolding bitsOf
+  bits-long n = joined-length tileBytes (bytesOfTile s) n (λ j _. tabulate-length (λ (k : ℕ). pairAt s (tileAt s j + 2 + 2 * k)) 0 tileBytes)
 
   pub passive-number : (k : ℕ) → k < 64 → k < passiveCount s → headNumber s (4 + k) ≡ quadAt s (19 + 4 * k)
   unfolding headNumber

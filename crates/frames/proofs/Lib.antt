@@ -7,7 +7,7 @@ pub mod FrameTestLaws  -- fields-, passives-, group-, size-, tile-passes: where 
 pub mod TurnLaws  -- begins-groups, begins-size, begins-tiles: the lines that are in order; begins-text: they are the beginning of the input
 pub mod StuckLaws  -- stuck-..: where a test of Lines fails no frame that is due stands there
 pub mod SmallLaws  -- small-of, small-passes: the test of W and H; small-due: at most nine tiles
-pub mod ContentsLaws  -- table-head, table-group: the numbers of tableOf by place; position-number, pattern-number, source-number
+pub mod ContentsLaws  -- table-head, table-group: the numbers of tableOf by place; position-number, pattern-number, source-number; table-long, bits-long: the exact lengths
 pub mod WholeLaws  -- inputRead: the input that was read; table-holds, bits-flat: table and bits hold what its frames say
 pub mod MeaningLaws  -- parsed-says: every answer says what specs/Meaning.antt has it say
 pub mod AgreeLaws  -- Agree: two inputs with one beginning; pair-same, line-same, group-same: a test that looks there says the same of both

@@ -14,6 +14,8 @@ use Rattle.theorem.proofs.EntryOrder.{wire-number-order, lookup-order, 
 use Rattle.theorem.proofs.FileOrder.{file-read-order, file-length-order, file-write-order}
 use Rattle.theorem.proofs.BlockOrder.{build-order, follow-order}
 use Rattle.theorem.proofs.StepOrder.{step-order}
+use Rattle.theorem.proofs.ParseOrder.{parse-order}
+use Rattle.theorem.proofs.ReportOrder.{report-order}
 
 room-untouched : (number : ℕ) → (number ≡ 1) ⊎ (number ≡ 2) → (old : List ℕ) → workRoom number old ≡ old
 room-untouched number (inl e) old = rw e
@@ -35,6 +37,8 @@ demand1 = record {
   build = build-order;
   follow = follow-order;
   step = step-order;
+  parse = parse-order;
+  report = report-order;
   outputs-kept = λ refusal old new. output-refused old new refusal;
   room-untouched = room-untouched;
   room-zeroed = room-zeroed;

@@ -4,6 +4,8 @@ pub mod EntryOrder  -- the grounds of wire_number, lookup, bit_count, read and w
 pub mod FileOrder  -- those of reading, measuring and writing an ASCII file
 pub mod BlockOrder  -- those of build and follow
 pub mod StepOrder  -- those of step
+pub mod ParseOrder  -- those of reading frames
+pub mod ReportOrder  -- those of a report, with the line that says them
 pub mod Demand2Laws  -- demand2: demand 2, closed
 pub mod Demand3Laws  -- demand3: demand 3, closed
 pub mod ReadingLaws  -- reads-exactly, reads-one: when `read` says yes, and that the bits read to one settings only

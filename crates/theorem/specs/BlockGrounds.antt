@@ -30,23 +30,28 @@ use Rattle.sim.specs.Meaning.{FirstAbove, Stands}
 use Rattle.theorem.specs.Order.{Check, Yes, at, at0}
 use Rattle.theorem.specs.EntryGrounds.{AllDecodable, AllHaveBits}
 
--- grounds 5 to 8, of settings that were read; a yes has the number of wires
-abbrev pub ListGrounds : Block → (table settings : List ℕ) → ℕ → ℕ → Type 0
-ListGrounds B t st =
+-- grounds 5 to 8, of settings that were read; `says` is what comes with a yes
+abbrev pub ListGrounds : Block → (table settings : List ℕ) → (says : ℕ → Type 0) → ℕ → ℕ → Type 0
+ListGrounds B t st says =
     Check 5 (NoContention B t st) (LowestContention B t st)
     (Check 6 (NoDisabledCarry B t st) (LowestDisabledCarry B t st)
     (Check 7 (NoLoop B t st) (LowestLooped B t st)
     (Check 8 (NoCellClock B t st) (LowestFromCell B t st)
-    (Yes (at (wires B))))))
+    (Yes says))))
 
--- "building 1 to 8"; `settings` is what the bits read to
+-- grounds 3 to 8, of what has the exact lengths; `settings` is what the bits read to
+abbrev pub BitsGrounds : Block → (table bits settings : List ℕ) → (says : ℕ → Type 0) → ℕ → ℕ → Type 0
+BitsGrounds B t bits settings says =
+    Check 3 (TableRules logicTile t) (FirstBroken logicTile t)
+    (Check 4 (AllDecodable t bits (tiles B)) (LowestUndecodable t (tilesOf bits) (tiles B))
+    (ListGrounds B t settings says))
+
+-- "building 1 to 8"; a yes has the number of wires
 abbrev pub BuildGrounds : Block → (table bits settings : List ℕ) → BuildLent → ℕ → ℕ → Type 0
 BuildGrounds B t bits settings lent =
     Check 1 (Sized B) at0
     (Check 2 (BuildLong B lent) at0
-    (Check 3 (TableRules logicTile t) (FirstBroken logicTile t)
-    (Check 4 (AllDecodable t bits (tiles B)) (LowestUndecodable t (tilesOf bits) (tiles B))
-    (ListGrounds B t settings))))
+    (BitsGrounds B t bits settings (at (wires B))))
 
 -- "following a driver 1, 2, 3, 9, 5, 20", place "that number, a tile's first"; a yes has the wire where it ends
 abbrev pub FollowGrounds : Block → (table settings : List ℕ) → (tile port : ℕ) → FollowLent → ℕ → ℕ → Type 0

@@ -23,10 +23,13 @@ use Rattle.sim.specs.declared.lengths.StepRoomLent.{StepRoomLent}
 use Rattle.sim.specs.Lengths.{inputsLent, stepLent}
 use Rattle.asc.specs.Area.{areaAt}
 use Rattle.asc.specs.Answers as files
+use Rattle.frames.specs.Input.{parsed, parsedNumber, parsedPlace}
+use Rattle.reporting.specs.Report.{reportOf}
 use Rattle.theorem.specs.Calls.{built, followed, stepped, settingsRead}
 use Rattle.theorem.specs.EntryGrounds.{WireGrounds, LookupGrounds, CountGrounds, ReadGrounds, WriteGrounds}
 use Rattle.theorem.specs.FileGrounds.{FileReadGrounds, FileLengthGrounds, FileWriteGrounds}
 use Rattle.theorem.specs.BlockGrounds.{BuildGrounds, FollowGrounds, StepGrounds}
+use Rattle.theorem.specs.ReportGrounds.{ParseGrounds, ReportSays}
 
 pub record Demand1 : Type 0 where
   -- "It refuses only on the grounds numbered in document 01 [..], in the orders given there": each call's table of grounds, over the number of its answer
@@ -57,6 +60,9 @@ pub record Demand1 : Type 0 where
   pub step : (B : Block) (table settings list state before after : List ℕ) (room : StepRoomLent)
       → StepGrounds B table settings list state before after (stepLent (inputsLent table settings list state before after) room)
       (answerNumber (stepped B table settings list state before after room)) (answerValue (stepped B table settings list state before after room))
+  -- the same of the report program: of reading its frames, and of its report, whose last line has the number and the place
+  pub parse : (input : List ℕ) → ParseGrounds input (parsed input) (parsedNumber (parsed input)) (parsedPlace (parsed input))
+  pub report : (input : List ℕ) → ReportSays input (reportOf input)
   -- "On a refusal the outputs keep their old contents": every output's clause is `output` of the answer's number
   pub outputs-kept : (refusal : Refusal) (old new : List ℕ) → output (numberOf refusal) old new ≡ old
   -- "the work room comes back zeroed, or untouched under refusals 1 and 2": every part's clause is `workRoom` of the answer's number

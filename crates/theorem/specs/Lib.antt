@@ -6,6 +6,7 @@ pub mod Order  -- Check, Yes: a chain of checks in front of an answer, with numb
 pub mod EntryGrounds  -- the grounds of wire_number, lookup, bit_count, read and write in their orders
 pub mod FileGrounds  -- those of reading, measuring and writing an ASCII file
 pub mod BlockGrounds  -- those of build, follow and step
+pub mod ReportGrounds  -- those of the report program: parse and report
 pub mod Demand1  -- Demand1
 pub mod Demand2  -- Demand2
 pub mod Demand3  -- Demand3

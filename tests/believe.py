@@ -108,6 +108,7 @@ COMPUTED = [
     ('frames/Contents.tableOf', ['frames/Whole.Holds'], ['frames/table-holds']),
     ('frames/Contents.bitsOf', ['frames/Whole.flat'], ['frames/bits-flat']),
     ('lines/Listing.switchPart', ['reporting/Meaning.WireSays'], ['reporting/wire-says']),
+    ('reporting/Report.reportOf', ['theorem/ReportGrounds.ReportSays'], ['theorem/report-exact']),
 ]
 
 # A search over numbers is always computed: where one is reached, a definition that uses it lacks its row above.

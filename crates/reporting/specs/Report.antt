@@ -1,4 +1,5 @@
--- The report of an input: "The report program reads standard input and builds." What each answer prints.
+-- The report of an input: "The report program reads standard input and builds." What each answer prints. `report-exact` (theorem/proofs/ReportExact.antt):
+-- this report, and no other one, says what the paper has it say (`ReportSays`).
 use Prim.Native.Nat.{ℕ, _*_}
 use mathlib.Core.Bool.{true}
 use mathlib.Core.List.{List, _++_}

@@ -6,6 +6,8 @@ pub mod BlockOrder  -- those of build and follow
 pub mod StepOrder  -- those of step
 pub mod ParseOrder  -- those of reading frames
 pub mod ReportOrder  -- those of a report, with the line that says them
+pub mod OneAnswer  -- check-agrees, bits-agrees: a table of grounds fits one number and place only
+pub mod ReportExact  -- report-exact: only the report says what ReportSays has it say
 pub mod Demand2Laws  -- demand2: demand 2, closed
 pub mod Demand3Laws  -- demand3: demand 3, closed
 pub mod ReadingLaws  -- reads-exactly, reads-one: when `read` says yes, and that the bits read to one settings only

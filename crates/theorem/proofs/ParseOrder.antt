@@ -46,7 +46,8 @@ module _ (s : List ℕ) where
   }
 
   -- a block frame in its turn stands where its test looks
-  size-tested : {g n at k : ℕ} {f : Frame} → Turn (with-groups g) f (tiles-left n) → GroupsCome s g at k → Stands s at (line f) → sizeLine s (sizeAt s) ≡ true
+  size-tested : {g n at k : ℕ} {f : Frame} → Turn (with-groups g) f (tiles-left n) → GroupsCome s g at k → Stands s at (line f)
+      → sizeLine s (sizeAt s) ≡ true
   size-tested {at = at} {k} (the-size {g} {w} {h}) c p =
       size-passes s (sizeAt s) w h (subst (λ (x : ℕ). Stands s x (line (size w h))) (size-place s at k g c w h p) p)
 
@@ -111,7 +112,7 @@ module _ (s : List ℕ) where
 
   -- ---- one answer only
 
-  taken-is : (x : Taken s) → Block (x .w) (x .h) ≡ parsed s
+  pub taken-is : (x : Taken s) → Block (x .w) (x .h) ≡ parsed s
   taken-is x = parsed-exact s (Block (x .w) (x .h)) .0 (x .says)
 
   size-is : SizeSays s → Refused WrongSize ≡ parsed s

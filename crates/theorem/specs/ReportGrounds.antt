@@ -82,12 +82,12 @@ LinesGrounds {s} report x = BitsGrounds (blockTaken x) (tableOf s) (bitsTaken x)
 abbrev pub ReportGrounds : (s report : List ℕ) → ℕ → ℕ → Type 0
 ReportGrounds s report = InputGrounds s (LinesGrounds report)
 
--- what a report of the input s says
+-- what a report of the input s says: `report-exact` (proofs/ReportExact.antt) shows that no other report does
 pub record ReportSays (s report : List ℕ) : Type 0 where
   pub number : ℕ
   pub place : ℕ
   pub grounds : ReportGrounds s report number place
-  -- table and bits have the exact lengths
+  -- why 2 is not among them: table and bits have the lengths that building asks for
   pub exact : (x : Taken s) → (length (tableOf s) ≡ tableLength) × (length (bitsTaken x) ≡ bitsLength (sizeOf (blockTaken x)))
   -- "08 is number and place": the last line says them
   pub before : List ℕ

@@ -178,6 +178,19 @@ def write(w, h, table, settings):
 
 # ---- equations
 
+def depends(reads, start):
+    """Whether a chain of readings, one or more, leads from a wire back to it."""
+    seen, todo = set(), list(reads(start))
+    while todo:
+        wire = todo.pop()
+        if wire == start:
+            return True
+        if wire not in seen:
+            seen.add(wire)
+            todo += reads(wire)
+    return False
+
+
 class Block:
     """The equations of a block with settings: what each wire is, by document 01's sentences."""
 
@@ -278,16 +291,7 @@ class Block:
         return listed, [w for w in self.wires if waiting[w]], rows
 
     def lowest_loop(self, left, rows):
-        for w in left:
-            seen, todo = set(), list(self.reads(rows[w]))
-            while todo:
-                d = todo.pop()
-                if d == w:
-                    return w
-                if d not in seen:
-                    seen.add(d)
-                    todo += self.reads(rows[d])
-        return None
+        return next((w for w in left if depends(lambda wire: self.reads(rows[wire]), w)), None)
 
     def follow(self, w):
         """(kind, wire): 1 open, 2 zero, 3 one, 4 cell, 5 ring."""

@@ -290,23 +290,10 @@ def live_reads(block, wire):
     return [operand for j, operand in enumerate(block.reads(row)) if row[0] != 6 or used(row[6], j)]
 
 
-def depends(reads, start):
-    """Whether a chain of readings leads from a wire back to it."""
-    seen, todo = set(), list(reads(start))
-    while todo:
-        wire = todo.pop()
-        if wire == start:
-            return True
-        if wire not in seen:
-            seen.add(wire)
-            todo += reads(wire)
-    return False
-
-
 def lowest_live(block):
     """The lowest wire that depends on itself without ignored inputs, or None."""
     reads = {wire: live_reads(block, wire) for wire in block.wires}
-    return next((wire for wire in block.wires if depends(reads.get, wire)), None)
+    return next((wire for wire in block.wires if model.depends(reads.get, wire)), None)
 
 
 def is_loop(block, w, place, lines):
@@ -314,7 +301,7 @@ def is_loop(block, w, place, lines):
     break it."""
     cells_at = lines.index('cells on it:') if 'cells on it:' in lines else len(lines) - 1
     loop = [int(wire) for line in lines[1:cells_at] for wire in re.findall(r'^  wire (\d+) \[', line)]
-    live = depends(lambda wire: live_reads(block, wire), place)
+    live = model.depends(lambda wire: live_reads(block, wire), place)
     reads = live_reads if live else lambda block, wire: block.reads(block.row(wire))
     if not (lines[0] == 'each of these reads the next:' and loop[0] == loop[-1] == place and len(loop) > 1
             and all(b in reads(block, a) for a, b in zip(loop, loop[1:]))):

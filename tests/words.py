@@ -128,6 +128,16 @@ def in_words(text, given):
         return COULD_NOT, [str(mistake)]
 
 
+def told(text, given):
+    """As in_words, by the tool itself: its exit status and what it prints."""
+    with tempfile.TemporaryDirectory() as folder:
+        path = os.path.join(folder, 'given.in')
+        with open(path, 'w', newline='') as file:
+            file.write(given)
+        status, words, errors = run('explain', '--input', path, stdin=text)
+    return status, (words or errors).splitlines()
+
+
 def counted_blocks():
     """Blocks with one and with several of everything: lines, and the last line of explain for them."""
     flag = report.flag
@@ -142,10 +152,10 @@ def check_yes():
     for fields, words in (((), []), ((0,), ['(0,0) NegClk']), ((1,), ['(0,0) CarryInSet']), ((2,), ['(0,0) carry_in_mux <- carry_in']),
                           ((0, 1), ['(0,0) NegClk', '(0,0) CarryInSet']), ((0, 2), ['(0,0) NegClk', '(0,0) carry_in_mux <- carry_in'])):
         lines = report.whole(report.lines_of([], [[report.FIELDS[f] for f in fields]]))
-        count.same(in_words(model.report_of(lines), lines.decode())[1][:-1], words, fields)
+        count.same(told(model.report_of(lines), lines.decode())[1][:-1], words, fields)
     for lines, words in counted_blocks():
         lines = report.whole(lines)
-        count.same(in_words(model.report_of(lines), lines.decode())[1][-1], words)
+        count.same(told(model.report_of(lines), lines.decode())[1][-1], words)
     for w, h in ((1, 1), (1, 3), (2, 2), (3, 1), (3, 3), (8, 8)):
         spans = {wire for wire in leaving(w, h) if wire % 506 < 336}
         count.same(ice40.Block(w, h).leaving, spans, (w, h))
@@ -178,7 +188,7 @@ def check_two_blocks():
         settings[580] = 2
         tiles.append(model.encode(table, settings))
         block = contents(data('1k.tab')) + '040101\n05' + tiles[-1].hex().upper() + '\n'
-        status, words = in_words(model.report_of(block.encode()), block)
+        status, words = told(model.report_of(block.encode()), block)
         count.same((status, words[-2]), (YES, '1 driven wire leaves the block: switches outside that end on it are not looked at'), t)
     row = tiles[0] + bytes(108) * (far[0] - 1) + tiles[1]
     whole = model.Block(far[0] + 1, 1, table, [n for t in range(far[0] + 1) for n in model.decode(table, row[108 * t:108 * t + 108])])
@@ -394,7 +404,7 @@ def check_structure():
         given = looped(luts)
         text = model.report_of(given.encode())
         count.same(text[:4], '0807', luts)
-        status, lines = in_words(text, given)
+        status, lines = told(text, given)
         broken = [lut for lut in luts if not used(lut, 0)]
         count.same((status, 'by structure only' in lines[-1]), (NO, bool(broken)), (luts, lines[-1]))
         for i, lut in enumerate(luts):
@@ -423,6 +433,19 @@ def changed_reports(text):
     yield []
 
 
+def check_refused():
+    """By the tool itself: reports that are no one's, and the report of one block with the input of another."""
+    count = Count('no report, or that of another block: exit status 2, one line')
+    for given in ('08070162\n08000000\n', '08000000\n08000000\n', '08000000\n0600000001\n', '0600010001\n0600000001\n08000000\n', '08000001\n',
+                  '070008000102\n08000000\n', '070000000010\n08000000\n', '0600000001\n08070162\n', '08110000\n', '08FF0000\n', '08000000\n\n'):
+        status, words, errors = run('explain', 3, 3, stdin=given)
+        count.same((status, words, errors.count('\n')), (COULD_NOT, '', 1), given)
+    for given, other in (('latch_1x1', 'counter8_1x1'), ('counter8_1x1', 'latch_1x1'), ('counter8_2x2', 'shift_arst_2x2')):
+        status, words, errors = run('explain', '--input', data(given + '.in'), stdin=model.report_of(contents(data(other + '.in')).encode()))
+        count.same((status, words, "is not this input's" in errors), (COULD_NOT, '', True), (given, other))
+    return count.done()
+
+
 def check_strangers():
     count = Count("reports that are not the input's: exit status 2, no words")
     texts = {name: contents(data(name + '.in')) for name in blocks()}
@@ -433,12 +456,6 @@ def check_strangers():
             count.same(status != COULD_NOT, found == reports[name], (name, other, words))
         for lines in changed_reports(reports[name]):
             count.same(in_words(''.join(line + '\n' for line in lines), text)[0], COULD_NOT, (name, lines[-3:]))
-    for given in ('08070162\n08000000\n', '08000000\n08000000\n', '08000000\n0600000001\n', '0600010001\n0600000001\n08000000\n', '08000001\n',
-                  '070008000102\n08000000\n', '070000000010\n08000000\n', '0600000001\n08070162\n', '08110000\n', '08FF0000\n', '08000000\n\n'):
-        status, words, errors = run('explain', 3, 3, stdin=given)
-        count.same((status, words, errors.count('\n')), (COULD_NOT, '', 1), given)
-    status, words, errors = run('explain', '--input', data('latch_1x1.in'), stdin=reports['counter8_1x1'])
-    count.same((status, words, "is not this input's" in errors), (COULD_NOT, '', True))
     return count.done()
 
 
@@ -458,7 +475,7 @@ def check_verdicts(rounds):
 
 def main():
     return run_all([(check_bundled,), (check_yes,), (check_two_blocks,), (check_lengths,), (check_noes,), (check_lines,), (check_reads, 20), (check_trails, 400),
-                    (check_structure,), (check_strangers,), (check_verdicts, rounds_asked(1000))], 1)
+                    (check_structure,), (check_refused,), (check_strangers,), (check_verdicts, rounds_asked(1000))], 1)
 
 
 if __name__ == '__main__':

@@ -1,6 +1,5 @@
 // The report program once more, from Rust and for blocks up to 8 by 8: reads the frames of an input (01 to 05) and prints the report's own
-// lines, for tools/explain.py. Exit status: 0 a yes, 1 a no, 2 it could not be told. A standard output that is closed goes unseen: Rust's
-// runtime opens /dev/null in its place before main; a full disk is told.
+// lines, for tools/explain.py. Exit status: 0 a yes, 1 a no, 2 it could not be told.
 //
 //     make && rustc -O examples/build.rs -L target/staticlib -l static=capi -o target/build_rs
 //     target/build_rs block.frames | tools/explain.py --input block.frames
@@ -9,6 +8,7 @@ mod ice40;
 
 use std::io::{Read, Write};
 use std::process::ExitCode;
+use std::sync::atomic::{AtomicBool, Ordering};
 
 const READ_LIMIT: u64 = 1 << 20; // bytes that are looked at; the longest whole input has 134,619
 
@@ -169,6 +169,22 @@ fn cell_lines(settings: &[u16]) -> String {
     lines
 }
 
+/// Whether standard output was closed when the program was started. Rust's runtime opens /dev/null in its place before main, so that main
+/// cannot tell; what stands in .init_array runs before the runtime does.
+static CLOSED: AtomicBool = AtomicBool::new(false);
+
+#[used]
+#[link_section = ".init_array"]
+static LOOK: extern "C" fn() = look;
+
+extern "C" fn look() {
+    extern "C" {
+        fn fcntl(descriptor: i32, command: i32, ...) -> i32;
+    }
+    const F_GETFD: i32 = 1;
+    CLOSED.store(unsafe { fcntl(1, F_GETFD) } == -1, Ordering::Relaxed);
+}
+
 /// Prints the report of a file of frames; whether it is a yes.
 fn report() -> Result<bool, String> {
     let path = std::env::args().nth(1).ok_or("usage: build FRAMES")?;
@@ -180,6 +196,9 @@ fn report() -> Result<bool, String> {
         (0, _) => (switch_lines(&input, &settings(&input)) + &cell_lines(&settings(&input)) + "08000000\n", true),
         (ground, place) => (format!("08{:02X}{:04X}\n", ground, place), false),
     };
+    if CLOSED.load(Ordering::Relaxed) {
+        return Err("standard output: it is closed".into());
+    }
     let mut out = std::io::stdout();
     out.write_all(lines.as_bytes()).and_then(|()| out.flush()).map_err(|error| format!("standard output: {}", error))?;
     Ok(yes)

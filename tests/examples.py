@@ -138,13 +138,16 @@ def bad_input(name, program, folder):
 
 
 def full_output(programs):
-    """Standard output full or closed. Rust itself opens /dev/null in place of a closed one."""
-    count = Count('closed and full output')
+    """Standard output full or closed; /dev/null on purpose is neither, though Rust itself opens it, for reading and writing, in place of a
+    closed one."""
+    count = Count('closed and full output, /dev/null')
     block = os.path.join(DATA, 'uart_tx_3x3.in')
     for name, program in programs.items():
-        for where in ['>/dev/full'] + ['>&-'] * name.endswith('.c'):
+        for where in ('>/dev/full', '>&-', '>&- 2>&-', '<&- >&-'):
             status, output, errors = answer('%s %s %s' % (program, block, where), shell=True)
-            count.same((status, output, errors.count('\n')), (COULD_NOT, '', 1), (name, where, errors))
+            count.same((status, output, errors.count('\n')), (COULD_NOT, '', int('2>' not in where)), (name, where, errors))
+        for where in ('>/dev/null', '1<>/dev/null', '>/dev/null 2>&1'):
+            count.same(answer('%s %s %s' % (program, block, where), shell=True), (YES, '', ''), (name, where))
     return count.done()
 
 

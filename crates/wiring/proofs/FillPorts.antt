@@ -1,4 +1,4 @@
--- Each range of a tile's ports as it is filled: what the calls of src/tile.rt and src/spans.rt ask for. Spans first, then outputs, then the
+-- Each range of a tile's ports as it is filled: what the calls of src/one_tile.rt and src/spans.rt ask for. Spans first, then outputs, then the
 -- ports that have no join or one to a lower tile.
 use Prim.Native.Nat.{ℕ, zero, suc, _+_, _-_, _/_, _%_, _≤_, _<_, min}
 use mathlib.Core.Path.{_≡_, refl, sym, _∙_, ap, subst}

@@ -7,12 +7,12 @@ ghost use Rattle.ports.specs.Block.{Sized, port};
 ghost use Rattle.ports.specs.Lengths.{ports};
 ghost use Rattle.fabric.specs.Wire.{wiresOf};
 ghost use Rattle.wiring.specs.Fill.{Wired};
-use crate::tile::tile;
+use crate::one_tile::tile;
 use ports::size::Block;
 
+mod one_tile;
 mod ranges;
 mod spans;
-mod tile;
 
 // The ports of row y of the tiles.
 fn tiles(b: Block, wires: &mut [u16], y: u32)

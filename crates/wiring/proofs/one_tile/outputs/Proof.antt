@@ -1,8 +1,8 @@
 -- `outputs` meets its contract: each range starts where the one before ends. Assumes nothing.
 use native.Mathlib.Omega.{arith}
 use mathlib.Core.Path.{refl, sym, _∙_}
-use Rattle.wiring.proofs.tile.outputs.Statement.{statement}
-use Rattle.wiring.proofs.tile.outputs.Tie as tie
+use Rattle.wiring.proofs.one_tile.outputs.Statement.{statement}
+use Rattle.wiring.proofs.one_tile.outputs.Tie as tie
 
 output-requires : tie.Need-output-requires
 output-requires c κs =

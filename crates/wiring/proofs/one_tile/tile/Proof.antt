@@ -1,8 +1,8 @@
 -- `tile` meets its contract: each part starts where the one before ends. Assumes nothing.
 use Rattle.wiring.proofs.FillPorts.{row4, row12, inputs-own}
 use mathlib.Core.Path.{sym, _∙_}
-use Rattle.wiring.proofs.tile.tile.Statement.{statement}
-use Rattle.wiring.proofs.tile.tile.Tie as tie
+use Rattle.wiring.proofs.one_tile.tile.Statement.{statement}
+use Rattle.wiring.proofs.one_tile.tile.Tie as tie
 
 row-requires : tie.Need-row-requires
 row-requires c κs =

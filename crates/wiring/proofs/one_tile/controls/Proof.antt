@@ -3,8 +3,8 @@ use Rattle.wiring.proofs.FillPorts.{clocks-own, globals, carry-in, carr
 use native.Mathlib.Omega.{arith}
 use mathlib.Core.Path.{sym, _∙_}
 use borrow.Author.Needs.{needs}
-use Rattle.wiring.proofs.tile.controls.Statement.{statement}
-use Rattle.wiring.proofs.tile.controls.Tie as tie
+use Rattle.wiring.proofs.one_tile.controls.Statement.{statement}
+use Rattle.wiring.proofs.one_tile.controls.Tie as tie
 
 add-below-wire : tie.Need-add-below-wire
 add-below-wire c = search needs

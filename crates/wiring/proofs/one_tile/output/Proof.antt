@@ -2,8 +2,8 @@
 use Rattle.wiring.proofs.FillPorts.{output-numbers}
 use native.Mathlib.Omega.{arith}
 use mathlib.Core.Path.{sym, _∙_}
-use Rattle.wiring.proofs.tile.output.Statement.{statement}
-use Rattle.wiring.proofs.tile.output.Tie as tie
+use Rattle.wiring.proofs.one_tile.output.Statement.{statement}
+use Rattle.wiring.proofs.one_tile.output.Tie as tie
 
 output-wire-requires : tie.Need-output-wire-requires
 output-wire-requires c κs =

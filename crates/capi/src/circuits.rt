@@ -23,6 +23,7 @@ use ports::size::Block;
 pub extern "C" fn ice40_build(
     w: u32,
     h: u32,
+    east: u32,
     table: &[u16],
     bits: &[u8],
     list: &mut [u16],
@@ -33,13 +34,13 @@ pub extern "C" fn ice40_build(
     marks: &mut [u16],
     queue: &mut [u16],
 ) -> u64
-    ensures answer { λ r. ⌜ r ≡ packedBuilt (buildAnswer (block w h) (now (table .entry)) (tilesOf (now (bits .entry)))
-        (buildExact (block w h) (buildLent (now (table .entry)) (now (bits .entry)) (now (settings .entry))
+    ensures answer { λ r. ⌜ r ≡ packedBuilt (buildAnswer (block w h east) (now (table .entry)) (tilesOf (now (bits .entry)))
+        (buildExact (block w h east) (buildLent (now (table .entry)) (now (bits .entry)) (now (settings .entry))
         (roomLent (now (list .entry)) (now (wires .entry)) (now (sources .entry)) (now (rows .entry)) (now (marks .entry))
         (now (queue .entry)))))) ⌝ }
     ensures list { λ r. ⌜ now (list .exit) ≡ output (groundIn r) (now (list .entry))
-        (blockList (block w h) (now (table .entry))
-        (decoded (now (table .entry)) (tilesOf (now (bits .entry))) (tiles (block w h)))) ⌝ }
+        (blockList (block w h east) (now (table .entry))
+        (decoded (now (table .entry)) (tilesOf (now (bits .entry))) (tiles (block w h east)))) ⌝ }
     ensures settings { λ r. ⌜ now (settings .exit) ≡ workRoom (groundIn r) (now (settings .entry)) ⌝ }
     ensures wires { λ r. ⌜ now (wires .exit) ≡ workRoom (groundIn r) (now (wires .entry)) ⌝ }
     ensures sources { λ r. ⌜ now (sources .exit) ≡ workRoom (groundIn r) (now (sources .entry)) ⌝ }
@@ -48,7 +49,7 @@ pub extern "C" fn ice40_build(
     ensures queue { λ r. ⌜ now (queue .exit) ≡ workRoom (groundIn r) (now (queue .entry)) ⌝ }
 {
     let a = block::build(
-        Block { w, h },
+        Block { w, h, east },
         table,
         bits,
         list,
@@ -68,6 +69,7 @@ pub extern "C" fn ice40_build(
 pub extern "C" fn ice40_follow(
     w: u32,
     h: u32,
+    east: u32,
     table: &[u16],
     settings: &[u16],
     tile: u32,
@@ -76,15 +78,15 @@ pub extern "C" fn ice40_follow(
     sources: &mut [u16],
     marks: &mut [u16],
 ) -> u64
-    ensures answer { λ r. ⌜ r ≡ packedFollowed (followAnswer (block w h) (now (table .entry)) (now (settings .entry)) tile port
-        (followExact (block w h) (followLent (now (table .entry)) (now (settings .entry)) (now (wires .entry))
+    ensures answer { λ r. ⌜ r ≡ packedFollowed (followAnswer (block w h east) (now (table .entry)) (now (settings .entry)) tile port
+        (followExact (block w h east) (followLent (now (table .entry)) (now (settings .entry)) (now (wires .entry))
         (now (sources .entry)) (now (marks .entry))))) ⌝ }
     ensures wires { λ r. ⌜ now (wires .exit) ≡ workRoom (groundIn r) (now (wires .entry)) ⌝ }
     ensures sources { λ r. ⌜ now (sources .exit) ≡ workRoom (groundIn r) (now (sources .entry)) ⌝ }
     ensures marks { λ r. ⌜ now (marks .exit) ≡ workRoom (groundIn r) (now (marks .entry)) ⌝ }
 {
     let a = block::follow(
-        Block { w, h },
+        Block { w, h, east },
         table,
         settings,
         tile,
@@ -101,6 +103,7 @@ pub extern "C" fn ice40_follow(
 pub extern "C" fn ice40_step(
     w: u32,
     h: u32,
+    east: u32,
     table: &[u16],
     settings: &[u16],
     list: &[u16],
@@ -115,17 +118,17 @@ pub extern "C" fn ice40_step(
     first: &mut [u8],
     second: &mut [u8],
 ) -> u64
-    ensures answer { λ r. ⌜ r ≡ packedAnswer (stepAnswer (block w h) (now (table .entry)) (now (settings .entry))
+    ensures answer { λ r. ⌜ r ≡ packedAnswer (stepAnswer (block w h east) (now (table .entry)) (now (settings .entry))
         (now (list .entry)) (now (state .entry)) (now (before .entry)) (now (after .entry))
-        (stepExact (block w h) (stepLent (inputsLent (now (table .entry)) (now (settings .entry)) (now (list .entry))
+        (stepExact (block w h east) (stepLent (inputsLent (now (table .entry)) (now (settings .entry)) (now (list .entry))
         (now (state .entry)) (now (before .entry)) (now (after .entry)))
         (stepRoomLent (now (values .entry)) (now (next .entry)) (now (wires .entry)) (now (own .entry)) (now (marks .entry))
         (now (first .entry)) (now (second .entry)))))) ⌝ }
     ensures values { λ r. ⌜ now (values .exit) ≡ output (groundIn r) (now (values .entry))
-        (portValues (block w h) (settledBy (block w h) (now (list .entry)) (now (state .entry)) (now (before .entry)))) ⌝ }
+        (portValues (block w h east) (settledBy (block w h east) (now (list .entry)) (now (state .entry)) (now (before .entry)))) ⌝ }
     ensures next { λ r. ⌜ now (next .exit) ≡ output (groundIn r) (now (next .entry))
-        (nextStates (block w h) (now (settings .entry)) (settledBy (block w h) (now (list .entry)) (now (state .entry))
-        (now (before .entry))) (settledBy (block w h) (now (list .entry)) (now (state .entry)) (now (after .entry)))
+        (nextStates (block w h east) (now (settings .entry)) (settledBy (block w h east) (now (list .entry)) (now (state .entry))
+        (now (before .entry))) (settledBy (block w h east) (now (list .entry)) (now (state .entry)) (now (after .entry)))
         (now (state .entry))) ⌝ }
     ensures wires { λ r. ⌜ now (wires .exit) ≡ workRoom (groundIn r) (now (wires .entry)) ⌝ }
     ensures own { λ r. ⌜ now (own .exit) ≡ workRoom (groundIn r) (now (own .entry)) ⌝ }
@@ -134,7 +137,7 @@ pub extern "C" fn ice40_step(
     ensures second { λ r. ⌜ now (second .exit) ≡ workRoom (groundIn r) (now (second .entry)) ⌝ }
 {
     let a = sim::step(
-        Block { w, h },
+        Block { w, h, east },
         table,
         settings,
         list,

@@ -1,5 +1,5 @@
-// The entry points for C and Rust. Each takes numbers, and slices as pointer and length, in the order w, h, table, inputs, outputs, work
-// room, and answers one 64-bit number; include/ice40.h declares them. Document 01: "The board viewer is written in C and calls the
+// The entry points for C and Rust. Each takes numbers, and slices as pointer and length, in the order w, h, east, table, inputs, outputs,
+// work room, and answers one 64-bit number; include/ice40.h declares them. Document 01: "The board viewer is written in C and calls the
 // lookup and the wire number".
 //
 // What a call does is the contract of the function that it wraps. The answer's ground, `groundIn`, says what lent memory holds afterwards.
@@ -17,12 +17,14 @@ pub mod circuits;
 pub mod files;
 pub mod pack;
 
-// The number of the wire that a port of a tile is on, in a block of w by h tiles. Grounds 1 and 20.
+// The number of the wire that a port of a tile is on, in a block of w by h tiles; east is 1 where the column to the east of it is logic or
+// RAM, else 0. Grounds 1 and 20.
 #[no_mangle]
-pub extern "C" fn ice40_wire_number(w: u32, h: u32, tile: u32, port: u32) -> u64
-    ensures { λ r. ⌜ r ≡ packed (wireAnswerNumber (wireNumber (block w h) tile port)) (wireAnswerValue (wireNumber (block w h) tile port)) ⌝ }
+pub extern "C" fn ice40_wire_number(w: u32, h: u32, east: u32, tile: u32, port: u32) -> u64
+    ensures { λ r. ⌜ r ≡ packed (wireAnswerNumber (wireNumber (block w h east) tile port))
+        (wireAnswerValue (wireNumber (block w h east) tile port)) ⌝ }
 {
-    match fabric::wire_number(Block { w, h }, tile, port) {
+    match fabric::wire_number(Block { w, h, east }, tile, port) {
         WireNumber::Wire(n) => pack::pack(0, n as u32),
         WireNumber::Refused(r) => pack::pack_no(r),
     }

@@ -1,7 +1,7 @@
 -- What drives a wire is the same for all its ports. Main law: `drive-wire`. `join-drive` has a clause for each published join; then the drives of
 -- the ports that the equations name.
 use Prim.Native.Nat.{ℕ, suc, _+_, _*_, _/_, _%_, _<_}
-use mathlib.Core.Path.{_≡_, refl, sym, _∙_, ap}
+use mathlib.Core.Path.{_≡_, refl, sym, _∙_, ap, ap₂}
 use native.Mathlib.Omega.{arith}
 use native.Mathlib.Nat.{div-add-mod'}
 use lib.Arith.{digits-div, digits-mod}
@@ -11,14 +11,14 @@ use Rattle.ports.specs.declared.Port.{Port}
 use Rattle.ports.specs.declared.Port.the-variants.{Sp4HL, Sp4HR, Sp4VT, Sp4VB, Sp4RVB, Sp12HL, Sp12HR, Sp12VT, Sp12VB, Local, Glb2Local, In, Out, NeighOp, Clk, Cen, SR, GlbNetwk, CarryIn, CarryInMux, Cout, Lout, Ltin}
 use Rattle.ports.specs.Block.{port, portOf}
 use Rattle.ports.specs.Lengths.{ports, portsPerTile}
-use Rattle.ports.specs.PortIndex.{outPort, coutPort, loutPort, carryInMux, cen, outputAt}
-use Rattle.ports.specs.PortNames.{indexOf, Neighbour, Within}
+use Rattle.ports.specs.PortIndex.{outPort, coutPort, loutPort, carryInMux, cen}
+use Rattle.ports.specs.PortNames.{indexOf, Within}
 use Rattle.fabric.specs.Span.{flip}
-use Rattle.fabric.specs.Joins.{Join, Linked, same, one, back, on, sp4-h-side, sp4-h-in, sp4-v-side, sp4-v-in, sp4-right, sp12-h-side, sp12-h-in, sp12-v-side, sp12-v-in, neigh-bnl, neigh-bot, neigh-bnr, neigh-lft, neigh-rgt, neigh-tnl, neigh-top, neigh-tnr, global, carry-chain, lut-cascade}
+use Rattle.fabric.specs.Joins.{Join, Linked, same, one, back, on, sp4-h-side, sp4-h-in, sp4-v-side, sp4-v-in, sp4-right, sp12-h-side, sp12-h-in, sp12-v-side, sp12-v-in, Sees, neigh, beyond, east-in, global, carry-chain, lut-cascade}
 use Rattle.fabric.specs.Wire.{wireOf}
 use Rattle.fabric.proofs.FlipLaws.{flip-lt}
-use Rattle.ports.proofs.PortLaws.{neighbour, index-back}
-use Rattle.fabric.proofs.NeighbourLaws.{output-at-lt}
+use Rattle.ports.proofs.PortLaws.{index-back}
+use Rattle.fabric.proofs.NeighbourLaws.{output-at-lt, sees-seen}
 use Rattle.fabric.proofs.WireLaws.{wire-linked}
 use Rattle.equations.specs.declared.drives.Drive.the-variants.{Low, High, CellOut, CellLout, CellCout, CarryMux}
 use Rattle.equations.specs.Equations.{ZeroPort, in-port, clk-port, s-r-port, local-port, glb2local-port}
@@ -48,12 +48,14 @@ module _ (B : Block) where
   pub output-drive : (X Y u v i : ℕ) → X ≡ suc u → Y ≡ suc v → u < B .w → v < B .h → outputDrive B X Y i ≡ CellOut (v * B .w + u) i
   output-drive X Y u v i a b hu hv = rw (a, b, lt-ltb u (B .w) hu, lt-ltb v (B .h) hv)
 
-  neighbour-drive : {dx dy i : ℕ} (x y u v : ℕ) → Neighbour dx dy i → x + dx ≡ suc u → y + dy ≡ suc v → x < B .w → u < B .w → v < B .h
-      → driveOf B (port B x y (outputAt dx dy i)) ≡ driveOf B (port B u v (outPort i))
+  -- a name for output i of the tile (X - 1, Y - 1)
+  sees-drive : {p X Y i : ℕ} → Sees B p X Y i → driveOf B p ≡ outputDrive B X Y i
   unfolding driveAt
-  neighbour-drive {dx} {dy} {i} x y u v h a b hx hu hv =
-      drive-name x y (NeighOp dx dy i) hx (omega (arith, output-at-lt dx dy i (h .i-lt))) h ∙ output-drive (x + dx) (y + dy) u v i a b hu hv
-      ∙ sym (drive-name u v (Out i) hu (let hi = h .i-lt in omega arith) (h .i-lt))
+  sees-drive {p} {X} {Y} {i} s =
+      let v = sees-seen B s in
+      ap (driveOf B) (v .is)
+      ∙ drive-name (v .x) (v .y) (NeighOp (v .dx) (v .dy) i) (v .x-lt) (omega (arith, output-at-lt (v .dx) (v .dy) i (v .named .i-lt))) (v .named)
+      ∙ ap₂ (λ (X Y : ℕ). outputDrive B X Y i) (v .column) (v .row)
 
   pub join-drive : {p q : ℕ} → Join B p q → driveOf B p ≡ driveOf B q
   unfolding driveAt
@@ -77,30 +79,14 @@ module _ (B : Block) where
   join-drive (sp12-v-in x y k hx hy hk) =
       let l = flip-lt 22 refl hk in
       drive-name x y (Sp12VT k) hx (omega arith) (omega arith) ∙ sym (drive-name x y (Sp12VB (flip k + 2)) hx (omega arith) (omega arith))
-  join-drive (neigh-bnl x y i hx hy hi) =
-      neighbour-drive (suc x) (suc y) x y (neighbour 0 0 i (omega arith) (omega arith) (λ a b. omega arith) hi)
-      (omega arith) (omega arith) hx (omega arith) (omega arith)
-  join-drive (neigh-bot x y i hx hy hi) =
-      neighbour-drive x (suc y) x y (neighbour 1 0 i (omega arith) (omega arith) (λ a b. omega arith) hi)
-      (omega arith) (omega arith) hx hx (omega arith)
-  join-drive (neigh-bnr x y i hx hy hi) =
-      neighbour-drive x (suc y) (suc x) y (neighbour 2 0 i (omega arith) (omega arith) (λ a b. omega arith) hi)
-      (omega arith) (omega arith) (omega arith) hx (omega arith)
-  join-drive (neigh-lft x y i hx hy hi) =
-      neighbour-drive (suc x) y x y (neighbour 0 1 i (omega arith) (omega arith) (λ a b. omega arith) hi)
-      (omega arith) (omega arith) hx (omega arith) hy
-  join-drive (neigh-rgt x y i hx hy hi) =
-      neighbour-drive x y (suc x) y (neighbour 2 1 i (omega arith) (omega arith) (λ a b. omega arith) hi)
-      (omega arith) (omega arith) (omega arith) hx hy
-  join-drive (neigh-tnl x y i hx hy hi) =
-      neighbour-drive (suc x) y x (suc y) (neighbour 0 2 i (omega arith) (omega arith) (λ a b. omega arith) hi)
-      (omega arith) (omega arith) hx (omega arith) hy
-  join-drive (neigh-top x y i hx hy hi) =
-      neighbour-drive x y x (suc y) (neighbour 1 2 i (omega arith) (omega arith) (λ a b. omega arith) hi)
-      (omega arith) (omega arith) hx hx hy
-  join-drive (neigh-tnr x y i hx hy hi) =
-      neighbour-drive x y (suc x) (suc y) (neighbour 2 2 i (omega arith) (omega arith) (λ a b. omega arith) hi)
-      (omega arith) (omega arith) (omega arith) hx hy
+  join-drive (east-in x y k t e hy hk) =
+      let l = flip-lt 36 refl hk in
+      drive-name x (suc y) (Sp4RVB k) (omega arith) (omega arith) (omega arith)
+      ∙ sym (drive-name x y (Sp4RVB (flip k + 12)) (omega arith) (omega arith) (omega arith))
+  join-drive (neigh x y i hx hy s) =
+      let hi = sees-seen B s .named .i-lt in
+      sees-drive s ∙ output-drive (suc x) (suc y) x y i refl refl hx hy ∙ sym (drive-name x y (Out i) hx (omega (arith, hi)) hi)
+  join-drive (beyond X Y i out s t) = sees-drive s ∙ sym (sees-drive t)
   join-drive (global x y x′ y′ n hx hy hx′ hy′ hn) =
       drive-name x y (GlbNetwk n) hx (omega arith) hn ∙ sym (drive-name x′ y′ (GlbNetwk n) hx′ (omega arith) hn)
   join-drive (carry-chain x y hx hy) = drive-name x (suc y) CarryIn hx (omega arith) tt ∙ sym (drive-name x y (Cout 7) hx (omega arith) (omega arith))

@@ -23,10 +23,10 @@ settings flags = zeros 67 ++ (1 ∷ 1 ∷ []) ++ zeros 510 ++ (0x5555 ∷ flags 
 
 -- the row of wire w, with the flip-flop (flag 2) and without
 abbrev sampleRow : ℕ → List ℕ
-sampleRow w = numbersOf (rowOf (block 1 1) sampleTable (settings 2) w)
+sampleRow w = numbersOf (rowOf (block 1 1 0) sampleTable (settings 2) w)
 
 abbrev loopingRow : ℕ → List ℕ
-loopingRow w = numbersOf (rowOf (block 1 1) sampleTable (settings 0) w)
+loopingRow w = numbersOf (rowOf (block 1 1 0) sampleTable (settings 0) w)
 
 -- 336 (150 hex) copies 404, 372 copies 336, 404 is flip-flop 0, lout 0 still reads its in ports; the others have no switch
 pub sample-rows :
@@ -48,7 +48,7 @@ unfolding rowOf first endsOn driveOf driveAt driveRow enabled target origin wire
 looping-row = refl
 
 -- .. "The run above with flip-flop bit 45 clear: 7, place 0150 hex": 336 depends on itself
-pub looping-depends : Depends (block 1 1) sampleTable (settings 0) 336 336
+pub looping-depends : Depends (block 1 1 0) sampleTable (settings 0) 336 336
 unfolding enabled target origin wireOf wireAt portAt walk flip
 looping-depends =
     via (switch-reads 0 (omega arith) refl) (via (out-reads 0 0 0 (omega arith) (omega arith) (omega arith) refl) (reads (switch-reads 1 (omega arith) refl)))

@@ -17,13 +17,11 @@ use Rattle.ports.specs.Lengths.{ports, portsPerTile}
 use Rattle.ports.specs.PortIndex.{localPort, outPort, coutPort, loutPort, carryIn, carryInMux, ltin, cen, outputAt}
 use Rattle.ports.specs.Ports.{portAt}
 use Rattle.ports.specs.PortNames.{indexOf, Neighbour, Within}
-use Rattle.fabric.specs.Joins.{carry-chain, lut-cascade}
-use Rattle.fabric.specs.Wire.{wireOf, wireAt}
+use Rattle.fabric.specs.Joins.{neigh, carry-chain, lut-cascade}
+use Rattle.fabric.specs.Wire.{wireOf}
 use Rattle.ports.proofs.PortLaws.{port-at-back, port-at-within}
-use Rattle.fabric.proofs.PlaceLaws.{wire-name}
 use Rattle.ports.proofs.PlaceLaws.{tile-column-lt, tile-row-lt, port-place}
-use Rattle.fabric.proofs.NeighbourLaws.{output-at-lt}
-use Rattle.fabric.proofs.OutputLaws.{output-same}
+use Rattle.fabric.proofs.NeighbourLaws.{sees}
 use Rattle.fabric.proofs.JoinLaws.{join-same}
 use Rattle.routing.specs.LogicTile.{isDestination}
 use Rattle.equations.specs.declared.drives.Drive.{Drive}
@@ -104,15 +102,12 @@ module _ (B : Block) where
   neigh-range (suc (suc dx)) (suc (suc dy)) i h = let l = h .i-lt in omega arith
 
   module _ (x : ℕ) (hx : x < B .w) where
-    neigh-role : (y dx dy i : ℕ) → Neighbour dx dy i → Role B (port B x y (outputAt dx dy i)) (outputAt dx dy i) (outputDrive B (x + dx) (y + dy) i)
-    unfolding wireAt
-    neigh-role y dx dy i h =
+    neigh-role : (y dx dy i : ℕ) → y < B .h → Neighbour dx dy i → Role B (port B x y (outputAt dx dy i)) (outputAt dx dy i) (outputDrive B (x + dx) (y + dy) i)
+    neigh-role y dx dy i hy h =
         let hi = h .i-lt in
         let r = neigh-range dx dy i h in
         output-role _ _ (x + dx) (y + dy) i (neigh-open _ (r .0) (r .1)) hi (no-destination _ (omega arith) (inl (r .1)))
-        (λ u v a b hu hv.
-        wire-name B u v (Out i) hu (omega arith) hi ∙ output-same B i hi 1 1 u v u v (omega arith) (omega arith) hu hv
-        ∙ sym (wire-name B x y (NeighOp dx dy i) hx (omega (arith, output-at-lt dx dy i hi)) h ∙ output-same B i hi dx dy x y u v a b hu hv))
+        (λ u v a b hu hv. sym (join-same B (neigh u v i hu hv (sees B dx dy i x y (suc u) (suc v) h hx hy a b))))
 
     own-role : (y i q : ℕ) → y < B .h → i < 8 → 404 ≤ q → (q < 476) ⊎ (478 < q) → AtCell B (port B x y q) q (y * B .w + x) i q
     own-role y i q hy hi h r = record { tile-lt = tile-lt x y hx hy; cell-lt = hi; wire-same = refl; no-end = no-destination q h r }
@@ -150,7 +145,7 @@ module _ (B : Block) where
     role-at y hy (Glb2Local k) h = glb2local-port k h
     role-at y hy (In i j) h = in-port i j (h .0) (h .1)
     role-at y hy (Out i) h = own-role y i (outPort i) hy h (omega arith) (inl (omega arith))
-    role-at y hy (NeighOp dx dy i) h = neigh-role y dx dy i h
+    role-at y hy (NeighOp dx dy i) h = neigh-role y dx dy i hy h
     role-at y hy Clk h = clk-port
     role-at y hy Cen h = refl
     role-at y hy SR h = s-r-port

@@ -1,5 +1,5 @@
 -- A span along the columns of a block, shown once for every length, offset and crossing f, and for what stands at the south rim.
--- Main laws: `column-across`, `column-reach`, `far-reach`.
+-- Main laws: `column-across`, `column-reach`, `far-reach`; `edge-reach` for a column outside, of which the block has one name a row.
 use Prim.Native.Nat.{ℕ, zero, suc, _+_, _-_, _≤_, _<_}
 use mathlib.Core.Path.{_≡_, refl, ap}
 use mathlib.Core.Bool.{Bool, true, false, cond}
@@ -9,7 +9,7 @@ use borrow.Author.Tests.{lt-ltb, ltb-true, le-leb, leb-true}
 use Rattle.ports.specs.declared.size.Block.{Block}
 use Rattle.fabric.specs.declared.span.Span.{Span}
 use Rattle.ports.specs.Block.{port}
-use Rattle.fabric.specs.Span.{names, Proper}
+use Rattle.fabric.specs.Span.{names, Proper, southward}
 use Rattle.fabric.specs.Joins.{Join, one, back, on}
 use Rattle.fabric.specs.SpanWire.{ends, columnPort, columnWire, foot}
 use Rattle.fabric.proofs.WalkLaws.{walk-suc, walk-reach}
@@ -76,3 +76,21 @@ module _ {B : Block} {f : ℕ → ℕ} {s : Span} (J : ColumnJoins B f s) (x : �
 
     pub far-reach : (y k : ℕ) → y < B .h → k < names s → Reach B (port B x y (s .far + k)) (columnWire f rim s B x y k)
     far-reach y k hy hk = reach-trans _ _ _ (far-port y k hy hk) (column-reach y k (omega arith) hk)
+
+-- ---- a column outside the block, of which each row has one name for each wire: `start y` is the port of name 0 in row y
+
+pub record EdgeJoins (B : Block) (f : ℕ → ℕ) (s : Span) (start : ℕ → ℕ) : Type 0 where
+  pub crossing : Crossing f (s .through)
+  pub rises : (y : ℕ) → suc y < B .h → start y + names s ≤ start (suc y)
+  pub across : (y k : ℕ) → suc y < B .h → k < s .through → Join B (start (suc y) + k) (start y + (f k + s .shift))
+
+module _ {B : Block} {f : ℕ → ℕ} {s : Span} {start : ℕ → ℕ} (J : EdgeJoins B f s start) (y : ℕ) (hy : y < B .h) where
+  edge-step : (e k : ℕ) → e < y → k < names s → ltb k (s .through) ≡ true
+      → (f k + s .shift < names s) × Reach B (start (suc e) + k) (start e + (f k + s .shift))
+  edge-step e k he hk t =
+      let l : k < s .through = ltb-true k (s .through) t in
+      let g : f k < s .through = J .crossing .keeps k l in
+      (omega arith, record { linked = one (J .across e k (omega arith) l); low = omega (arith, J .rises e (omega arith)) })
+
+  pub edge-reach : (k : ℕ) → k < names s → Reach B (start y + k) (ends (λ (e j : ℕ). start e + j) (southward f s y k))
+  edge-reach k hk = walk-reach _ _ (λ (e j : ℕ). start e + j) (Reach B) reach-refl reach-trans (λ j. j < names s) y edge-step y k (omega arith) hk

@@ -3,13 +3,13 @@ use Prim.Native.Nat.{ℕ, zero, suc, _+_, _-_, _≤_, _<_}
 use mathlib.Core.Path.{_≡_, refl}
 use native.Mathlib.Omega.{arith}
 use native.Mathlib.Numerals.{add-one}
-use borrow.Author.Tests.{lt-ltb, le-ltb}
+use borrow.Author.Tests.{lt-ltb, le-ltb, eq-eqb, ne-eqb}
 use Rattle.ports.specs.declared.size.Block.{Block}
 use Rattle.fabric.specs.declared.span.Span.{Span}
 use Rattle.ports.specs.Block.{port}
 use Rattle.ports.specs.PortIndex.{sp4RVB}
 use Rattle.fabric.specs.Span.{flip, span4Column}
-use Rattle.fabric.specs.SpanWire.{rowPort, columnPort, foot, sp4Foot, sp4Column, rightWire}
+use Rattle.fabric.specs.SpanWire.{rowPort, columnPort, foot, sp4Foot, sp4Column, eastWire, rightWire}
 use Rattle.fabric.specs.Wire.{below}
 
 back-one : (e : ℕ) → suc e - 1 ≡ e
@@ -53,8 +53,11 @@ module _ (B : Block) (x k : ℕ) where
     pub right-wire-in : x + 1 < B .w → sp4Column B (x + 1) y k ≡ rightWire B x y k
     right-wire-in h = rw (add-one, lt-ltb (suc x) (B .w) (omega arith))
 
-    pub right-wire-out : B .w ≤ x + 1 → port B x y (sp4RVB k) ≡ rightWire B x y k
-    right-wire-out h = rw (le-ltb (suc x) (B .w) (omega arith))
+    pub right-wire-east : B .w ≤ x + 1 → B .east ≡ 1 → eastWire B x y k ≡ rightWire B x y k
+    right-wire-east h e = rw (le-ltb (suc x) (B .w) (omega arith), eq-eqb (B .east) 1 e)
+
+    pub right-wire-out : B .w ≤ x + 1 → (B .east ≡ 1 → ⊥) → port B x y (sp4RVB k) ≡ rightWire B x y k
+    right-wire-out h e = rw (le-ltb (suc x) (B .w) (omega arith), ne-eqb (B .east) 1 e)
 
 -- ---- the tile to the south
 

@@ -1,28 +1,28 @@
 -- Each published join keeps the computed number (`join-same`) and stays in the block (`join-within`); so does a chain of them.
 use Prim.Native.Nat.{ℕ, suc, _+_, _<_}
-use mathlib.Core.Path.{_≡_, refl, sym, _∙_}
+use mathlib.Core.Path.{_≡_, refl, sym, _∙_, ap, ap₂}
 use mathlib.Core.Logic.{_↔_}
 use native.Mathlib.Omega.{arith}
-use borrow.Author.Tests.{lt-ltb}
+use native.Mathlib.Numerals.{add-one}
+use borrow.Author.Tests.{lt-ltb, le-ltb, eq-eqb}
 use Rattle.ports.specs.declared.size.Block.{Block}
 use Rattle.ports.specs.declared.Port.the-variants.{Sp4HL, Sp4HR, Sp4VT, Sp4VB, Sp4RVB, Sp12HL, Sp12HR, Sp12VT, Sp12VB, Out, NeighOp, GlbNetwk, CarryIn, Cout, Lout, Ltin}
 use Rattle.ports.specs.Block.{port}
 use Rattle.ports.specs.Lengths.{ports}
-use Rattle.ports.specs.PortIndex.{outPort, outputAt}
-use Rattle.ports.specs.PortNames.{Neighbour}
+use Rattle.ports.specs.PortIndex.{outPort, sp4RVB}
 use Rattle.fabric.specs.Span.{flip}
-use Rattle.fabric.specs.Joins.{Join, Linked, same, one, back, on, sp4-h-side, sp4-h-in, sp4-v-side, sp4-v-in, sp4-right, sp12-h-side, sp12-h-in, sp12-v-side, sp12-v-in, neigh-bnl, neigh-bot, neigh-bnr, neigh-lft, neigh-rgt, neigh-tnl, neigh-top, neigh-tnr, global, carry-chain, lut-cascade}
-use Rattle.fabric.specs.SpanWire.{sp4Foot}
+use Rattle.fabric.specs.Joins.{Join, Linked, same, one, back, on, sp4-h-side, sp4-h-in, sp4-v-side, sp4-v-in, sp4-right, sp12-h-side, sp12-h-in, sp12-v-side, sp12-v-in, Sees, neigh, beyond, east-in, global, carry-chain, lut-cascade}
+use Rattle.fabric.specs.SpanWire.{ends, sp4Foot, eastPort, eastWire}
+use Rattle.fabric.specs.OutputWire.{firstOutput}
 use Rattle.fabric.specs.Wire.{wireOf, wireAt}
 use Rattle.fabric.proofs.FlipLaws.{flip-lt}
-use Rattle.ports.proofs.PortLaws.{neighbour}
+use Rattle.fabric.proofs.WalkLaws.{walk-suc}
 use Rattle.ports.proofs.PlaceLaws.{port-lt}
 use Rattle.fabric.proofs.PlaceLaws.{wire-name}
 use Rattle.fabric.proofs.RowLaws.{row-across}
 use Rattle.fabric.proofs.ColumnLaws.{column-across}
 use Rattle.fabric.proofs.SpanLaws.{span4-row-joins, span12-row-joins, span4-column-joins, span12-column-joins}
-use Rattle.fabric.proofs.NeighbourLaws.{output-at-lt}
-use Rattle.fabric.proofs.OutputLaws.{output-same}
+use Rattle.fabric.proofs.NeighbourLaws.{output-at-lt, sees-seen}
 
 -- a crossing's partner is a name again
 partner4 : (k : ℕ) → k < 36 → flip k + 12 < 48
@@ -32,14 +32,24 @@ partner12 : (k : ℕ) → k < 22 → flip k + 2 < 24
 partner12 k h = omega (arith, flip-lt 22 refl h)
 
 module _ (B : Block) where
-  -- a neighbour's name for output i of the tile (u, v)
-  neighbour-same : {dx dy i : ℕ} (x y u v : ℕ) → Neighbour dx dy i → x + dx ≡ suc u → y + dy ≡ suc v → x < B .w → u < B .w → v < B .h
-      → wireOf B (port B x y (outputAt dx dy i)) ≡ wireOf B (port B u v (outPort i))
+  -- a name for output i of the tile (X - 1, Y - 1)
+  sees-wire : {p X Y i : ℕ} → Sees B p X Y i → wireOf B p ≡ firstOutput B X Y i
   unfolding wireAt
-  neighbour-same {dx} {dy} {i} x y u v h a b hx hu hv =
-      let hi = h .i-lt in
-      wire-name B x y (NeighOp dx dy i) hx (omega (arith, output-at-lt dx dy i hi)) h ∙ output-same B i hi dx dy x y u v a b hu hv
-      ∙ sym (wire-name B u v (Out i) hu (omega arith) hi ∙ output-same B i hi 1 1 u v u v (omega arith) (omega arith) hu hv)
+  sees-wire {p} {X} {Y} {i} s =
+      let v = sees-seen B s in
+      ap (wireOf B) (v .is)
+      ∙ wire-name B (v .x) (v .y) (NeighOp (v .dx) (v .dy) i) (v .x-lt) (omega (arith, output-at-lt (v .dx) (v .dy) i (v .named .i-lt))) (v .named)
+      ∙ ap₂ (λ (X Y : ℕ). firstOutput B X Y i) (v .column) (v .row)
+
+  -- a tile's own out
+  out-wire : (x y i : ℕ) → x < B .w → i < 8 → wireOf B (port B x y (outPort i)) ≡ firstOutput B (suc x) (suc y) i
+  unfolding wireAt
+  out-wire x y i hx hi = wire-name B x y (Out i) hx (omega arith) hi ∙ ap₂ (λ (X Y : ℕ). firstOutput B X Y i) (add-one x) (add-one y)
+
+  east-wire : (x y k : ℕ) → B .east ≡ 1 → suc x ≡ B .w → k < 48 → wireOf B (port B x y (sp4RVB k)) ≡ eastWire B x y k
+  unfolding wireAt
+  east-wire x y k t e hk =
+      wire-name B x y (Sp4RVB k) (omega arith) (omega arith) hk ∙ rw (le-ltb (suc x) (B .w) (omega arith), eq-eqb (B .east) 1 t)
 
   pub join-same : {p q : ℕ} → Join B p q → wireOf B p ≡ wireOf B q
   unfolding wireAt
@@ -70,30 +80,11 @@ module _ (B : Block) where
       let l = partner12 k hk in
       wire-name B x y (Sp12VT k) hx (omega arith) (omega arith) ∙ column-across (span12-column-joins B) x hx _ y k hk
       ∙ sym (wire-name B x y (Sp12VB (flip k + 2)) hx (omega arith) l)
-  join-same (neigh-bnl x y i hx hy hi) =
-      neighbour-same (suc x) (suc y) x y (neighbour 0 0 i (omega arith) (omega arith) (λ a b. omega arith) hi)
-      (omega arith) (omega arith) hx (omega arith) (omega arith)
-  join-same (neigh-bot x y i hx hy hi) =
-      neighbour-same x (suc y) x y (neighbour 1 0 i (omega arith) (omega arith) (λ a b. omega arith) hi)
-      (omega arith) (omega arith) hx (omega arith) (omega arith)
-  join-same (neigh-bnr x y i hx hy hi) =
-      neighbour-same x (suc y) (suc x) y (neighbour 2 0 i (omega arith) (omega arith) (λ a b. omega arith) hi)
-      (omega arith) (omega arith) (omega arith) (omega arith) (omega arith)
-  join-same (neigh-lft x y i hx hy hi) =
-      neighbour-same (suc x) y x y (neighbour 0 1 i (omega arith) (omega arith) (λ a b. omega arith) hi)
-      (omega arith) (omega arith) hx (omega arith) (omega arith)
-  join-same (neigh-rgt x y i hx hy hi) =
-      neighbour-same x y (suc x) y (neighbour 2 1 i (omega arith) (omega arith) (λ a b. omega arith) hi)
-      (omega arith) (omega arith) (omega arith) (omega arith) (omega arith)
-  join-same (neigh-tnl x y i hx hy hi) =
-      neighbour-same (suc x) y x (suc y) (neighbour 0 2 i (omega arith) (omega arith) (λ a b. omega arith) hi)
-      (omega arith) (omega arith) hx (omega arith) (omega arith)
-  join-same (neigh-top x y i hx hy hi) =
-      neighbour-same x y x (suc y) (neighbour 1 2 i (omega arith) (omega arith) (λ a b. omega arith) hi)
-      (omega arith) (omega arith) hx (omega arith) (omega arith)
-  join-same (neigh-tnr x y i hx hy hi) =
-      neighbour-same x y (suc x) (suc y) (neighbour 2 2 i (omega arith) (omega arith) (λ a b. omega arith) hi)
-      (omega arith) (omega arith) (omega arith) (omega arith) (omega arith)
+  join-same (east-in x y k t e hy hk) =
+      east-wire x (suc y) k t e (omega arith) ∙ ap (ends (eastPort B x)) (walk-suc _ _ y k (lt-ltb k 36 hk))
+      ∙ sym (east-wire x y (flip k + 12) t e (partner4 k hk))
+  join-same (neigh x y i hx hy s) = sees-wire s ∙ sym (out-wire x y i hx (sees-seen B s .named .i-lt))
+  join-same (beyond X Y i out s t) = sees-wire s ∙ sym (sees-wire t)
   join-same (global x y x′ y′ n hx hy hx′ hy′ hn) = wire-name B x y (GlbNetwk n) hx (omega arith) hn ∙ sym (wire-name B x′ y′ (GlbNetwk n) hx′ (omega arith) hn)
   join-same (carry-chain x y hx hy) = wire-name B x (suc y) CarryIn hx (omega arith) tt ∙ sym (wire-name B x y (Cout 7) hx (omega arith) (omega arith))
   join-same (lut-cascade x y hx hy) = wire-name B x (suc y) Ltin hx (omega arith) tt ∙ sym (wire-name B x y (Lout 7) hx (omega arith) (omega arith))
@@ -106,6 +97,11 @@ module _ (B : Block) where
 
   -- ---- in the block
 
+  sees-within : {p X Y i : ℕ} → Sees B p X Y i → p < ports B
+  sees-within {p} {X} {Y} {i} s =
+      let v = sees-seen B s in
+      rw (v .is) (port-lt B (v .x) (v .y) _ (v .x-lt) (v .y-lt) (omega (arith, output-at-lt (v .dx) (v .dy) i (v .named .i-lt))))
+
   pub join-within : {p q : ℕ} → Join B p q → (p < ports B) × (q < ports B)
   join-within (sp4-h-side x y k hx hy hk) = (port-lt B x y _ (omega arith) hy (omega arith), port-lt B (suc x) y _ hx hy (omega arith))
   join-within (sp4-h-in x y k hx hy hk) = (port-lt B x y _ hx hy (omega arith), port-lt B x y _ hx hy (omega (arith, partner4 k hk)))
@@ -116,14 +112,12 @@ module _ (B : Block) where
   join-within (sp12-h-in x y k hx hy hk) = (port-lt B x y _ hx hy (omega arith), port-lt B x y _ hx hy (omega (arith, partner12 k hk)))
   join-within (sp12-v-side x y k hx hy hk) = (port-lt B x (suc y) _ hx hy (omega arith), port-lt B x y _ hx (omega arith) (omega arith))
   join-within (sp12-v-in x y k hx hy hk) = (port-lt B x y _ hx hy (omega arith), port-lt B x y _ hx hy (omega (arith, partner12 k hk)))
-  join-within (neigh-bnl x y i hx hy hi) = (port-lt B (suc x) (suc y) _ hx hy (omega arith), port-lt B x y _ (omega arith) (omega arith) (omega arith))
-  join-within (neigh-bot x y i hx hy hi) = (port-lt B x (suc y) _ hx hy (omega arith), port-lt B x y _ hx (omega arith) (omega arith))
-  join-within (neigh-bnr x y i hx hy hi) = (port-lt B x (suc y) _ (omega arith) hy (omega arith), port-lt B (suc x) y _ hx (omega arith) (omega arith))
-  join-within (neigh-lft x y i hx hy hi) = (port-lt B (suc x) y _ hx hy (omega arith), port-lt B x y _ (omega arith) hy (omega arith))
-  join-within (neigh-rgt x y i hx hy hi) = (port-lt B x y _ (omega arith) hy (omega arith), port-lt B (suc x) y _ hx hy (omega arith))
-  join-within (neigh-tnl x y i hx hy hi) = (port-lt B (suc x) y _ hx (omega arith) (omega arith), port-lt B x (suc y) _ (omega arith) hy (omega arith))
-  join-within (neigh-top x y i hx hy hi) = (port-lt B x y _ hx (omega arith) (omega arith), port-lt B x (suc y) _ hx hy (omega arith))
-  join-within (neigh-tnr x y i hx hy hi) = (port-lt B x y _ (omega arith) (omega arith) (omega arith), port-lt B (suc x) (suc y) _ hx hy (omega arith))
+  join-within (east-in x y k t e hy hk) =
+      (port-lt B x (suc y) _ (omega arith) hy (omega arith), port-lt B x y _ (omega arith) (omega arith) (omega (arith, partner4 k hk)))
+  join-within (neigh x y i hx hy s) =
+      let hi = sees-seen B s .named .i-lt in
+      (sees-within s, port-lt B x y _ hx hy (omega (arith, hi)))
+  join-within (beyond X Y i out s t) = (sees-within s, sees-within t)
   join-within (global x y x′ y′ n hx hy hx′ hy′ hn) = (port-lt B x y _ hx hy (omega arith), port-lt B x′ y′ _ hx′ hy′ (omega arith))
   join-within (carry-chain x y hx hy) = (port-lt B x (suc y) _ hx hy (omega arith), port-lt B x y _ hx (omega arith) (omega arith))
   join-within (lut-cascade x y hx hy) = (port-lt B x (suc y) _ hx (omega arith) (omega arith), port-lt B x y _ hx (omega arith) (omega arith))

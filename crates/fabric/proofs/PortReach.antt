@@ -2,8 +2,8 @@
 use Prim.Native.Nat.{ℕ, zero, suc, _/_, _%_, _<_}
 use mathlib.Core.Path.{subst}
 use native.Mathlib.Omega.{arith}
-use lib.Dec.{ltb}
-use borrow.Author.Tests.{ltb-true}
+use lib.Dec.{ltb, eqb}
+use borrow.Author.Tests.{ltb-true, ltb-false, eqb-true}
 use Rattle.ports.specs.declared.size.Block.{Block}
 use Rattle.ports.specs.declared.Port.{Port}
 use Rattle.ports.specs.declared.Port.the-variants.{Sp4HL, Sp4HR, Sp4VT, Sp4VB, Sp4RVB, Sp12HL, Sp12HR, Sp12VT, Sp12VB, Local, Glb2Local, In, Out, NeighOp, Clk, Cen, SR, GlbNetwk, CarryIn, CarryInMux, Cout, Lout, Ltin}
@@ -14,12 +14,12 @@ use Rattle.ports.specs.Ports.{portAt}
 use Rattle.ports.specs.PortNames.{indexOf, Within}
 use Rattle.fabric.specs.Joins.{one, global, carry-chain, lut-cascade}
 use Rattle.fabric.specs.Wire.{wireOf, wireAt, below}
-use Rattle.fabric.proofs.Reaching.{Reach, reach-refl, reach-if}
+use Rattle.fabric.proofs.Reaching.{Reach, reach-refl, reach-either, reach-if}
 use Rattle.ports.proofs.PortLaws.{port-at-back, port-at-within}
 use Rattle.ports.proofs.PlaceLaws.{tile-column-lt, tile-row-lt, port-place}
 use Rattle.fabric.proofs.RowLaws.{row-reach, near-reach}
 use Rattle.fabric.proofs.ColumnLaws.{column-reach, far-reach, foot-footed}
-use Rattle.fabric.proofs.SpanLaws.{span4-row-joins, span12-row-joins, span4-column-joins, span12-column-joins, sp4-footed, right-reach}
+use Rattle.fabric.proofs.SpanLaws.{span4-row-joins, span12-row-joins, span4-column-joins, span12-column-joins, sp4-footed, right-reach, east-reach}
 use Rattle.fabric.proofs.OutputLaws.{output-reach}
 
 module _ (B : Block) where
@@ -37,7 +37,9 @@ module _ (B : Block) where
   reach-at x y hx hy (Sp4HR k) h = row-reach (span4-row-joins B) y hy (suc x) k hx h
   reach-at x y hx hy (Sp4VT k) h = column-reach (span4-column-joins B) x hx (sp4-footed B x hx) (suc y) k hy h
   reach-at x y hx hy (Sp4VB k) h = far-reach (span4-column-joins B) x hx (sp4-footed B x hx) y k hy h
-  reach-at x y hx hy (Sp4RVB k) h = reach-if _ _ (ltb (suc x) (B .w)) (λ t. right-reach B x y k (ltb-true _ _ t) hy h)
+  reach-at x y hx hy (Sp4RVB k) h =
+      reach-either _ _ _ (ltb (suc x) (B .w)) (λ t. right-reach B x y k (ltb-true _ _ t) hy h) (λ t.
+      reach-if _ _ (eqb (B .east) 1) (λ u. east-reach B x y k (eqb-true _ _ u) (omega (arith, ltb-false (suc x) (B .w) t)) hy h))
   reach-at x y hx hy (Sp12HL k) h = near-reach (span12-row-joins B) x y k hx hy h
   reach-at x y hx hy (Sp12HR k) h = row-reach (span12-row-joins B) y hy (suc x) k hx h
   reach-at x y hx hy (Sp12VT k) h = column-reach (span12-column-joins B) x hx (foot-footed (span12-column-joins B) x hx) (suc y) k hy h

@@ -17,7 +17,10 @@ module _ {B : Block} where
   pub reach-trans : (p q r : ℕ) → Reach B p q → Reach B q r → Reach B p r
   reach-trans p q r a b = record { linked = on (a .linked) (b .linked); low = omega arith }
 
-  -- to q, where a test says so
+  -- to q or to r, as a test says
+  pub reach-either : (p q r : ℕ) (t : Bool) → (t ≡ true → Reach B p q) → (t ≡ false → Reach B p r) → Reach B p (cond t q r)
+  reach-either p q r true h g = h refl
+  reach-either p q r false h g = g refl
+
   pub reach-if : (p q : ℕ) (t : Bool) → (t ≡ true → Reach B p q) → Reach B p (cond t q p)
-  reach-if p q true h = h refl
-  reach-if p q false h = reach-refl p
+  reach-if p q t h = reach-either p q p t h (λ e. reach-refl p)

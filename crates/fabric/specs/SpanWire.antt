@@ -1,7 +1,7 @@
 -- The wires of spans, computed: the lowest port of the wire that has name k at edge e of a row or a column.
 use Prim.Native.Nat.{ℕ, zero, suc, _+_, _-_}
 use mathlib.Core.Bool.{cond}
-use lib.Dec.{ltb, leb}
+use lib.Dec.{ltb, leb, eqb}
 use Rattle.ports.specs.declared.size.Block.{Block}
 use Rattle.fabric.specs.declared.span.Edge.{Edge}
 use Rattle.fabric.specs.declared.span.Span.{Span}
@@ -46,6 +46,13 @@ sp4Column B x e k = columnWire flip (sp4Foot B x) span4Column B x e k
 abbrev pub sp12Column : Block → ℕ → ℕ → ℕ → ℕ
 sp12Column B x e k = columnWire flip (foot flip span12Column B x) span12Column B x e k
 
--- sp4_r_v_b_k is on a wire of the column to the east, where the block has one
+-- of the column outside, to the east of column x, the block has the name sp4_r_v_b at each edge and nothing else
+abbrev pub eastPort : Block → ℕ → ℕ → ℕ → ℕ
+eastPort B x e k = port B x e (sp4RVB k)
+
+abbrev pub eastWire : Block → ℕ → ℕ → ℕ → ℕ
+eastWire B x e k = ends (eastPort B x) (southward flip span4Column e k)
+
+-- sp4_r_v_b_k is on a wire of the column to the east, where the block has one, or where the column outside is logic or RAM
 abbrev pub rightWire : Block → ℕ → ℕ → ℕ → ℕ
-rightWire B x y k = cond (ltb (suc x) (B .w)) (sp4Column B (suc x) y k) (port B x y (sp4RVB k))
+rightWire B x y k = cond (ltb (suc x) (B .w)) (sp4Column B (suc x) y k) (cond (eqb (B .east) 1) (eastWire B x y k) (port B x y (sp4RVB k)))

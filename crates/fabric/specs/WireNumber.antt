@@ -12,7 +12,7 @@ use Rattle.ports.specs.Lengths.{portsPerTile}
 use Rattle.fabric.specs.Joins.{Lowest}
 use Rattle.fabric.specs.Wire.{wireOf}
 
--- "1: W or H not 1 to 8"; "20: a port (0 to 505 in its tile), tile [..] out of range", place "that number, a tile's first"
+-- "1: W or H not 1 to 8", and W2: "another byte is [..] 1 in a call"; "20: a port (0 to 505 in its tile), tile [..] out of range", place "that number, a tile's first"
 unfoldable pub wireNumber : Block → ℕ → ℕ → WireNumber
 wireNumber B t q =
     unless (sized B) (Refused WrongSize)

@@ -4,7 +4,7 @@ ghost use mathlib.Core.Path.{_≡_};
 ghost use Prim.Native.Nat.{_-_, _<_, min};
 ghost use Rattle.ports.specs.Block.{Sized};
 ghost use Rattle.ports.specs.PortIndex.{outputAt};
-ghost use Rattle.fabric.specs.OutputWire.{inside, outputWire};
+ghost use Rattle.fabric.specs.OutputWire.{outputWire};
 use ports::size::Block;
 
 // The port of the tile (x, y) for output i of the tile (x + dx - 1, y + dy - 1).
@@ -40,22 +40,6 @@ fn up_to_two(n: u32) -> u32
     if n < 2 { n } else { 2 }
 }
 
-// Whether the tile (east - 1, north - 1) is in the block.
-fn is_inside(b: Block, east: u32, north: u32) -> bool
-    ensures { λ r. ⌜ r ≡ inside b east north ⌝ }
-{
-    if east < 1 {
-        return false;
-    }
-    if b.w < east {
-        return false;
-    }
-    if north < 1 {
-        return false;
-    }
-    north <= b.h
-}
-
 // The wire of the tile (x, y)'s port for output i of the tile (x + dx - 1, y + dy - 1): the port of the tile furthest south and west
 // that sees the same output.
 pub fn output_wire(b: Block, x: u32, y: u32, dx: u32, dy: u32, i: u32) -> u32
@@ -64,13 +48,10 @@ pub fn output_wire(b: Block, x: u32, y: u32, dx: u32, dy: u32, i: u32) -> u32
 {
     let east = x + dx;
     let north = y + dy;
-    if is_inside(b, east, north) {
-        return ports::port_number(
-            b,
-            less_two(east),
-            less_two(north),
-            output_port(up_to_two(east), up_to_two(north), i),
-        );
-    }
-    ports::port_number(b, x, y, output_port(dx, dy, i))
+    ports::port_number(
+        b,
+        less_two(east),
+        less_two(north),
+        output_port(up_to_two(east), up_to_two(north), i),
+    )
 }

@@ -95,13 +95,19 @@ pub fn sp12_column(b: Block, x: u32, e: u32, k: u32) -> u32
     foot_port(SPAN12_COLUMN, b, x, j)
 }
 
-// The wire of sp4_r_v_b_k: a name of the column to the east.
+// The wire of sp4_r_v_b_k: a name of the column to the east, in the block or outside it.
 pub fn right_wire(b: Block, x: u32, y: u32, k: u32) -> u32
     requires { ⌜ Sized b × (x < b .w) × (y < b .h) × (k < names span4Column) ⌝ }
     ensures { λ r. ⌜ r ≡ rightWire b x y k ⌝ }
 {
     if x + 1 < b.w {
         return sp4_column(b, x + 1, y, k);
+    }
+    if b.east == 1 {
+        let r = go_south(SPAN4_COLUMN, y, k);
+        let at = r.at;
+        let j = r.name;
+        return ports::port_number(b, x, at, ports::SP4_R_V_B + j);
     }
     ports::port_number(b, x, y, ports::SP4_R_V_B + k)
 }

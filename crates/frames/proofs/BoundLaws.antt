@@ -3,10 +3,12 @@ use mathlib.Core.List.{List}
 use Prim.Native.Nat.{ℕ, zero, suc, _+_, _*_, _<_, _≤_}
 use native.Mathlib.Omega.{arith}
 use Rattle.lists.proofs.SearchLaws.{first-le}
-use Rattle.frames.specs.Lines.{passiveCount, positionCount, entryCount, groupDigits, groupLine}
+use Rattle.frames.specs.Lines.{passiveCount, positionCount, entryCount, groupDigits, groupLine, sizeDigits}
 use Rattle.frames.specs.Input.{groupAt, groupCount, sizeAt}
 use Rattle.texts.proofs.HexLaws.{pair-lt}
-use mathlib.Core.Bool.{not}
+use mathlib.Core.Bool.{Bool, true, false, not, cond}
+use lib.Dec.{eqb}
+use lib.ListN.{getD}
 
 module _ (s : List ℕ) where
   pub passive-count-lt : passiveCount s < 256
@@ -30,6 +32,14 @@ module _ (s : List ℕ) where
   pub group-count-le : groupCount s ≤ 512
   unfolding groupCount
   group-count-le = omega (arith, first-le (λ g. not (groupLine s (groupAt s g))) 0 512)
+
+  pub size-digits-le : (at : ℕ) → sizeDigits s at ≤ 8
+  unfolding sizeDigits
+  size-digits-le at = go (eqb (getD s (at + 6) 0) 10)
+    where
+      go : (t : Bool) → cond t 6 8 ≤ 8
+      go true = omega arith
+      go false = omega arith
 
   pub size-at-le : sizeAt s ≤ 1312272
   unfolding sizeAt

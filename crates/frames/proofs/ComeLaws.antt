@@ -17,7 +17,8 @@ use Rattle.frames.specs.Whole.{Small}
 use Rattle.texts.specs.Pieces.{Stands}
 use Rattle.frames.specs.Meaning.{Stage, begun, with-fields, with-groups, tiles-left}
 use Rattle.frames.proofs.LineLaws.{line-exact}
-use Rattle.frames.proofs.FrameTestLaws.{size-passes, size-is}
+use Rattle.frames.proofs.FrameLineLaws.{frame-line}
+use Rattle.frames.proofs.FrameTestLaws.{SizeStands, size-stands}
 use Rattle.frames.proofs.TurnLaws.{counted-group}
 
 pub record FieldsCome (s : List ℕ) (at n : ℕ) : Type 0 where
@@ -60,19 +61,21 @@ group-kind s at e =
 
 module _ (s : List ℕ) (at n : ℕ) where
   -- a size stands behind the last group only
-  pub last-group : (g : ℕ) → GroupsCome s g at n → (w h : ℕ) → Stands s at (line (size w h)) → g ≡ groupCount s
-  last-group g c w h p =
+  pub last-group : (g : ℕ) → GroupsCome s g at n → (w h : ℕ) (extra : List ℕ) → Stands s at (line (size w h extra)) → g ≡ groupCount s
+  last-group g c w h extra p =
       ⊎-elim
       (λ (l : g < groupCount s).
       let k = group-kind s at (subst (λ (x : ℕ). groupLine s x ≡ true) (sym (c .place)) (counted-group s g l)) in
-      let z = line-exact s at 4 6 .0 (size-passes s at w h p) .kind-is in
+      let z = frame-line s at (size w h extra) p .kind-is in
       absurd (omega arith))
       (λ (l : groupCount s ≤ g). let few = c .few in omega arith) (lt-or-le g (groupCount s))
 
-  pub size-place : (g : ℕ) → GroupsCome s g at n → (w h : ℕ) → Stands s at (line (size w h)) → at ≡ sizeAt s
+  pub size-place : (g : ℕ) → GroupsCome s g at n → (w h : ℕ) (extra : List ℕ) → Stands s at (line (size w h extra)) → at ≡ sizeAt s
   unfolding sizeAt
-  size-place g c w h p = c .place ∙ ap (groupAt s) (last-group g c w h p)
+  size-place g c w h extra p = c .place ∙ ap (groupAt s) (last-group g c w h extra p)
 
-  -- W and H of a size that stands in its turn
-  pub size-same : (g : ℕ) → GroupsCome s g at n → (w h : ℕ) → Proper (size w h) → Stands s at (line (size w h)) → (width s ≡ w) × (height s ≡ h)
-  size-same g c w h fit p = size-is s (sizeAt s) w h fit (subst (λ (x : ℕ). Stands s x (line (size w h))) (size-place g c w h p) p)
+  -- the size that stands in its turn
+  pub size-same : (g : ℕ) → GroupsCome s g at n → (w h : ℕ) (extra : List ℕ) → Proper (size w h extra) → Stands s at (line (size w h extra))
+      → SizeStands s (sizeAt s) w h extra
+  size-same g c w h extra fit p =
+      size-stands s (sizeAt s) w h extra fit (subst (λ (x : ℕ). Stands s x (line (size w h extra))) (size-place g c w h extra p) p)

@@ -11,13 +11,13 @@ use Rattle.lists.proofs.CaseLaws.{clash, lt-or-le}
 use Rattle.texts.specs.Each.{Each}
 use Rattle.frames.specs.Frames.{Group, Frame, fields, passives, group, size, tile, line, Proper}
 use Rattle.frames.specs.Lines.{groupLine, tileLine}
-use Rattle.frames.specs.Input.{groupAt, groupCount, sizeAt, width, height, tilesDue, tileAt, tileCount}
+use Rattle.frames.specs.Input.{groupAt, groupCount, sizeAt, tilesDue, tileAt, tileCount}
 use Rattle.frames.specs.Whole.{Small}
 use Rattle.texts.specs.Pieces.{Stands}
 use Rattle.frames.specs.Meaning.{Stage, Turn, the-fields, the-passives, a-group, the-size, a-tile, Sized, Begins, nothing, one-more}
 use Rattle.texts.proofs.EachLaws.{holds-append}
 use Rattle.frames.proofs.FrameLineLaws.{tile-length}
-use Rattle.frames.proofs.FrameTestLaws.{fields-passes, passives-digits, passives-passes, group-digits-is, group-passes, size-passes, tile-passes}
+use Rattle.frames.proofs.FrameTestLaws.{fields-passes, passives-digits, passives-passes, group-digits-is, group-passes, SizeStands, tile-passes}
 use Rattle.frames.proofs.TurnLaws.{group-stops, tile-stops}
 use Rattle.frames.proofs.ComeLaws.{FieldsCome, GroupsCome, TilesCome, Come, line-length, last-group, size-place, size-same}
 
@@ -57,22 +57,22 @@ module _ (s : List ℕ) (at n : ℕ) where
         lines = omega arith;
       }
 
-  come-size : (g : ℕ) → GroupsCome s g at n → (w h : ℕ) → Proper (size w h) → Small w h → Stands s at (line (size w h))
-      → TilesCome s (h * w) (at + length (line (size w h))) (n + 1)
-  come-size g c w h fit small p =
-      let e = size-same s at n g c w h fit p in
-      let place = size-place s at n g c w h p in
-      let last = last-group s at n g c w h p in
-      let due : h * w ≡ tilesDue s = ap₂ (λ (x y : ℕ). x * y) (sym (e .1)) (sym (e .0)) in
+  come-size : (g : ℕ) → GroupsCome s g at n → (w h : ℕ) (extra : List ℕ) → Proper (size w h extra) → Small w h → Stands s at (line (size w h extra))
+      → TilesCome s (h * w) (at + length (line (size w h extra))) (n + 1)
+  come-size g c w h extra fit small p =
+      let e = size-same s at n g c w h extra fit p in
+      let place = size-place s at n g c w h extra p in
+      let last = last-group s at n g c w h extra p in
+      let due : h * w ≡ tilesDue s = ap₂ (λ (x y : ℕ). x * y) (sym (e .h-is)) (sym (e .w-is)) in
       let none : tilesDue s - h * w ≡ 0 = omega arith in
       record {
         one = c .one;
         two = c .two;
-        three = size-passes s (sizeAt s) w h (subst (λ (x : ℕ). Stands s x (line (size w h))) place p);
-        small = subst₂ Small (sym (e .0)) (sym (e .1)) small;
+        three = e .passes;
+        small = subst₂ Small (sym (e .w-is)) (sym (e .h-is)) small;
         left = omega arith;
         few = omega arith;
-        place = omega arith;
+        place = omega (arith, line-length (size w h extra), e .long);
         lines = omega (arith, c .lines);
       }
 
@@ -109,7 +109,7 @@ come-more s at n (the-fields {a} {b} {c}) k fit sized p = record {
 }
 come-more s at n (the-passives {positions}) k fit sized p = come-passives s at n k positions fit p
 come-more s at n (a-group {g} {x} l) k fit sized p = come-group s at n g k l x fit p
-come-more s at n (the-size {g} {w} {h}) k fit sized p = come-size s at n g k w h fit sized p
+come-more s at n (the-size {g} {w} {h} {extra}) k fit sized p = come-size s at n g k w h extra fit sized p
 come-more s at n (a-tile {n = m} {bytes}) k fit sized p = come-tile s at n m k bytes fit p
 
 pub begins-come : {s : List ℕ} {fs : List Frame} {at : ℕ} {stage : Stage} → Begins s fs at stage → Come s stage at (length fs)
@@ -123,14 +123,14 @@ abbrev pub SizeIs : List ℕ → Frame → Type 0
 SizeIs s (fields a b c) = Unit {0}
 SizeIs s (passives positions) = Unit {0}
 SizeIs s (group x) = Unit {0}
-SizeIs s (size w h) = (width s ≡ w) × (height s ≡ h)
+SizeIs s (size w h extra) = SizeStands s (sizeAt s) w h extra
 SizeIs s (tile bytes) = Unit {0}
 
 size-here : (s : List ℕ) {stage next : Stage} {f : Frame} (at n : ℕ) → Turn stage f next → Come s stage at n → Proper f → Stands s at (line f) → SizeIs s f
 size-here s at n the-fields k fit p = tt
 size-here s at n the-passives k fit p = tt
 size-here s at n (a-group l) k fit p = tt
-size-here s at n (the-size {g} {w} {h}) k fit p = size-same s at n g k w h fit p
+size-here s at n (the-size {g} {w} {h} {extra}) k fit p = size-same s at n g k w h extra fit p
 size-here s at n a-tile k fit p = tt
 
 pub begins-sizes : {s : List ℕ} {fs : List Frame} {at : ℕ} {stage : Stage} → Begins s fs at stage → Each (SizeIs s) fs

@@ -15,17 +15,16 @@ use Rattle.frames.specs.declared.input.Parsed.{Parsed}
 use Rattle.frames.specs.declared.input.Parsed.the-variants.{Block, Refused}
 use Rattle.frames.specs.Frames.{Frame, group, size, tile, line}
 use Rattle.frames.specs.Lines.{fieldsLine, passiveLine, sizeLine}
-use Rattle.frames.specs.Input.{groupAt, groupCount, sizeAt, width, height, small, tilesDue, tileAt, tileCount, parsed}
+use Rattle.frames.specs.Input.{groupAt, groupCount, sizeAt, width, height, east, small, tilesDue, tileAt, tileCount, parsed}
 use Rattle.frames.specs.Whole.{Small}
 use Rattle.texts.specs.Pieces.{Stands}
 use Rattle.frames.specs.Meaning.{Stage, begun, with-fields, with-groups, tiles-left, Turn, the-fields, the-passives, a-group, the-size, a-tile, Begins, Stuck, SizeSays, BlockSays, wrong-size, bad-line, ParsedNo, ParsedSays}
 use Rattle.texts.proofs.EachLaws.{holds-behind}
 use Rattle.frames.proofs.FrameLaws.{Reads, fields-reads, passives-reads, group-reads, size-reads, tile-reads}
-use Rattle.frames.proofs.FrameTestLaws.{size-passes}
 use Rattle.frames.proofs.TurnLaws.{counted-group, counted-tile}
 use Rattle.frames.proofs.BoundLaws.{group-count-le}
 use Rattle.frames.proofs.SmallLaws.{small-of, small-passes}
-use Rattle.frames.proofs.ComeLaws.{size-place, size-same}
+use Rattle.frames.proofs.ComeLaws.{size-same}
 use Rattle.frames.proofs.ComeStepLaws.{SizeIs, begins-come, begins-sizes}
 use Rattle.frames.proofs.WholeTurnLaws.{whole-begins}
 use Rattle.frames.proofs.MeaningLaws.{parsed-says}
@@ -63,7 +62,7 @@ module _ (s : List ℕ) where
             parsed-extra h =
                 rw (one, two, three, small-passes (width s) (height s) few, le-leb (tilesDue s) (tileCount s) all, ne-eqb (length s) (tileAt s (tilesDue s)) h)
 
-            parsed-block : length s ≡ tileAt s (tilesDue s) → parsed s ≡ Block (width s) (height s)
+            parsed-block : length s ≡ tileAt s (tilesDue s) → parsed s ≡ Block (width s) (height s) (east s)
             unfolding parsed
             parsed-block e =
                 rw (one, two, three, small-passes (width s) (height s) few, le-leb (tilesDue s) (tileCount s) all, eq-eqb (length s) (tileAt s (tilesDue s)) e)
@@ -118,23 +117,21 @@ module _ (s : List ℕ) where
   size-only : SizeSays s → parsed s ≡ Refused WrongSize
   size-only z =
       let c = begins-come (z .begins) in
-      let e = size-same s (z .at) _ (z .g) c (z .w) (z .h) (z .proper) (z .stands) in
-      let place = size-place s (z .at) _ (z .g) c (z .w) (z .h) (z .stands) in
-      let three = size-passes s (sizeAt s) (z .w) (z .h) (subst (λ (x : ℕ). Stands s x (line (size (z .w) (z .h)))) place (z .stands)) in
-      ⊎-elim (λ p. absurd (z .not-small (subst₂ Small (e .0) (e .1) (small-of (width s) (height s) p))))
-      (λ p. parsed-size s (c .one) (c .two) three p) (cases (small (width s) && small (height s)))
+      let e = size-same s (z .at) _ (z .g) c (z .w) (z .h) (z .extra) (z .proper) (z .stands) in
+      ⊎-elim (λ p. absurd (z .not-small (subst₂ Small (e .w-is) (e .h-is) (small-of (width s) (height s) p))))
+      (λ p. parsed-size s (c .one) (c .two) (e .passes) p) (cases (small (width s) && small (height s)))
 
   -- ---- a yes
 
-  block-only : (w h : ℕ) → BlockSays s w h → parsed s ≡ Block w h
-  block-only w h z =
+  block-only : (w h e : ℕ) → BlockSays s w h e → parsed s ≡ Block w h e
+  block-only w h e z =
       let i = z .input in
       let b = whole-begins s i (z .whole) in
       let c = begins-come b in
       let all : tilesDue s - 0 ≡ tilesDue s = omega arith in
-      let e = holds-behind (SizeIs s) (map group (i .groups)) (size (i .w) (i .h) ∷ map tile (i .tiles)) (begins-sizes b .1 .1) .0 in
+      let is = holds-behind (SizeIs s) (map group (i .groups)) (size (i .w) (i .h) (i .extra) ∷ map tile (i .tiles)) (begins-sizes b .1 .1) .0 in
       parsed-block s (c .one) (c .two) (c .three) (c .small) (omega (arith, c .few)) (c .place ∙ ap (tileAt s) all)
-      ∙ ap₂ Block (e .0 ∙ z .w-is) (e .1 ∙ z .h-is)
+      ∙ ap₂ (λ (w h : ℕ). Block w h (east s)) (is .w-is ∙ z .w-is) (is .h-is ∙ z .h-is) ∙ ap (Block w h) (is .east-is ∙ z .east-is)
 
   -- ---- any answer
 
@@ -144,7 +141,7 @@ module _ (s : List ℕ) where
       line-only (z .stage) (z .frames) (z .at) (z .begins) (z .stuck) ∙ ap (λ (k : ℕ). Refused (Line k)) (sym (z .place))
 
   parsed-only : (r : Parsed) → ParsedSays s r → r ≡ parsed s
-  parsed-only (Block w h) z = sym (block-only w h z)
+  parsed-only (Block w h e) z = sym (block-only w h e z)
   parsed-only (Refused refusal) z = sym (no-only refusal z)
 
   pub parsed-exact : (r : Parsed) → ParsedSays s r ↔ (r ≡ parsed s)

@@ -3,16 +3,17 @@
 use Rattle.ports.specs.Lengths.{tileBytes}
 use Prim.Native.Nat.{ℕ, _+_, _*_, _≤_}
 use mathlib.Core.Path.{_≡_, refl, ap}
-use mathlib.Core.Bool.{true, _&&_}
-use mathlib.Core.List.{List}
+use mathlib.Core.Bool.{Bool, true, false, cond, _&&_}
+use mathlib.Core.List.{List, [], _∷_}
 use native.Mathlib.Omega.{arith}
-use borrow.Author.Tests.{leb-true}
-use lib.Dec.{leb}
+use borrow.Author.Tests.{leb-true, ltb-true}
+use lib.Dec.{leb, ltb, eqb}
+use lib.ListN.{getD}
 use Rattle.lists.proofs.CaseLaws.{and-left, and-right}
 use Rattle.lists.proofs.TableLaws.{tabulate-length}
 use Rattle.texts.specs.Hex.{two, pairAt, quadAt}
-use Rattle.frames.specs.Frames.{Group, Frame, fields, passives, group, size, tile, line, Proper}
-use Rattle.frames.specs.Lines.{isLine, fieldsLine, passiveCount, passiveLine, positionCount, entryCount, groupDigits, groupLine, sizeLine, tileLine}
+use Rattle.frames.specs.Frames.{Group, Frame, fields, passives, group, size, tile, line, Proper, eastOf}
+use Rattle.frames.specs.Lines.{isLine, fieldsLine, passiveCount, passiveLine, positionCount, entryCount, groupDigits, groupLine, sizeDigits, eastAt, sizeLine, tileLine}
 use Rattle.texts.proofs.HexLaws.{pair-lt, quad-lt}
 use Rattle.texts.proofs.StandsLaws.{Spans, spans-to, spans-append, spans-nil}
 use Rattle.texts.proofs.ReadingLaws.{two-spans, four-spans}
@@ -119,24 +120,56 @@ module _ (s : List ℕ) (at : ℕ) where
 -- ---- 04 and 05
 
 module _ (s : List ℕ) (at : ℕ) where
-  abbrev pub sizeRead : Frame
-  sizeRead = size (pairAt s (at + 2)) (pairAt s (at + 4))
+  -- what stands behind W and H: nothing where the line ends there
+  abbrev pub extraRead : List ℕ
+  extraRead = cond (eqb (getD s (at + 6) 0) 10) [] (pairAt s (at + 6) ∷ [])
 
-  pub size-reads : sizeLine s at ≡ true → Reads s at sizeRead (at + 7)
-  size-reads e =
-      let h = line-exact s at 4 6 .0 e in
-      let ds = h .only-digits in
-      record {
-        proper = (pair-lt s (at + 2), pair-lt s (at + 4));
-        spans =
-            spans-to
-            (line-spans s at 6 sizeRead
-            (spans-append (kind-spans s at 4 6 h (omega arith))
-            (spans-append (spans-to (two-spans s at _ ds (at + 2) (omega arith) (omega arith)) refl (let q : at + 2 + 2 ≡ at + 4 = omega arith in q))
-            (spans-to (two-spans s at _ ds (at + 4) (omega arith) (omega arith)) refl (omega arith))))
-            (h .ended))
-            refl (omega arith);
-      }
+  pub east-read : eastOf extraRead ≡ eastAt s at
+  unfolding eastAt
+  east-read = go (eqb (getD s (at + 6) 0) 10)
+    where
+      go : (t : Bool) → eastOf (cond t [] (pairAt s (at + 6) ∷ [])) ≡ cond t 0 (pairAt s (at + 6))
+      go true = refl
+      go false = refl
+
+  abbrev pub sizeRead : Frame
+  sizeRead = size (pairAt s (at + 2)) (pairAt s (at + 4)) extraRead
+
+  pub size-reads : sizeLine s at ≡ true → Reads s at sizeRead (at + (sizeDigits s at + 1))
+  unfolding sizeLine sizeDigits eastAt
+  size-reads e = go (eqb (getD s (at + 6) 0) 10) (and-left (ltb (eastAt s at) 2) (isLine s at 4 (sizeDigits s at)) e) (and-right (ltb (eastAt s at) 2) (isLine s at 4 (sizeDigits s at)) e)
+    where
+      go : (t : Bool) → ltb (cond t 0 (pairAt s (at + 6))) 2 ≡ true → isLine s at 4 (cond t 6 8) ≡ true
+          → Reads s at (size (pairAt s (at + 2)) (pairAt s (at + 4)) (cond t [] (pairAt s (at + 6) ∷ []))) (at + (cond t 6 8 + 1))
+      go true b e =
+          let h = line-exact s at 4 6 .0 e in
+          let ds = h .only-digits in
+          record {
+            proper = (pair-lt s (at + 2), pair-lt s (at + 4), record { few = omega arith; bits = tt });
+            spans =
+                spans-to
+                (line-spans s at 6 (size (pairAt s (at + 2)) (pairAt s (at + 4)) [])
+                (spans-append (kind-spans s at 4 6 h (omega arith))
+                (spans-append (spans-to (two-spans s at _ ds (at + 2) (omega arith) (omega arith)) refl (let q : at + 2 + 2 ≡ at + 4 = omega arith in q))
+                (spans-append (spans-to (two-spans s at _ ds (at + 4) (omega arith) (omega arith)) refl (let q : at + 4 + 2 ≡ at + 6 = omega arith in q)) (spans-nil s (at + 6)))))
+                (h .ended))
+                refl (omega arith);
+          }
+      go false b e =
+          let h = line-exact s at 4 8 .0 e in
+          let ds = h .only-digits in
+          record {
+            proper = (pair-lt s (at + 2), pair-lt s (at + 4), record { few = omega arith; bits = (ltb-true (pairAt s (at + 6)) 2 b, tt) });
+            spans =
+                spans-to
+                (line-spans s at 8 (size (pairAt s (at + 2)) (pairAt s (at + 4)) (pairAt s (at + 6) ∷ []))
+                (spans-append (kind-spans s at 4 8 h (omega arith))
+                (spans-append (spans-to (two-spans s at _ ds (at + 2) (omega arith) (omega arith)) refl (let q : at + 2 + 2 ≡ at + 4 = omega arith in q))
+                (spans-append (spans-to (two-spans s at _ ds (at + 4) (omega arith) (omega arith)) refl (let q : at + 4 + 2 ≡ at + 6 = omega arith in q))
+                (spans-append (spans-to (two-spans s at _ ds (at + 6) (omega arith) (omega arith)) refl (let q : at + 6 + 2 ≡ at + 8 = omega arith in q)) (spans-nil s (at + 8))))))
+                (h .ended))
+                refl (omega arith);
+          }
 
   abbrev pub tileRead : List ℕ
   tileRead = pairsRead s (at + 2) tileBytes

@@ -23,7 +23,7 @@ abbrev pub kindOf : Frame → ℕ
 kindOf (fields a b c) = 1
 kindOf (passives positions) = 2
 kindOf (group x) = 3
-kindOf (size w h) = 4
+kindOf (size w h extra) = 4
 kindOf (tile bytes) = 5
 
 -- what stands behind it; in a group, from the entry count on and from the position count on
@@ -37,7 +37,7 @@ abbrev pub behind : Frame → List ℕ
 behind (fields a b c) = each four (a ∷ b ∷ c ∷ [])
 behind (passives positions) = two (length positions) ++ each four positions
 behind (group x) = four (x .destination) ++ fromPositions x
-behind (size w h) = two w ++ two h
+behind (size w h extra) = two w ++ (two h ++ each two extra)
 behind (tile bytes) = each two bytes
 
 -- its number comes first
@@ -45,14 +45,14 @@ kind-first : (f : Frame) → digits f ≡ two (kindOf f) ++ behind f
 kind-first (fields a b c) = refl
 kind-first (passives positions) = refl
 kind-first (group x) = refl
-kind-first (size w h) = refl
+kind-first (size w h extra) = refl
 kind-first (tile bytes) = refl
 
 kind-lt : (f : Frame) → kindOf f < 256
 kind-lt (fields a b c) = omega arith
 kind-lt (passives positions) = omega arith
 kind-lt (group x) = omega arith
-kind-lt (size w h) = omega arith
+kind-lt (size w h extra) = omega arith
 kind-lt (tile bytes) = omega arith
 
 abbrev pub Digital : List ℕ → Type 0
@@ -86,7 +86,9 @@ behind-digital (group x) =
     joint (four (x .destination)) (fromPositions x) (four-digital (x .destination))
     (counted-digital (length (x .positions)) (each four (x .positions) ++ fromEntries x)
     (joint (each four (x .positions)) (fromEntries x) (fours-digital (x .positions)) (entries-digital x)))
-behind-digital (size w h) = joint (two w) (two h) (two-digital w) (two-digital h)
+behind-digital (size w h extra) =
+    joint (two w) (two h ++ each two extra) (two-digital w)
+    (joint (two h) (each two extra) (two-digital h) (holds-each (λ (c : ℕ). isDigit c ≡ true) two two-digital extra))
 behind-digital (tile bytes) = holds-each (λ (c : ℕ). isDigit c ≡ true) two two-digital bytes
 
 module _ (s : List ℕ) (at : ℕ) (f : Frame) (h : Stands s at (line f)) where
@@ -125,5 +127,5 @@ pub digits-few : (f : Frame) → Proper f → length (digits f) ≤ 260
 digits-few (fields a b c) p = omega arith
 digits-few (passives positions) p = omega (arith, passives-length positions)
 digits-few (group x) p = omega (arith, group-length x)
-digits-few (size w h) p = omega arith
+digits-few (size w h extra) p = omega (arith, each-length two 2 (λ x. refl) extra, p .2 .few)
 digits-few (tile bytes) p = omega (arith, tile-length bytes)

@@ -1,17 +1,17 @@
 -- Where a proper frame stands, the test of specs/Lines.antt for its kind passes, and the counts that are read are those of its lists. Main laws:
--- `fields-passes`, `passives-passes`, `group-passes`, `size-passes`, `tile-passes`; `size-is`: W and H are those that are read.
-use Prim.Native.Nat.{ℕ, _+_, _*_, _≤_}
-use mathlib.Core.Path.{_≡_, sym, ap, ap₂, _∙_, subst}
+-- `fields-passes`, `passives-passes`, `group-passes`, `size-passes`, `tile-passes`; `size-stands`: W, H and the byte behind them are those that are read.
+use Prim.Native.Nat.{ℕ, _+_, _*_, _≤_, _<_}
+use mathlib.Core.Path.{_≡_, refl, sym, ap, ap₂, _∙_, subst}
 use mathlib.Core.Bool.{true}
-use mathlib.Core.List.{List, [], _++_}
+use mathlib.Core.List.{List, [], _∷_, _++_}
 use native.Mathlib.Omega.{arith}
-use borrow.Author.Tests.{le-leb}
-use lib.ListN.{length}
-use Rattle.lists.proofs.CaseLaws.{and-true}
+use borrow.Author.Tests.{le-leb, lt-ltb, eq-eqb, ne-eqb}
+use lib.ListN.{length, getD}
+use Rattle.lists.proofs.CaseLaws.{and-true, clash}
 use Rattle.texts.specs.Each.{each}
-use Rattle.texts.specs.Hex.{two, four, pairAt}
-use Rattle.frames.specs.Frames.{Group, fields, passives, group, size, tile, entryDigits, digits, line, Proper}
-use Rattle.frames.specs.Lines.{fieldsLine, passiveCount, passiveLine, positionCount, entryCount, groupDigits, groupLine, sizeLine, tileLine}
+use Rattle.texts.specs.Hex.{two, four, isDigit, pairAt}
+use Rattle.frames.specs.Frames.{Group, fields, passives, group, size, tile, entryDigits, digits, line, Proper, eastOf}
+use Rattle.frames.specs.Lines.{fieldsLine, passiveCount, passiveLine, positionCount, entryCount, groupDigits, groupLine, sizeDigits, eastAt, sizeLine, tileLine}
 use Rattle.texts.specs.Pieces.{Stands}
 use Rattle.texts.proofs.StandsLaws.{Spans, spans-right, spans-from}
 use Rattle.texts.proofs.ReadingLaws.{pair-is}
@@ -64,14 +64,46 @@ module _ (s : List ℕ) (at : ℕ) (x : Group) (few : Proper (group x)) (h : Sta
       (line-exact s at 3 (groupDigits s at) .1 (subst (LineAt s at 3) group-digits-is (frame-line s at (group x) h))))
 
 module _ (s : List ℕ) (at : ℕ) where
-  pub size-passes : (w h : ℕ) → Stands s at (line (size w h)) → sizeLine s at ≡ true
-  size-passes w h p = line-exact s at 4 6 .1 (frame-line s at (size w h) p)
+  -- a size that stands there passes, and is the one that is read
+  pub record SizeStands (w h : ℕ) (extra : List ℕ) : Type 0 where
+    pub passes : sizeLine s at ≡ true
+    pub long : length (digits (size w h extra)) ≡ sizeDigits s at
+    pub w-is : pairAt s (at + 2) ≡ w
+    pub h-is : pairAt s (at + 4) ≡ h
+    pub east-is : eastAt s at ≡ eastOf extra
 
-  -- the size that stands there is the one that is read
-  pub size-is : (w h : ℕ) → Proper (size w h) → Stands s at (line (size w h)) → (pairAt s (at + 2) ≡ w) × (pairAt s (at + 4) ≡ h)
-  size-is w h fit p =
-      let q = spans-right (two 4) (two w ++ two h) (frame-digits s at (size w h) p) in
-      (pair-is s (at + 2) w (two h) _ q (fit .0), pair-is s (at + 4) h [] _ (spans-from (spans-right (two w) (two h) q) (omega arith)) (fit .1))
+  pub size-stands : (w h : ℕ) (extra : List ℕ) → Proper (size w h extra) → Stands s at (line (size w h extra)) → SizeStands w h extra
+  unfolding sizeLine sizeDigits eastAt isDigit
+  size-stands w h [] fit p =
+      let l = frame-line s at (size w h []) p in
+      let e = eq-eqb (getD s (at + 6) 0) 10 (l .ended) in
+      let q = spans-right (two 4) (two w ++ (two h ++ [])) (frame-digits s at (size w h []) p) in
+      record {
+        passes = rw e (line-exact s at 4 6 .1 l);
+        long = rw e refl;
+        w-is = pair-is s (at + 2) w (two h ++ []) _ q (fit .0);
+        h-is = pair-is s (at + 4) h [] _ (spans-from (spans-right (two w) (two h ++ []) q) (omega arith)) (fit .1);
+        east-is = rw e refl;
+      }
+  size-stands w h (b ∷ []) fit p =
+      let l = frame-line s at (size w h (b ∷ [])) p in
+      let digit = l .only-digits (at + 6) (omega arith) (omega arith) in
+      let e = ne-eqb (getD s (at + 6) 0) 10 (λ z. clash digit (ap isDigit z)) in
+      let q = spans-right (two 4) (two w ++ (two h ++ (two b ++ []))) (frame-digits s at (size w h (b ∷ [])) p) in
+      let q2 = spans-from (spans-right (two w) (two h ++ (two b ++ [])) q) (let z : at + 2 + 2 ≡ at + 4 = omega arith in z) in
+      let small : b < 2 = fit .2 .bits .0 in
+      let is : pairAt s (at + 6) ≡ b = pair-is s (at + 6) b [] _ (spans-from (spans-right (two h) (two b ++ []) q2) (omega arith)) (omega arith) in
+      record {
+        passes = rw e (and-true (lt-ltb (pairAt s (at + 6)) 2 (omega arith)) (line-exact s at 4 8 .1 l));
+        long = rw e refl;
+        w-is = pair-is s (at + 2) w (two h ++ (two b ++ [])) _ q (fit .0);
+        h-is = pair-is s (at + 4) h (two b ++ []) _ q2 (fit .1);
+        east-is = rw e is;
+      }
+  size-stands w h (a ∷ b ∷ rest) fit p = absurd (let few = fit .2 .few in omega arith)
+
+  pub size-passes : (w h : ℕ) (extra : List ℕ) → Proper (size w h extra) → Stands s at (line (size w h extra)) → sizeLine s at ≡ true
+  size-passes w h extra fit p = size-stands w h extra fit p .passes
 
   pub tile-passes : (bytes : List ℕ) → Proper (tile bytes) → Stands s at (line (tile bytes)) → tileLine s at ≡ true
   tile-passes bytes fit p =

@@ -9,7 +9,7 @@ use native.Mathlib.Nat.{sub-zero}
 use Rattle.lists.specs.Search.{first}
 use Rattle.lists.proofs.SearchLaws.{first-turn-hit, first-turn-skip, first-turn-end}
 use Rattle.frames.specs.Lines.{passiveCount, groupDigits, groupLine, tileLine}
-use Rattle.frames.specs.Input.{groupAt, groupCount, sizeAt, tilesDue, tileCount}
+use Rattle.frames.specs.Input.{groupAt, groupCount, sizeAt, tilesDue, tilesFrom, tileCount}
 use Rattle.frames.proofs.BoundLaws.{group-at-le}
 
 -- ---- counting groups
@@ -58,6 +58,6 @@ module _ (s : List ℕ) (at g : ℕ) (inv : Counting s at g) where
   counting-end l = counted (first-turn-end (noGroup s) g 512 (groupCount s) (inv .rest) l)
 
 -- the tiles that the code counts, at the position that it has
-pub tiles-are : (s : List ℕ) (at due : ℕ) → at ≡ sizeAt s → due ≡ tilesDue s → first (λ t. not (tileLine s (at + 7 + 219 * t))) 0 due ≡ tileCount s
+pub tiles-are : (s : List ℕ) (from due : ℕ) → from ≡ tilesFrom s → due ≡ tilesDue s → first (λ t. not (tileLine s (from + 219 * t))) 0 due ≡ tileCount s
 unfolding tileCount
-tiles-are s at due e d = ap₂ (λ a n. first (λ t. not (tileLine s (a + 7 + 219 * t))) 0 n) e d
+tiles-are s from due e d = ap₂ (λ a n. first (λ t. not (tileLine s (a + 219 * t))) 0 n) e d

@@ -9,7 +9,7 @@ pub mod StuckLaws  -- stuck-..: where a test of Lines fails no frame that is due
 pub mod SmallLaws  -- small-of, small-passes: the test of W and H; small-due: at most nine tiles
 pub mod ContentsLaws  -- table-head, table-group: the numbers of tableOf by place; position-number, pattern-number, source-number; table-long, bits-long: the exact lengths
 pub mod WholeLaws  -- inputRead: the input that was read; table-holds, bits-flat: table and bits hold what its frames say
-pub mod MeaningLaws  -- parsed-says: every answer says what specs/Meaning.antt has it say
+pub mod MeaningLaws  -- parsed-says: every answer says what specs/Meaning.antt has it say; east-few: the byte that is read is 0 or 1
 pub mod AgreeLaws  -- Agree: two inputs with one beginning; pair-same, line-same, group-same: a test that looks there says the same of both
 pub mod PrefixLaws  -- parsed-prefix: an input of any length has the answer of its first 131,072 bytes
 pub mod ComeLaws  -- Come: how far an input has come at a stage; size-same: W and H of a size in its turn

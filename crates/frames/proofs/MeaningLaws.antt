@@ -1,21 +1,24 @@
--- Every answer to an input says what specs/Meaning.antt has it say. Main law: `parsed-says`. Assumes nothing.
+-- Every answer to an input says what specs/Meaning.antt has it say. Main laws: `parsed-says`; `east-few`. Assumes nothing.
 use Prim.Native.Nat.{ℕ, _+_, _-_, _<_, _≤_}
 use mathlib.Core.Path.{_≡_, refl, sym, subst}
 use mathlib.Core.Bool.{true, false, _&&_}
-use mathlib.Core.List.{List, []}
+use mathlib.Core.List.{List, [], _∷_, map}
 use native.Mathlib.Omega.{arith}
 use borrow.Author.Tests.{leb-true, leb-false, eqb-true, eqb-false}
 use lib.Dec.{eqb, leb}
 use lib.ListN.{length}
 use Rattle.lists.proofs.CaseLaws.{clash}
 use Rattle.refusal.proofs.GroundsLaws.{unless-cases}
+use Rattle.texts.specs.Each.{Each}
+use Rattle.texts.proofs.EachLaws.{holds-behind}
+use Rattle.frames.specs.Frames.{group, size, tile, Proper, eastOf}
 use Rattle.frames.specs.Lines.{fieldsLine, passiveLine, sizeLine}
-use Rattle.frames.specs.Input.{groupCount, sizeAt, width, height, small, tilesDue, tileAt, tileCount, parsed}
+use Rattle.frames.specs.Input.{groupCount, sizeAt, width, height, east, small, tilesDue, tileAt, tileCount, parsed}
 use Rattle.frames.specs.Whole.{Small}
 use Rattle.frames.specs.declared.input.Parsed.{Parsed}
 use Rattle.frames.specs.Meaning.{begun, with-fields, with-groups, tiles-left, nothing, LineSays, SizeSays, BlockSays, wrong-size, bad-line, ParsedSays}
 use Rattle.frames.proofs.SmallLaws.{small-of, small-passes}
-use Rattle.frames.proofs.FrameLaws.{size-reads}
+use Rattle.frames.proofs.FrameLaws.{extraRead, east-read, size-reads}
 use Rattle.frames.proofs.TurnLaws.{groups-frames-length, tiles-frames-length, group-stops, tile-stops, begins-fields, begins-groups, begins-tiles}
 use Rattle.frames.proofs.StuckLaws.{stuck-begun, stuck-fields, stuck-groups, stuck-tiles, stuck-end}
 use Rattle.frames.proofs.WholeLaws.{inputRead, table-holds, bits-flat, input-whole}
@@ -51,6 +54,7 @@ module _ (s : List ℕ) where
           g = groupCount s;
           w = width s;
           h = height s;
+          extra = extraRead s (sizeAt s);
           begins = begins-groups s one two (groupCount s) (omega arith);
           proper = size-reads s (sizeAt s) three .proper;
           stands = size-reads s (sizeAt s) three .spans .stands;
@@ -79,12 +83,13 @@ module _ (s : List ℕ) where
               place = omega (arith, tiles-frames-length s (tilesDue s));
             }
 
-            block-yes : length s ≡ tileAt s (tilesDue s) → BlockSays s (width s) (height s)
+            block-yes : length s ≡ tileAt s (tilesDue s) → BlockSays s (width s) (height s) (east s)
             block-yes e = record {
               input = inputRead s;
               whole = input-whole s few (tileAt s (tilesDue s)) (tilesDue s - tilesDue s) (begins-tiles s one two three few (tilesDue s) all) e;
               w-is = refl;
               h-is = refl;
+              east-is = east-read s (sizeAt s);
               table = table-holds s two;
               bits = bits-flat s;
             }
@@ -105,3 +110,14 @@ module _ (s : List ℕ) where
   -- an answer that is the right one says what it should
   pub says-too : (r : Parsed) → r ≡ parsed s → (r ≡ parsed s) × ParsedSays s r
   says-too r e = (e, subst (ParsedSays s) (sym e) parsed-says)
+
+-- what a yes says of the column to the east is 0 or 1
+pub east-few : (s : List ℕ) (w h e : ℕ) → BlockSays s w h e → e < 2
+east-few s w h e says =
+    let i = says .input in
+    let fit = holds-behind Proper (map group (i .groups)) (size (i .w) (i .h) (i .extra) ∷ map tile (i .tiles)) (says .whole .proper .1 .1) .0 in
+    subst (λ (b : ℕ). b < 2) (says .east-is) (go (i .extra) (fit .2 .bits))
+  where
+    go : (extra : List ℕ) → Each (λ (b : ℕ). b < 2) extra → eastOf extra < 2
+    go [] few = omega arith
+    go (b ∷ rest) few = few .0

@@ -12,7 +12,7 @@ use Rattle.lists.proofs.CaseLaws.{and-left, and-right}
 use Rattle.refusal.specs.declared.Refusal.the-variants.{WrongSize, Line}
 use Rattle.frames.specs.declared.input.Parsed.the-variants.{Block, Refused}
 use Rattle.frames.specs.Lines.{fieldsLine, passiveLine, sizeLine}
-use Rattle.frames.specs.Input.{groupCount, sizeAt, width, height, small, tilesDue, tileAt, tileCount, Opened, parsed}
+use Rattle.frames.specs.Input.{groupCount, sizeAt, width, height, east, small, tilesDue, tileAt, tileCount, Opened, parsed}
 
 small-most : (n : ℕ) → small n ≡ true → n ≤ 3
 small-most n e = leb-true n 3 (and-right (leb 1 n) (leb n 3) e)
@@ -46,6 +46,6 @@ module _ (s : List ℕ) (o : Opened s) where
   unfolding parsed
   parsed-extra l n = rw (o .fields, o .passives, o .size, o .few, le-leb (tilesDue s) (tileCount s) l, ne-eqb (length s) (tileAt s (tilesDue s)) n)
 
-  pub parsed-block : tilesDue s ≤ tileCount s → length s ≡ tileAt s (tilesDue s) → parsed s ≡ Block (width s) (height s)
+  pub parsed-block : tilesDue s ≤ tileCount s → length s ≡ tileAt s (tilesDue s) → parsed s ≡ Block (width s) (height s) (east s)
   unfolding parsed
   parsed-block l e = rw (o .fields, o .passives, o .size, o .few, le-leb (tilesDue s) (tileCount s) l, eq-eqb (length s) (tileAt s (tilesDue s)) e)

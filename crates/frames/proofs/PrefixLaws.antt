@@ -2,13 +2,13 @@
 -- `parsed-prefix`.
 use Prim.Native.Nat.{ℕ, zero, suc, _+_, _*_, _<_, _≤_}
 use mathlib.Core.Path.{_≡_, refl, sym, ap, ap₂, _∙_}
-use mathlib.Core.Bool.{Bool, true, false, not, _&&_}
+use mathlib.Core.Bool.{Bool, true, false, not, cond, _&&_}
 use mathlib.Core.Logic.{⊎-elim}
 use mathlib.Core.List.{List}
 use native.Mathlib.Omega.{arith}
 use borrow.Author.Tests.{ne-eqb}
-use lib.Dec.{eqb, leb}
-use lib.ListN.{length, take}
+use lib.Dec.{eqb, leb, ltb}
+use lib.ListN.{length, take, getD}
 use lib.Seq.{getD-take, length-take-le, take-all}
 use Rattle.lists.specs.Search.{first}
 use Rattle.lists.proofs.CaseLaws.{lt-or-le}
@@ -17,11 +17,11 @@ use Rattle.refusal.specs.Grounds.{unless}
 use Rattle.refusal.specs.declared.Refusal.the-variants.{Line}
 use Rattle.frames.specs.declared.input.Parsed.the-variants.{Block, Refused}
 use Rattle.texts.specs.Hex.{pairAt}
-use Rattle.frames.specs.Lines.{groupDigits, groupLine, sizeLine, tileLine}
-use Rattle.frames.specs.Input.{groupAt, groupCount, sizeAt, width, height, small, tilesDue, tileAt, tileCount, parsed}
+use Rattle.frames.specs.Lines.{isLine, groupDigits, groupLine, sizeDigits, eastAt, sizeLine, tileLine}
+use Rattle.frames.specs.Input.{groupAt, groupCount, sizeAt, width, height, east, small, tilesDue, tilesFrom, tileAt, tileCount, parsed}
 use Rattle.texts.proofs.HexLaws.{pair-lt}
 use Rattle.frames.proofs.TurnLaws.{counted-group, group-stops}
-use Rattle.frames.proofs.BoundLaws.{group-count-le}
+use Rattle.frames.proofs.BoundLaws.{group-count-le, size-digits-le}
 use Rattle.frames.proofs.SmallLaws.{small-of, small-due}
 use Rattle.frames.proofs.AgreeLaws.{Agree, pair-same, line-same, passive-same, group-digits-same, group-same, group-digits-le}
 
@@ -80,8 +80,31 @@ module _ (s t : List ℕ) (same : Agree s t 131072) where
   unfolding sizeAt
   size-at-same = group-at-same (groupCount s) (omega arith) ∙ ap (groupAt t) (sym group-count-same)
 
+  -- the byte that may be left out
+  behind-same : getD s (sizeAt s + 6) 0 ≡ getD t (sizeAt s + 6) 0
+  behind-same = same (sizeAt s + 6) (omega (arith, size-at-le s))
+
+  digits-here : sizeDigits s (sizeAt s) ≡ sizeDigits t (sizeAt s)
+  unfolding sizeDigits
+  digits-here = ap (λ (c : ℕ). cond (eqb c 10) 6 8) behind-same
+
+  east-here : eastAt s (sizeAt s) ≡ eastAt t (sizeAt s)
+  unfolding eastAt
+  east-here = ap₂ (λ (c p : ℕ). cond (eqb c 10) 0 p) behind-same (pair-same s t 131072 same (sizeAt s + 6) (omega (arith, size-at-le s)))
+
   size-line-same : sizeLine s (sizeAt s) ≡ sizeLine t (sizeAt t)
-  size-line-same = line-same s t 131072 same (sizeAt s) 4 6 (omega (arith, size-at-le s)) ∙ ap (sizeLine t) size-at-same
+  unfolding sizeLine
+  size-line-same =
+      ap₂ (λ (e : ℕ) (l : Bool). ltb e 2 && l) east-here
+      (line-same s t 131072 same (sizeAt s) 4 (sizeDigits s (sizeAt s)) (omega (arith, size-at-le s, size-digits-le s (sizeAt s)))
+      ∙ ap (isLine t (sizeAt s) 4) digits-here)
+      ∙ ap (sizeLine t) size-at-same
+
+  east-same : east s ≡ east t
+  east-same = east-here ∙ ap (eastAt t) size-at-same
+
+  from-same : tilesFrom s ≡ tilesFrom t
+  from-same = ap₂ (λ (a d : ℕ). a + (d + 1)) size-at-same (digits-here ∙ ap (sizeDigits t) size-at-same)
 
   width-same : width s ≡ width t
   width-same = pair-same s t 131072 same (sizeAt s + 2) (omega (arith, size-at-le s)) ∙ ap (λ (at : ℕ). pairAt t (at + 2)) size-at-same
@@ -95,7 +118,7 @@ module _ (s t : List ℕ) (same : Agree s t 131072) where
   module _ (few : tilesDue s ≤ 9) where
     tile-line-same : (k : ℕ) → k < tilesDue s → tileLine s (tileAt s k) ≡ tileLine t (tileAt t k)
     tile-line-same k l =
-        line-same s t 131072 same (tileAt s k) 5 218 (omega (arith, size-at-le s)) ∙ ap (λ (at : ℕ). tileLine t (at + 7 + 219 * k)) size-at-same
+        line-same s t 131072 same (tileAt s k) 5 218 (omega (arith, size-at-le s, size-digits-le s (sizeAt s))) ∙ ap (λ (at : ℕ). tileLine t (at + 219 * k)) from-same
 
     tile-count-same : tileCount s ≡ tileCount t
     unfolding tileCount
@@ -104,7 +127,7 @@ module _ (s t : List ℕ) (same : Agree s t 131072) where
         ∙ ap (first (λ k. not (tileLine t (tileAt t k))) 0) due-same
 
     end-same : tileAt s (tilesDue s) ≡ tileAt t (tilesDue t)
-    end-same = ap₂ (λ (at k : ℕ). at + 7 + 219 * k) size-at-same due-same
+    end-same = ap₂ (λ (at k : ℕ). at + 219 * k) from-same due-same
 
   -- ---- the answer
 
@@ -118,9 +141,9 @@ module _ (s t : List ℕ) (same : Agree s t 131072) where
         (λ three. unless-same (ap₂ (λ (w h : ℕ). small w && small h) width-same height-same) refl
         (λ e. let few = small-due (width s) (height s) (small-of (width s) (height s) e) in
         unless-same (ap₂ leb due-same (tile-count-same few)) (ap₂ (λ (g k : ℕ). Refused (Line (4 + g + k))) (sym group-count-same) (tile-count-same few))
-        (λ all. unless-same (ends (tileAt s (tilesDue s)) (omega (arith, size-at-le s)) ∙ ap (eqb (length t)) (end-same few))
+        (λ all. unless-same (ends (tileAt s (tilesDue s)) (omega (arith, size-at-le s, size-digits-le s (sizeAt s))) ∙ ap (eqb (length t)) (end-same few))
         (ap₂ (λ (g k : ℕ). Refused (Line (4 + g + k))) (sym group-count-same) due-same)
-        (λ e. ap₂ Block width-same height-same))))))
+        (λ e. ap₂ (λ (w h : ℕ). Block w h (east s)) width-same height-same ∙ ap (Block (width t) (height t)) east-same))))))
 
 -- "a file of any size must be answered"
 pub parsed-prefix : (s : List ℕ) (n : ℕ) → 131072 ≤ n → parsed (take n s) ≡ parsed s

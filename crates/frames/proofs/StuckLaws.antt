@@ -33,7 +33,7 @@ module _ (s : List ℕ) where
     where
       none : (g : ℕ) → (g < 512 → groupLine s at ≡ false) → (f : Frame) (next : Stage) → Turn (with-groups g) f next → Proper f → Stands s at (line f) → ⊥
       none g d f next (a-group {x = x} l) p h = clash (group-passes s at x p h) (d l)
-      none g d f next (the-size {w = w} {h = k}) p h = clash (size-passes s at w k h) e
+      none g d f next (the-size {w = w} {h = k} {extra = x}) p h = clash (size-passes s at w k x p h) e
 
   pub stuck-tiles : (at n : ℕ) → n ≢ 0 → tileLine s at ≡ false → Stuck s at (tiles-left n)
   stuck-tiles at n some e = record { none-due = none n; not-whole = λ q. absurd (some (cc)) }

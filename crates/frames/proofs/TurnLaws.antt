@@ -15,7 +15,7 @@ use Rattle.texts.specs.Each.{Each}
 use Rattle.frames.specs.Frames.{Group, Frame, group, tile, line, Proper}
 use Rattle.frames.specs.Whole.{Small, text}
 use Rattle.frames.specs.Lines.{fieldsLine, passiveLine, groupLine, sizeLine, tileLine}
-use Rattle.frames.specs.Input.{groupAt, groupCount, sizeAt, width, height, tilesDue, tileAt, tileCount}
+use Rattle.frames.specs.Input.{groupAt, groupCount, sizeAt, width, height, tilesDue, tilesFrom, tileAt, tileCount}
 use Rattle.frames.specs.Meaning.{Stage, with-fields, with-groups, tiles-left, Turn, the-fields, the-passives, a-group, the-size, a-tile, Sized, Begins, nothing, one-more}
 use Rattle.frames.proofs.BoundLaws.{group-count-le}
 use Rattle.texts.proofs.EachLaws.{each-append, holds-append, mapped-last}
@@ -119,7 +119,7 @@ module _ (s : List ℕ) where
       -- ---- the size and the tiles
 
       module _ (three : sizeLine s (sizeAt s) ≡ true) (small : Small (width s) (height s)) where
-        pub begins-size : Begins s (tilesFrames 0) (sizeAt s + 7) (tiles-left (tilesDue s))
+        pub begins-size : Begins s (tilesFrames 0) (tilesFrom s) (tiles-left (tilesDue s))
         unfolding sizeAt tabulate
         begins-size = goes-on (begins-groups (groupCount s) (omega arith)) the-size small (size-reads s (groupAt s (groupCount s)) three)
 

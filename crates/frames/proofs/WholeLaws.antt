@@ -11,13 +11,13 @@ use Rattle.routing.specs.LogicTile.{logicTile}
 use Rattle.routing.specs.Table.{positionAt, passiveAt}
 use Rattle.texts.specs.Hex.{quadAt}
 use Rattle.frames.specs.Lines.{passiveCount, positionCount, entryCount, passiveLine}
-use Rattle.frames.specs.Input.{groupAt, groupCount, width, height, tilesDue, tileAt}
+use Rattle.frames.specs.Input.{groupAt, groupCount, sizeAt, width, height, tilesDue, tileAt}
 use Rattle.frames.specs.Whole.{Input, Small, Whole, EntryHolds, GroupHolds, Holds, flat}
 use Rattle.frames.specs.Contents.{headNumber, groupNumber, tableOf, bytesOfTile, bitsOf}
 use Rattle.frames.specs.Meaning.{Begins, tiles-left}
 use Rattle.texts.proofs.EachLaws.{holds-from-tabulate}
 use Rattle.frames.proofs.ListReadLaws.{entryRead, quadsRead}
-use Rattle.frames.proofs.FrameLaws.{groupRead, tileRead, passives-reads, group-reads}
+use Rattle.frames.proofs.FrameLaws.{groupRead, extraRead, tileRead, passives-reads, group-reads}
 use Rattle.frames.proofs.TurnLaws.{groupsRead, tilesRead, tilesFrames, counted-group, begins-text, begins-proper}
 use Rattle.frames.proofs.BoundLaws.{group-count-le}
 use Rattle.frames.proofs.ContentsLaws.{table-head, table-group, passive-number, position-number, pattern-number, source-number, flat-joined}
@@ -32,6 +32,7 @@ module _ (s : List ℕ) where
     groups = groupsRead s (groupCount s);
     w = width s;
     h = height s;
+    extra = extraRead s (sizeAt s);
     tiles = tilesRead s (tilesDue s);
   }
 

@@ -55,5 +55,5 @@ module _ (s : List ℕ) (i : Input) (whole : Whole s i) where
   pub whole-begins : Begins s (framesOf i) (length s) (tiles-left 0)
   whole-begins =
       run whole-turns nothing (whole .proper)
-      (tt, (tt, holds-append Sized (map group (i .groups)) (size (i .w) (i .h) ∷ map tile (i .tiles)) (sized-groups (i .groups)) (whole .small, sized-tiles (i .tiles))))
+      (tt, (tt, holds-append Sized (map group (i .groups)) (size (i .w) (i .h) (i .extra) ∷ map tile (i .tiles)) (sized-groups (i .groups)) (whole .small, sized-tiles (i .tiles))))
       (record { stands = sym (ap (λ (l : List ℕ). take (length l) s) (whole .is)) ∙ take-length s ∙ whole .is; ends = zero-add _ ∙ ap length (sym (whole .is)) })

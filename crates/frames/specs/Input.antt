@@ -11,7 +11,7 @@ use Rattle.lists.specs.Search.{first}
 use Rattle.refusal.specs.Grounds.{unless, numberOf, placeOf}
 use Rattle.refusal.specs.declared.Refusal.the-variants.{WrongSize, Line}
 use Rattle.texts.specs.Hex.{pairAt}
-use Rattle.frames.specs.Lines.{fieldsLine, passiveCount, passiveLine, groupDigits, groupLine, sizeLine, tileLine}
+use Rattle.frames.specs.Lines.{fieldsLine, passiveCount, passiveLine, groupDigits, groupLine, sizeDigits, eastAt, sizeLine, tileLine}
 use Rattle.frames.specs.declared.input.Parsed.{Parsed}
 use Rattle.frames.specs.declared.input.Parsed.the-variants.{Block, Refused}
 
@@ -24,7 +24,7 @@ groupAt s (suc g) = groupAt s g + (groupDigits s (groupAt s g) + 1)
 unfoldable pub groupCount : List ℕ → ℕ
 groupCount s = first (λ g. not (groupLine s (groupAt s g))) 0 512
 
--- the block frame, and W and H in it
+-- the block frame, W and H in it, and what it says of the column to the east
 unfoldable pub sizeAt : List ℕ → ℕ
 sizeAt s = groupAt s (groupCount s)
 
@@ -34,6 +34,9 @@ width s = pairAt s (sizeAt s + 2)
 abbrev pub height : List ℕ → ℕ
 height s = pairAt s (sizeAt s + 4)
 
+abbrev pub east : List ℕ → ℕ
+east s = eastAt s (sizeAt s)
+
 -- "1: W or H not 1 to 8 (programs: 1 to 3)"
 abbrev pub small : ℕ → Bool
 small n = leb 1 n && leb n 3
@@ -41,9 +44,12 @@ small n = leb 1 n && leb n 3
 abbrev pub tilesDue : List ℕ → ℕ
 tilesDue s = height s * width s
 
--- where the frame of tile t begins, and how many stand there of those that are due
+-- where the frame of tile t begins, behind the block frame, and how many stand there of those that are due
+abbrev pub tilesFrom : List ℕ → ℕ
+tilesFrom s = sizeAt s + (sizeDigits s (sizeAt s) + 1)
+
 abbrev pub tileAt : List ℕ → ℕ → ℕ
-tileAt s t = sizeAt s + 7 + 219 * t
+tileAt s t = tilesFrom s + 219 * t
 
 unfoldable pub tileCount : List ℕ → ℕ
 tileCount s = first (λ t. not (tileLine s (tileAt s t))) 0 (tilesDue s)
@@ -64,14 +70,14 @@ parsed s =
     (unless (small (width s) && small (height s)) (Refused WrongSize)
     (unless (leb (tilesDue s) (tileCount s)) (Refused (Line (4 + groupCount s + tileCount s)))
     (unless (eqb (length s) (tileAt s (tilesDue s))) (Refused (Line (4 + groupCount s + tilesDue s)))
-    (Block (width s) (height s)))))))
+    (Block (width s) (height s) (east s)))))))
 
 -- the paper's number of an answer, 0 for a yes
 abbrev pub parsedNumber : Parsed → ℕ
-parsedNumber (Block w h) = 0
+parsedNumber (Block w h e) = 0
 parsedNumber (Refused refusal) = numberOf refusal
 
--- the place that comes with it in a frame 08; a yes has w and h, and frame 08 says 0
+-- the place that comes with it in a frame 08; a yes has the block, and frame 08 says 0
 abbrev pub parsedPlace : Parsed → ℕ
-parsedPlace (Block w h) = 0
+parsedPlace (Block w h e) = 0
 parsedPlace (Refused refusal) = placeOf refusal

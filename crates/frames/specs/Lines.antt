@@ -1,9 +1,9 @@
 -- The lines of an input, each by the position at which it begins. A frame's number of digits depends only on its counts, so a line is
 -- a frame exactly if so many digits and a line end stand there. proofs/FrameLaws.antt: these are exactly the lines of specs/Frames.antt.
 use Prim.Native.Nat.{ℕ, _+_, _*_}
-use mathlib.Core.Bool.{Bool, _&&_}
+use mathlib.Core.Bool.{Bool, cond, _&&_}
 use mathlib.Core.List.{List}
-use lib.Dec.{eqb, leb}
+use lib.Dec.{eqb, leb, ltb}
 use lib.ListN.{getD}
 use Rattle.lists.specs.Search.{allFrom}
 use Rattle.texts.specs.Hex.{isDigit, pairAt}
@@ -41,9 +41,17 @@ groupDigits s at = 10 + 4 * positionCount s at + 6 * entryCount s at
 unfoldable pub groupLine : List ℕ → ℕ → Bool
 groupLine s at = leb (positionCount s at) 8 && (leb (entryCount s at) 32 && isLine s at 3 (groupDigits s at))
 
--- "04 W, H; 05 a tile"
-abbrev pub sizeLine : List ℕ → ℕ → Bool
-sizeLine s at = isLine s at 4 6
+-- "04 W, H", and W2's byte, "01 for such an east column, else 00 or left out": a line end in its place leaves it out
+unfoldable pub sizeDigits : List ℕ → ℕ → ℕ
+sizeDigits s at = cond (eqb (getD s (at + 6) 0) 10) 6 8
 
+unfoldable pub eastAt : List ℕ → ℕ → ℕ
+eastAt s at = cond (eqb (getD s (at + 6) 0) 10) 0 (pairAt s (at + 6))
+
+-- "another byte is 11 in the frame, before 1"
+unfoldable pub sizeLine : List ℕ → ℕ → Bool
+sizeLine s at = ltb (eastAt s at) 2 && isLine s at 4 (sizeDigits s at)
+
+-- "05 a tile"
 abbrev pub tileLine : List ℕ → ℕ → Bool
 tileLine s at = isLine s at 5 218

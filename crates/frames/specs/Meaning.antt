@@ -8,7 +8,7 @@ use lib.ListN.{length}
 use Rattle.refusal.specs.declared.Refusal.{Refusal}
 use Rattle.refusal.specs.declared.Refusal.the-variants.{WrongSize, Line}
 use Rattle.texts.specs.Pieces.{Stands}
-use Rattle.frames.specs.Frames.{Group, Frame, fields, passives, group, size, tile, line, Proper}
+use Rattle.frames.specs.Frames.{Group, Frame, fields, passives, group, size, tile, line, Proper, eastOf}
 use Rattle.frames.specs.Whole.{Input, Small, Whole, Holds, flat}
 use Rattle.frames.specs.Contents.{tableOf, bitsOf}
 use Rattle.frames.specs.declared.input.Parsed.{Parsed}
@@ -27,7 +27,7 @@ pub data Turn : Stage → Frame → Stage → Type 0 where
   the-passives : {positions : List ℕ} → Turn with-fields (passives positions) (with-groups 0)
   -- "at most 512 groups", and "11 [..] also for a count over its limit"
   a-group : {g : ℕ} {x : Group} → g < 512 → Turn (with-groups g) (group x) (with-groups (suc g))
-  the-size : {g w h : ℕ} → Turn (with-groups g) (size w h) (tiles-left (h * w))
+  the-size : {g w h : ℕ} {extra : List ℕ} → Turn (with-groups g) (size w h extra) (tiles-left (h * w))
   a-tile : {n : ℕ} {bytes : List ℕ} → Turn (tiles-left (suc n)) (tile bytes) (tiles-left n)
 
 -- the opposite of "W or H not 1 to 8 (programs: 1 to 3)"; other frames have no size
@@ -35,7 +35,7 @@ abbrev pub Sized : Frame → Type 0
 Sized (fields a b c) = Unit {0}
 Sized (passives positions) = Unit {0}
 Sized (group x) = Unit {0}
-Sized (size w h) = Small w h
+Sized (size w h extra) = Small w h
 Sized (tile bytes) = Unit {0}
 
 -- the first lines of s, up to position `at`, are these frames, each in its turn, and lead to a stage
@@ -65,17 +65,19 @@ pub record SizeSays (s : List ℕ) : Type 0 where
   pub g : ℕ
   pub w : ℕ
   pub h : ℕ
+  pub extra : List ℕ
   pub begins : Begins s frames at (with-groups g)
-  pub proper : Proper (size w h)
-  pub stands : Stands s at (line (size w h))
+  pub proper : Proper (size w h extra)
+  pub stands : Stands s at (line (size w h extra))
   pub not-small : Small w h → ⊥
 
 -- a yes: s is the text of a whole input, and table and bits hold what its frames say
-pub record BlockSays (s : List ℕ) (w h : ℕ) : Type 0 where
+pub record BlockSays (s : List ℕ) (w h e : ℕ) : Type 0 where
   pub input : Input
   pub whole : Whole s input
   pub w-is : input .w ≡ w
   pub h-is : input .h ≡ h
+  pub east-is : eastOf (input .extra) ≡ e
   pub table : Holds (tableOf s) input
   pub bits : bitsOf s (h * w) ≡ flat (input .tiles)
 
@@ -86,5 +88,5 @@ pub data ParsedNo (s : List ℕ) : Refusal → Type 0 where
 
 -- what an answer to an input says
 abbrev pub ParsedSays : List ℕ → Parsed → Type 0
-ParsedSays s (Block w h) = BlockSays s w h
+ParsedSays s (Block w h e) = BlockSays s w h e
 ParsedSays s (Refused refusal) = ParsedNo s refusal

@@ -17,11 +17,12 @@ pub record Input : Type 0 where
   pub groups : List Group
   pub w : ℕ
   pub h : ℕ
+  pub extra : List ℕ
   pub tiles : List (List ℕ)
 
 -- "One 01, one 02, the 03s, one 04, the 05s."
 abbrev pub framesOf : Input → List Frame
-framesOf i = fields (i .a) (i .b) (i .c) ∷ passives (i .passive) ∷ (map group (i .groups) ++ (size (i .w) (i .h) ∷ map tile (i .tiles)))
+framesOf i = fields (i .a) (i .b) (i .c) ∷ passives (i .passive) ∷ (map group (i .groups) ++ (size (i .w) (i .h) (i .extra) ∷ map tile (i .tiles)))
 
 -- the lines of frames, one after another
 abbrev pub text : List Frame → List ℕ

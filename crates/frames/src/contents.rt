@@ -148,7 +148,7 @@ pub fn fill_bits(s: &[u8], n: usize, bits: &mut [u8])
     ensures { λ r. ⌜ now (bits .exit) ≡ bitsOf (now (s .entry)) n ⌝ }
 {
     let found = count_groups(s);
-    let start = found.end + 7;
+    let start = found.end + lines::size_digits(s, found.end) + 1;
     let mut t = 0;
     while t < n {
         let from = TILE_BYTES * t;

@@ -5,17 +5,17 @@ ghost use lib.ListN.{length};
 ghost use mathlib.Core.Bool.{not};
 ghost use Rattle.lists.specs.Search.{first};
 ghost use Rattle.refusal.specs.declared.Refusal.the-variants.{Line};
-ghost use Rattle.frames.specs.Lines.{tileLine};
-ghost use Rattle.frames.specs.Input.{groupCount, sizeAt, width, height, small, Opened, parsed};
+ghost use Rattle.frames.specs.Lines.{eastAt, tileLine};
+ghost use Rattle.frames.specs.Input.{groupCount, sizeAt, width, height, small, tilesFrom, Opened, parsed};
 ghost use Rattle.frames.specs.Meaning.{ParsedSays};
 ghost use Rattle.frames.specs.declared.input.Parsed.the-variants.{Refused};
 use crate::lines;
 use refusal::Refusal;
 use texts::hex::pair;
 
-// W and H, or why there is no block.
+// W, H and what is said of the column to the east, or why there is no block.
 pub enum Parsed {
-    Block(u32, u32),
+    Block(u32, u32, u32),
     Refused(Refusal),
 }
 
@@ -73,20 +73,21 @@ fn line(n: usize) -> Parsed
     Parsed::Refused(Refusal::Line(n as u32))
 }
 
-// Behind a good block frame, which begins at a position and has g groups before it: the tiles that are due, and nothing more.
-fn parse_tiles(s: &[u8], g: usize, at: usize, w: u16, h: u16) -> Parsed
-    requires { ⌜ Opened (now s) × (g ≡ groupCount (now s)) × (at ≡ sizeAt (now s)) × (w ≡ width (now s)) × (h ≡ height (now s)) ⌝ }
+// Behind a good block frame that has g groups before it, from a position on: the tiles that are due, and nothing more.
+fn parse_tiles(s: &[u8], g: usize, from: usize, w: u16, h: u16, east: u16) -> Parsed
+    requires { ⌜ Opened (now s) × (g ≡ groupCount (now s)) × (from ≡ tilesFrom (now s)) × (w ≡ width (now s)) × (h ≡ height (now s)) ×
+        (east ≡ eastAt (now s) (sizeAt (now s))) ⌝ }
     ensures { λ r. ⌜ r ≡ parsed (now (s .entry)) ⌝ }
 {
     let due = (h * w) as usize;
-    let tiles = tile_count(s, at + 7, due);
+    let tiles = tile_count(s, from, due);
     if tiles < due {
         return line(4 + g + tiles);
     }
-    if s.len() != at + 7 + 219 * due {
+    if s.len() != from + 219 * due {
         return line(4 + g + due);
     }
-    Parsed::Block(w as u32, h as u32)
+    Parsed::Block(w as u32, h as u32, east as u32)
 }
 
 // Reads an input of frames. Grounds 11 and 1 as they are met.
@@ -115,5 +116,6 @@ pub fn parse(s: &[u8]) -> Parsed
     if !is_small(h) {
         return Parsed::Refused(Refusal::WrongSize);
     }
-    parse_tiles(s, g, at, w, h)
+    let from = at + lines::size_digits(s, at) + 1;
+    parse_tiles(s, g, from, w, h, lines::east(s, at))
 }

@@ -3,7 +3,7 @@
 ghost use mathlib.Core.Path.{_≡_};
 ghost use Prim.Native.Nat.{_+_, _*_, _^_, _<_, _≤_};
 ghost use lib.ListN.{length};
-ghost use Rattle.frames.specs.Lines.{digitsAt, isLine, fieldsLine, passiveCount, passiveLine, positionCount, entryCount, groupDigits, groupLine, sizeLine, tileLine};
+ghost use Rattle.frames.specs.Lines.{digitsAt, isLine, fieldsLine, passiveCount, passiveLine, positionCount, entryCount, groupDigits, groupLine, sizeDigits, eastAt, sizeLine, tileLine};
 use texts::LINE_END;
 use texts::byte_at;
 use texts::hex::is_digit;
@@ -11,8 +11,6 @@ use texts::hex::pair;
 
 // How many digits the frames of fixed length have.
 const FIELDS_DIGITS: usize = 14;
-
-const SIZE_DIGITS: usize = 6;
 
 const TILE_DIGITS: usize = 218;
 
@@ -104,11 +102,37 @@ pub fn group_line(s: &[u8], at: usize) -> bool
     is_line(s, at, 3, group_digits(s, at))
 }
 
+// How many digits the block frame has: the byte for the east column may be left out.
+pub fn size_digits(s: &[u8], at: usize) -> usize
+    requires { ⌜ at < 2 ^ 30 ⌝ }
+    ensures { λ r. ⌜ r ≡ sizeDigits (now (s .entry)) at ⌝ }
+{
+    if byte_at(s, at + 6) == LINE_END {
+        return 6;
+    }
+    8
+}
+
+// That byte, 0 where it is left out.
+pub fn east(s: &[u8], at: usize) -> u16
+    requires { ⌜ at < 2 ^ 30 ⌝ }
+    ensures { λ r. ⌜ r ≡ eastAt (now (s .entry)) at ⌝ }
+{
+    if byte_at(s, at + 6) == LINE_END {
+        return 0;
+    }
+    pair(s, at + 6)
+}
+
+// Rules out: a byte that is neither 00 nor 01; a second one.
 pub fn size_line(s: &[u8], at: usize) -> bool
     requires { ⌜ at < 2 ^ 30 ⌝ }
     ensures { λ r. ⌜ r ≡ sizeLine (now (s .entry)) at ⌝ }
 {
-    is_line(s, at, 4, SIZE_DIGITS)
+    if east(s, at) > 1 {
+        return false;
+    }
+    is_line(s, at, 4, size_digits(s, at))
 }
 
 pub fn tile_line(s: &[u8], at: usize) -> bool

@@ -23,20 +23,24 @@ infixr 20 _and_
 _and_ : {P : Example → Type 0} {e : Example} {es : List Example} → P e → All P es → All P (e ∷ es)
 _and_ {P} {e} {es} line lines = more {e = e} {es = es} line lines
 
--- the lines in the table's order: six on wires, the count, three on the group, the cell, the flip-flop
+-- the lines in the table's order: six on wires, the count, three on the group, the cell, the flip-flop, four on what stands outside
 pub names-hold : All Holds namesToTry
 unfolding wireOf wireAt portAt walk flip first tabulate cellPosition nextState nextSync
 names-hold =
-    (linked-is (block 5 1) _ (lit< tt) _ (lit< tt) refl, numbered-is (block 5 1) _ (lit< tt) _ refl)
-    and apart-is (block 5 1) _ _ (omega arith)
-    and (linked-is (block 2 5) _ (lit< tt) _ (lit< tt) refl, numbered-is (block 2 5) _ (lit< tt) _ refl)
-    and linked-is (block 2 1) _ (lit< tt) _ (lit< tt) refl
+    (linked-is (block 5 1 0) _ (lit< tt) _ (lit< tt) refl, numbered-is (block 5 1 0) _ (lit< tt) _ refl)
+    and apart-is (block 5 1 0) _ _ (omega arith)
+    and (linked-is (block 2 5 0) _ (lit< tt) _ (lit< tt) refl, numbered-is (block 2 5 0) _ (lit< tt) _ refl)
+    and linked-is (block 2 1 0) _ (lit< tt) _ (lit< tt) refl
     and alone-1x1
-    and numbered-is (block 2 2) _ (lit< tt) _ refl
+    and numbered-is (block 2 2 0) _ (lit< tt) _ refl
     and count-1x1
     and (λ table bits g has at. pattern-enables table bits g localG00 has 16 (lit< tt) at (Sp4RVB 24) 0 (lit< tt) refl refl)
     and (λ table bits g has at. pattern-enables table bits g localG00 has 31 (lit< tt) at (Sp4HR 16) 15 (lit< tt) refl refl)
     and (λ table bits g has at. pattern-undecodable table bits g localG00 has 1 (lit< tt) at (omega arith) no-entry-1)
     and cell-sets 0xF0F0 (36 ∷ 37 ∷ 42 ∷ 43 ∷ 90 ∷ 91 ∷ 96 ∷ 97 ∷ []) refl
     and (λ lut carry set after lookup state. refl)
+    and linked-is (block 1 2 1) _ (lit< tt) _ (lit< tt) refl
+    and apart-is (block 1 2 0) _ _ (omega arith)
+    and linked-is (block 2 1 0) _ (lit< tt) _ (lit< tt) refl
+    and apart-is (block 2 1 0) _ _ (omega arith)
     and none

@@ -31,18 +31,18 @@ pub apart-is : (B : Block) (p q : ℕ) → wireOf B p ≢ wireOf B q → Linked 
 apart-is B p q d l = d (linked-same B l)
 
 -- of the ports of one tile only port 262, sp12_h_l_22, has its wire's number ..
-only-262 : tabulate (λ (q : ℕ). eqb (wireOf (block 1 1) q) 262) 0 portsPerTile ≡ tabulate (λ (q : ℕ). eqb q 262) 0 portsPerTile
+only-262 : tabulate (λ (q : ℕ). eqb (wireOf (block 1 1 0) q) 262) 0 portsPerTile ≡ tabulate (λ (q : ℕ). eqb q 262) 0 portsPerTile
 unfolding tabulate wireOf wireAt portAt walk flip
 only-262 = refl
 
 -- .. so no chain of joins leads from it to another
-pub alone-1x1 : (q : ℕ) → Linked (block 1 1) 262 q → q ≡ 262
+pub alone-1x1 : (q : ℕ) → Linked (block 1 1 0) 262 q → q ≡ 262
 unfolding wireOf wireAt portAt walk flip
 alone-1x1 q l =
     eqb-true q 262
-    (sym (agree-below false _ _ portsPerTile only-262 q (linked-within (block 1 1) l .0 (lit< tt)))
-    ∙ eq-eqb (wireOf (block 1 1) q) 262 (sym (linked-same (block 1 1) l)))
+    (sym (agree-below false _ _ portsPerTile only-262 q (linked-within (block 1 1 0) l .0 (lit< tt)))
+    ∙ eq-eqb (wireOf (block 1 1 0) q) 262 (sym (linked-same (block 1 1 0) l)))
 
-pub count-1x1 : wires (block 1 1) ≡ 390
+pub count-1x1 : wires (block 1 1 0) ≡ 390
 unfolding wires countBelow ownWire wireOf wireAt portAt walk flip
 count-1x1 = refl

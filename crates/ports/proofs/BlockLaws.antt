@@ -1,12 +1,12 @@
 -- The size of a block. Main laws: `allowed-exact`, `sized-exact` (the tests and the facts), `ports-le` (a block has few ports).
 use Prim.Native.Nat.{ℕ, _*_, _≤_, _<_}
-use mathlib.Core.Path.{_≡_}
+use mathlib.Core.Path.{_≡_, _∙_}
 use mathlib.Core.Bool.{true, false, _&&_, and-false, and-eq-true-iff}
 use mathlib.Core.Logic.{_↔_}
 use native.Mathlib.Omega.{arith}
 use native.Mathlib.Nat.{mul-le-mul}
-use lib.Dec.{leb}
-use borrow.Author.Tests.{lt-leb, le-leb, leb-true}
+use lib.Dec.{leb, ltb}
+use borrow.Author.Tests.{lt-leb, le-leb, leb-true, lt-ltb, le-ltb, ltb-true}
 use Rattle.ports.specs.declared.size.Size.{Size}
 use Rattle.ports.specs.declared.size.Block.{Block}
 use Rattle.ports.specs.Block.{Allowed, allowed, Sized, sized, sizeOf, tileCount, tiles, portOf}
@@ -49,17 +49,29 @@ module _ (S : Size) where
 
 module _ (B : Block) where
   -- a block of a size that is allowed, and the other way
-  pub sized-of-allowed : Allowed (sizeOf B) → Sized B
-  sized-of-allowed a = record { w-some = a .w-some; w-few = a .w-few; h-some = a .h-some; h-few = a .h-few }
+  pub sized-of-allowed : B .east < 2 → Allowed (sizeOf B) → Sized B
+  sized-of-allowed e a = record { w-some = a .w-some; w-few = a .w-few; h-some = a .h-some; h-few = a .h-few; east-known = e }
 
   pub sized-allowed : Sized B → Allowed (sizeOf B)
   sized-allowed s = record { w-some = s .w-some; w-few = s .w-few; h-some = s .h-some; h-few = s .h-few }
 
+  -- where the byte is 0 or 1, the size decides
+  pub sized-east : B .east < 2 → sized B ≡ allowed (sizeOf B)
+  sized-east e = rw (lt-ltb (B .east) 2 e)
+
+  pub sized-not-east : 2 ≤ B .east → sized B ≡ false
+  sized-not-east h = rw (le-ltb (B .east) 2 h)
+
   pub sized-true : Sized B → sized B ≡ true
-  sized-true s = allowed-true (sizeOf B) (sized-allowed s)
+  sized-true s = sized-east (s .east-known) ∙ allowed-true (sizeOf B) (sized-allowed s)
 
   pub sized-exact : (sized B ≡ true) ↔ Sized B
-  sized-exact = (λ t. sized-of-allowed (allowed-exact (sizeOf B) .0 t), sized-true)
+  sized-exact = (facts, sized-true)
+    where
+      facts : sized B ≡ true → Sized B
+      facts t =
+          let both = and-eq-true-iff (ltb (B .east) 2) (allowed (sizeOf B)) .0 t in
+          sized-of-allowed (ltb-true _ _ (both .0)) (allowed-exact (sizeOf B) .0 (both .1))
 
   pub tiles-le : Sized B → tiles B ≤ 64
   tiles-le s = tile-count-le (sizeOf B) (sized-allowed s)

@@ -1,7 +1,7 @@
--- A block of logic tiles (document 01, 'The block and its sources' and 'Ports'): its size, and all that joins depend on.
-use Prim.Native.Nat.{ℕ, _+_, _*_, _≤_}
+-- A block of logic tiles (document 01, 'The block and its sources' and 'Ports'; document 02, W2): its size, and all that joins depend on.
+use Prim.Native.Nat.{ℕ, _+_, _*_, _≤_, _<_}
 use mathlib.Core.Bool.{Bool, _&&_}
-use lib.Dec.{leb}
+use lib.Dec.{leb, ltb}
 use Rattle.ports.specs.declared.size.Size.{Size}
 use Rattle.ports.specs.declared.size.Block.{Block}
 use Rattle.ports.specs.Lengths.{portsPerTile}
@@ -10,9 +10,9 @@ use Rattle.ports.specs.Lengths.{portsPerTile}
 abbrev pub size : ℕ → ℕ → Size
 size W H = record { w = W; h = H }
 
--- .. and the block, which is what joins depend on
-abbrev pub block : ℕ → ℕ → Block
-block W H = record { w = W; h = H }
+-- .. and the block, which is what joins depend on; W2: "where the owner says that the column to the east is logic or RAM" E is 1
+abbrev pub block : ℕ → ℕ → ℕ → Block
+block W H E = record { w = W; h = H; east = E }
 
 -- the size of a block
 abbrev pub sizeOf : Block → Size
@@ -35,15 +35,16 @@ pub record Allowed (S : Size) : Type 0 where
 abbrev pub allowed : Size → Bool
 allowed S = leb 1 (S .w) && leb (S .w) 8 && (leb 1 (S .h) && leb (S .h) 8)
 
--- a block of an allowed size, as facts and as a test
+-- a block of an allowed size, and W2's byte, "01 for such an east column, else 00", as facts and as a test
 pub record Sized (B : Block) : Type 0 where
   pub w-some : 1 ≤ B .w
   pub w-few : B .w ≤ 8
   pub h-some : 1 ≤ B .h
   pub h-few : B .h ≤ 8
+  pub east-known : B .east < 2
 
 abbrev pub sized : Block → Bool
-sized B = allowed (sizeOf B)
+sized B = ltb (B .east) 2 && allowed (sizeOf B)
 
 -- "Port q of tile t is number 506t + q."
 abbrev pub portOf : ℕ → ℕ → ℕ

@@ -10,10 +10,11 @@ pub struct Size {
     pub h: u32,
 }
 
-// All that joins depend on.
+// All that joins depend on. East is 1 where the column to the east of the block is logic or RAM, else 0.
 pub struct Block {
     pub w: u32,
     pub h: u32,
+    pub east: u32,
 }
 
 pub fn size_of(b: Block) -> Size
@@ -41,9 +42,13 @@ pub fn is_allowed(s: Size) -> bool
     true
 }
 
+// The same of a block, whose byte for the east column is 0 or 1.
 pub fn is_sized(b: Block) -> bool
     ensures { λ r. ⌜ r ≡ sized b ⌝ }
 {
+    if 2 <= b.east {
+        return false;
+    }
     is_allowed(size_of(b))
 }
 

@@ -23,13 +23,13 @@ module _ (s : List ℕ) (r : Parsed) (e : r ≡ parsed s) where
   unfolding reportOf
   refused-report refusal q = ap (parsedLines s) (sym q ∙ e)
 
-  pub block-report : (w h : ℕ) → r ≡ Block w h → blockLines (block w h) (tableOf s) (bitsOf s (h * w)) ≡ reportOf s
+  pub block-report : (w h e : ℕ) → r ≡ Block w h e → blockLines (block w h e) (tableOf s) (bitsOf s (h * w)) ≡ reportOf s
   unfolding reportOf
-  block-report w h q = ap (parsedLines s) (sym q ∙ e)
+  block-report w h e′ q = ap (parsedLines s) (sym q ∙ e)
 
 -- W and H of a block that was parsed are 1 to 3
-pub small-size : (s : List ℕ) (r : Parsed) (w h : ℕ) → ParsedSays s r → r ≡ Block w h → Small w h
-small-size s r w h says q =
+pub small-size : (s : List ℕ) (r : Parsed) (w h e : ℕ) → ParsedSays s r → r ≡ Block w h e → Small w h
+small-size s r w h e says q =
     let yes = subst (ParsedSays s) q says in
     subst (λ (x : ℕ). Small x h) (yes .w-is) (subst (Small (yes .input .w)) (yes .h-is) (yes .whole .small))
 

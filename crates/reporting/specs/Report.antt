@@ -41,7 +41,7 @@ blockLines B t bits = builtLines B t (decoded t (tilesOf bits) (tiles B)) (build
 
 -- the report of what was parsed
 abbrev pub parsedLines : List ℕ → Parsed → List ℕ
-parsedLines s (parse.Block w h) = blockLines (block w h) (contents.tableOf s) (bitsOf s (h * w))
+parsedLines s (parse.Block w h e) = blockLines (block w h e) (contents.tableOf s) (bitsOf s (h * w))
 parsedLines s (parse.Refused refusal) = answerLine (parsedNumber (parse.Refused refusal)) (parsedPlace (parse.Refused refusal))
 
 -- the whole report

@@ -32,7 +32,7 @@ const SETTINGS: usize = 9 * SETTINGS_LENGTH;
 
 // Room of zeros. The promise gives the length alone, which is what lending a part of it asks for.
 fn rows_room() -> [u16; ROWS]
-    ensures { λ r. ⌜ listLength (block 3 3) ≡ length r ⌝ }
+    ensures { λ r. ⌜ listLength (block 3 3 0) ≡ length r ⌝ }
 {
     [0; ROWS]
 }
@@ -44,7 +44,7 @@ fn settings_room() -> [u16; SETTINGS]
 }
 
 fn ports_room() -> [u16; PORTS]
-    ensures { λ r. ⌜ ports (block 3 3) ≡ length r ⌝ }
+    ensures { λ r. ⌜ ports (block 3 3 0) ≡ length r ⌝ }
 {
     [0; PORTS]
 }

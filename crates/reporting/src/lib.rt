@@ -89,6 +89,6 @@ pub fn report(input: &[u8], out: &mut [u8; OUTPUT]) -> usize
 {
     match frames::input::parse(input) {
         Parsed::Refused(r) => blocks::put_refusal(r, out),
-        Parsed::Block(w, h) => put_input(input, Block { w, h }, out),
+        Parsed::Block(w, h, east) => put_input(input, Block { w, h, east }, out),
     }
 }

@@ -82,7 +82,7 @@ module _ (B : Block) (t st wires sources marks : List ℕ) (tile port : ℕ) whe
     followed-port =
         let C = write-passed (sizeOf B) t st (bitsLength (sizeOf B)) (p .write-done) in
         sym (settings-port B t st tile port (table-exact logicTile t (C .lengths .table-long) .1 (C .rules)) fits
-        ∙ follow-settings B t st tile port (followExact B (followLent t st wires sources marks)) (sized-true B (sized-of-allowed B (C .size)))
+        ∙ follow-settings B t st tile port (followExact B (followLent t st wires sources marks)) (sized-true B (sized-of-allowed B (p .east-known) (C .size)))
         (follow-long-exact B (followLent t st wires sources marks) .1
         (record {
           table-long = C .lengths .table-long;
@@ -96,7 +96,7 @@ module _ (B : Block) (t st wires sources marks : List ℕ) (tile port : ℕ) whe
     unfolding contendedWire
     refused-of w c =
         let C = write-passed (sizeOf B) t st (bitsLength (sizeOf B)) (p .write-done) in
-        let ok = routed-of-fit B t st (sized-of-allowed B (C .size)) (C .rules) (C .lengths .settings-long) fits in
+        let ok = routed-of-fit B t st (sized-of-allowed B (p .east-known) (C .size)) (C .rules) (C .lengths .settings-long) fits in
         let u = first-le (contendedIn B t st (switches B)) 0 (ports B) in
         ⊎-elim (λ (l : contendedWire B t st < ports B). (contendedWire B t st, followed-port ∙ sym (port-contended B t st tile port _ refl l)))
         (λ (l : ports B ≤ contendedWire B t st). absurd (contended-none-exact B t st ok .1 (omega arith) w c)) (lt-or-le (contendedWire B t st) (ports B))

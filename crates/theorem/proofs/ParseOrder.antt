@@ -18,10 +18,9 @@ use Rattle.frames.specs.Lines.{fieldsLine, passiveLine, sizeLine}
 use Rattle.frames.specs.Input.{groupCount, sizeAt, width, height, small, parsed, parsedNumber, parsedPlace}
 use Rattle.frames.specs.Meaning.{with-groups, tiles-left, Turn, the-size, a-tile, Sized, Begins, one-more, SizeSays, wrong-size, bad-line, ParsedNo, ParsedSays}
 use Rattle.frames.proofs.SmallLaws.{small-of, small-passes}
-use Rattle.frames.proofs.FrameLaws.{size-reads}
-use Rattle.frames.proofs.FrameTestLaws.{size-passes}
+use Rattle.frames.proofs.FrameLaws.{sizeRead, size-reads}
 use Rattle.frames.proofs.TurnLaws.{begins-groups}
-use Rattle.frames.proofs.ComeLaws.{GroupsCome, size-place}
+use Rattle.frames.proofs.ComeLaws.{GroupsCome, size-same}
 use Rattle.frames.proofs.ComeStepLaws.{begins-come}
 use Rattle.frames.proofs.WholeTurnLaws.{whole-begins}
 use Rattle.frames.proofs.MeaningLaws.{parsed-says}
@@ -38,7 +37,7 @@ module _ (s : List ℕ) where
     at = sizeAt s;
     g = groupCount s;
     n = _;
-    frame = size (width s) (height s);
+    frame = sizeRead s (sizeAt s);
     begins = begins-groups s one two (groupCount s) (omega arith);
     turn = the-size;
     proper = size-reads s (sizeAt s) three .proper;
@@ -46,29 +45,28 @@ module _ (s : List ℕ) where
   }
 
   -- a block frame in its turn stands where its test looks
-  size-tested : {g n at k : ℕ} {f : Frame} → Turn (with-groups g) f (tiles-left n) → GroupsCome s g at k → Stands s at (line f)
+  size-tested : {g n at k : ℕ} {f : Frame} → Turn (with-groups g) f (tiles-left n) → GroupsCome s g at k → Proper f → Stands s at (line f)
       → sizeLine s (sizeAt s) ≡ true
-  size-tested {at = at} {k} (the-size {g} {w} {h}) c p =
-      size-passes s (sizeAt s) w h (subst (λ (x : ℕ). Stands s x (line (size w h))) (size-place s at k g c w h p) p)
+  size-tested {at = at} {k} (the-size {g} {w} {h} {extra}) c fit p = size-same s at k g c w h extra fit p .passes
 
   size-or-none : SizeRead s ⊎ (SizeRead s → ⊥)
   size-or-none =
       ⊎-elim
       (λ one. ⊎-elim
       (λ two. ⊎-elim (λ three. inl (size-read one two three))
-      (λ e. inr (λ b. clash (size-tested (b .turn) (begins-come (b .begins)) (b .stands)) e)) (cases (sizeLine s (sizeAt s))))
+      (λ e. inr (λ b. clash (size-tested (b .turn) (begins-come (b .begins)) (b .proper) (b .stands)) e)) (cases (sizeLine s (sizeAt s))))
       (λ e. inr (λ b. clash (begins-come (b .begins) .two) e)) (cases (passiveLine s)))
       (λ e. inr (λ b. clash (begins-come (b .begins) .one) e)) (cases (fieldsLine s))
 
   -- behind it are the tiles
   tiles-size : {fs : List Frame} {at n : ℕ} → Begins s fs at (tiles-left n) → SizeRead s
   tiles-size (one-more b a-tile fit sized p) = tiles-size b
-  tiles-size (one-more {fs} {at} b (the-size {g} {w} {h}) fit sized p) = record {
+  tiles-size (one-more {fs} {at} b (the-size {g} {w} {h} {extra}) fit sized p) = record {
     frames = fs;
     at = at;
     g = g;
     n = _;
-    frame = size w h;
+    frame = size w h extra;
     begins = b;
     turn = the-size;
     proper = fit;
@@ -83,7 +81,7 @@ module _ (s : List ℕ) where
     at = z .at;
     g = z .g;
     n = _;
-    frame = size (z .w) (z .h);
+    frame = size (z .w) (z .h) (z .extra);
     begins = z .begins;
     turn = the-size;
     proper = z .proper;
@@ -92,7 +90,7 @@ module _ (s : List ℕ) where
 
   size-small : (SizeSays s → ⊥) → {g n at : ℕ} {fs : List Frame} {f : Frame} → Turn (with-groups g) f (tiles-left n) → Begins s fs at (with-groups g)
       → Proper f → Stands s at (line f) → Sized f
-  size-small none {at = at} {fs} (the-size {g} {w} {h}) b fit p =
+  size-small none {at = at} {fs} (the-size {g} {w} {h} {extra}) b fit p =
       ⊎-elim (small-of w h)
       (λ e. absurd (none (record {
         frames = fs;
@@ -100,6 +98,7 @@ module _ (s : List ℕ) where
         g = g;
         w = w;
         h = h;
+        extra = extra;
         begins = b;
         proper = fit;
         stands = p;
@@ -112,8 +111,8 @@ module _ (s : List ℕ) where
 
   -- ---- one answer only
 
-  pub taken-is : (x : Taken s) → Block (x .w) (x .h) ≡ parsed s
-  taken-is x = parsed-exact s (Block (x .w) (x .h)) .0 (x .says)
+  pub taken-is : (x : Taken s) → Block (x .w) (x .h) (x .east) ≡ parsed s
+  taken-is x = parsed-exact s (Block (x .w) (x .h) (x .east)) .0 (x .says)
 
   size-is : SizeSays s → Refused WrongSize ≡ parsed s
   size-is z = parsed-exact s (Refused WrongSize) .0 (wrong-size z)
@@ -144,8 +143,8 @@ module _ (s : List ℕ) where
     )
 
   answer-order : (r : Parsed) → parsed s ≡ r → ParseGrounds s r (parsedNumber r) (parsedPlace r)
-  answer-order (Block w h) e =
-      input-yes (SizeGiven (Block w h)) (record { w = w; h = h; says = subst (ParsedSays s) e (parsed-says s) }) 0 0 (refl, (refl, refl))
+  answer-order (Block w h east) e =
+      input-yes (SizeGiven (Block w h east)) (record { w = w; h = h; east = east; says = subst (ParsedSays s) e (parsed-says s) }) 0 0 (refl, (refl, refl))
   answer-order (Refused refusal) e = input-no (SizeGiven (Refused refusal)) refusal e
 
   pub parse-order : ParseGrounds s (parsed s) (parsedNumber (parsed s)) (parsedPlace (parsed s))

@@ -36,6 +36,7 @@ module _ (B : Block) (t bits settings : List ℕ) (room : RoomLent) where
       },
       R .tiles-read .decodable,
     );
+    east-known = R .size .east-known;
     room-long = R .lengths .room-long;
   }
 

@@ -39,7 +39,7 @@ module _ (B : Block) (t bits settings : List ℕ) (room : RoomLent) where
   readable-of-four p =
       let C = read-passed (sizeOf B) t bits (length settings) (p .read-done) in
       record {
-        size = sized-of-allowed B (C .size);
+        size = sized-of-allowed B (p .east-known) (C .size);
         lengths = record {
           table-long = C .lengths .table-long;
           bits-long = C .lengths .bits-long;

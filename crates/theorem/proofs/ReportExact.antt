@@ -26,8 +26,8 @@ use Rattle.theorem.proofs.ReportOrder.{report-order}
 
 -- the block of an answer; none has a size of 0
 abbrev blockIn : Parsed → Block
-blockIn (parses.Block w h) = block w h
-blockIn (parses.Refused refusal) = block 0 0
+blockIn (parses.Block w h east) = block w h east
+blockIn (parses.Refused refusal) = block 0 0 0
 
 module _ (s : List ℕ) where
   one-line : One (LineSays s)
@@ -52,7 +52,7 @@ module _ (s : List ℕ) where
   given-size : (r q : Parsed) (x y : Taken s) → Agrees (r ≡ q) (SizeGiven r x) (SizeGiven q y)
   given-size r q x y = yes-agrees (λ v u a b. (a .0 ∙ sym (b .0), a .1 ∙ taken-is s x ∙ sym (taken-is s y) ∙ sym (b .1)))
 
-  -- an answer that meets the grounds of `parse` has its number and its place, and after a yes its W and H
+  -- an answer that meets the grounds of `parse` has its number and its place, and after a yes its block
   pub parse-one : (r : Parsed) → ParseGrounds s r (parsedNumber r) (parsedPlace r)
       → (parsedNumber r ≡ parsedNumber (parsed s)) × (parsedPlace r ≡ parsedPlace (parsed s)) × (parsedNumber r ≡ 0 → r ≡ parsed s)
   parse-one r a = input-agrees (given-size r (parsed s)) _ _ _ _ a (parse-order s)

@@ -28,7 +28,7 @@ use Rattle.frames.specs.Contents.{tableOf}
 use Rattle.frames.specs.Input.{parsed}
 use Rattle.frames.specs.Meaning.{ParsedSays}
 use Rattle.frames.proofs.ContentsLaws.{table-long, bits-long}
-use Rattle.frames.proofs.MeaningLaws.{parsed-says}
+use Rattle.frames.proofs.MeaningLaws.{parsed-says, east-few}
 use Rattle.lines.specs.Lines.{answerLine}
 use Rattle.lines.specs.Listing.{switchLines, cellLines}
 use Rattle.reporting.specs.Report.{acceptedLines, builtLines, blockLines, parsedLines, reportOf}
@@ -75,10 +75,10 @@ accepted-last B t st = sym (append-assoc (switchLines (sourcesOf B t st) (portsP
 module _ (s : List ℕ) where
   taken-sized : (x : Taken s) → Sized (blockTaken x)
   taken-sized x =
-      let few = small-size s (parses.Block (x .w) (x .h)) (x .w) (x .h) (x .says) refl in
+      let few = small-size s (parses.Block (x .w) (x .h) (x .east)) (x .w) (x .h) (x .east) (x .says) refl in
       let w = few .w-few in
       let h = few .h-few in
-      record { w-some = few .w-some; w-few = omega arith; h-some = few .h-some; h-few = omega arith }
+      record { w-some = few .w-some; w-few = omega arith; h-some = few .h-some; h-few = omega arith; east-known = east-few s (x .w) (x .h) (x .east) (x .says) }
 
   lengths-exact : (x : Taken s) → (length (tableOf s) ≡ tableLength) × (length (bitsTaken x) ≡ bitsLength (sizeOf (blockTaken x)))
   lengths-exact x = (table-long s, bits-long s (tiles (blockTaken x)))
@@ -131,7 +131,7 @@ module _ (s : List ℕ) where
     taken-report = built-report (buildAnswer B t (tilesOf bits) true) (exact-says B t bits long)
 
   parsed-report : (r : Parsed) → parsed s ≡ r → ReportSays s (parsedLines s r)
-  parsed-report (parses.Block w h) e = taken-report (record { w = w; h = h; says = subst (ParsedSays s) e (parsed-says s) })
+  parsed-report (parses.Block w h east) e = taken-report (record { w = w; h = h; east = east; says = subst (ParsedSays s) e (parsed-says s) })
   parsed-report (parses.Refused refusal) e = record {
     number = numberOf refusal;
     place = placeOf refusal;

@@ -42,9 +42,11 @@ built B table bits settings room = buildAnswer B table (tilesOf bits) (buildExac
 abbrev pub Beyond : ℕ → Built → Type 0
 Beyond n answer = (refusal : Refusal) → answer ≡ Refused refusal → n < numberOf refusal
 
--- checks 1 to 4: `read` says yes to these bits, and the rest of what is lent to `build` is as long as it must be
+-- checks 1 to 4: `read` says yes to these bits, the byte for the east column is 0 or 1, and the rest of what is lent to `build` is as long as it
+-- must be
 pub record PassesFour (B : Block) (table bits settings : List ℕ) (room : RoomLent) : Type 0 where
   pub read-done : readAnswer (sizeOf B) table bits (length settings) ≡ Done
+  pub east-known : B .east < 2
   pub room-long : RoomLong B room
 
 abbrev pub settingsRead : Block → (table bits : List ℕ) → List ℕ
@@ -62,9 +64,11 @@ abbrev pub followed : Block → (table settings : List ℕ) → (tile port : ℕ
 followed B table settings tile port wires sources marks =
     followAnswer B table settings tile port (followExact B (followLent table settings wires sources marks))
 
--- checks 1, 2, 3 and 9: `write` says yes to these settings, and the work room of `follow` is as long as it must be
+-- checks 1, 2, 3 and 9: `write` says yes to these settings, the byte for the east column is 0 or 1, and the work room of `follow` is as long as it
+-- must be
 pub record PassesNine (B : Block) (table settings wires sources marks : List ℕ) : Type 0 where
   pub write-done : writeAnswer (sizeOf B) table settings (bitsLength (sizeOf B)) ≡ Done
+  pub east-known : B .east < 2
   pub wires-long : length wires ≡ ports B
   pub sources-long : length sources ≡ ports B
   pub marks-long : length marks ≡ ports B

@@ -44,11 +44,12 @@ SmallRead s = (b : SizeRead s) → Sized (b .frame)
 pub record Taken (s : List ℕ) : Type 0 where
   pub w : ℕ
   pub h : ℕ
-  pub says : BlockSays s w h
+  pub east : ℕ
+  pub says : BlockSays s w h east
 
 -- the block, the bits and the settings of the frames that were taken
 abbrev pub blockTaken : {s : List ℕ} → Taken s → Block
-blockTaken x = block (x .w) (x .h)
+blockTaken x = block (x .w) (x .h) (x .east)
 
 abbrev pub bitsTaken : {s : List ℕ} → Taken s → List ℕ
 bitsTaken {s} x = bitsOf s (tiles (blockTaken x))
@@ -64,9 +65,9 @@ InputGrounds s later =
     (Check 1 (SmallRead s) at0
     (CheckFor 11 (Taken s) (LineSays s) later))
 
--- reading frames: a yes has W and H
+-- reading frames: a yes has W, H and what is said of the column to the east
 abbrev pub SizeGiven : {s : List ℕ} → Parsed → Taken s → ℕ → ℕ → Type 0
-SizeGiven answer x = Yes (λ place. (place ≡ 0) × (answer ≡ parses.Block (x .w) (x .h)))
+SizeGiven answer x = Yes (λ place. (place ≡ 0) × (answer ≡ parses.Block (x .w) (x .h) (x .east)))
 
 abbrev pub ParseGrounds : (s : List ℕ) → Parsed → ℕ → ℕ → Type 0
 ParseGrounds s answer = InputGrounds s (SizeGiven answer)

@@ -2,7 +2,6 @@
 -- ports that have no join or one to a lower tile.
 use Prim.Native.Nat.{ℕ, zero, suc, _+_, _-_, _/_, _%_, _≤_, _<_, min}
 use mathlib.Core.Path.{_≡_, refl, sym, _∙_, ap, subst}
-use mathlib.Core.Bool.{Bool, true, false, cond}
 use mathlib.Core.Logic.{⊎-elim}
 use native.Mathlib.Omega.{arith}
 use Rattle.lists.proofs.CaseLaws.{lt-or-le, eq-or-ne}
@@ -16,7 +15,7 @@ use Rattle.ports.specs.PortNames.{indexOf, Within}
 use Rattle.fabric.specs.Span.{flip, span4Row, span12Row, span4Column, span12Column}
 use Rattle.fabric.specs.Joins.{sp4-h-side, sp4-h-in, sp4-v-side, sp4-v-in, sp4-right, sp12-h-side, sp12-h-in, sp12-v-side, sp12-v-in}
 use Rattle.fabric.specs.SpanWire.{foot, sp4Foot, sp4Column, sp12Column}
-use Rattle.fabric.specs.OutputWire.{inside, firstOutput, outputWire}
+use Rattle.fabric.specs.OutputWire.{outputWire}
 use Rattle.fabric.specs.Wire.{wireOf, wireAt, below}
 use Rattle.wiring.specs.Fill.{Numbers, Owns, FarSide, FromSouth, RowSpan}
 use Rattle.ports.proofs.PortLaws.{neighbour}
@@ -127,13 +126,7 @@ module _ (B : Block) where
         there n = wire-name B x y (NeighOp dx dy k) hx (omega (arith, output-at-lt dx dy k l)) (neighbour dx dy k hdx hdy n l)
 
     output-from : (dx dy k : ℕ) → outputWire B x y dx dy k ≡ outputWire B x y dx dy 0 + k
-    output-from dx dy k = go (inside B (x + dx) (y + dy))
-      where
-        go : (t : Bool)
-            → cond t (firstOutput B (x + dx) (y + dy) k) (port B x y (outputAt dx dy k))
-            ≡ cond t (firstOutput B (x + dx) (y + dy) 0) (port B x y (outputAt dx dy 0)) + k
-        go true = omega (arith, output-at-add (min (x + dx) 2) (min (y + dy) 2) k)
-        go false = omega (arith, output-at-add dx dy k)
+    output-from dx dy k = omega (arith, output-at-add (min (x + dx) 2) (min (y + dy) 2) k)
 
     pub output-numbers : (dx dy q : ℕ) → dx < 3 → dy < 3 → q ≡ outputAt dx dy 0 → Numbers B (outputWire B x y dx dy 0) x y q 8
     output-numbers dx dy q hdx hdy e = record {

@@ -1,12 +1,12 @@
 -- The ranges of spans as they are filled, for any length and offset. Main laws: `row-span`, `from-south`, `rim-owns`, `rim-far`; for sp4_r_v_b
 -- `right-copies`, `right-owns`.
 use Prim.Native.Nat.{ℕ, zero, suc, _+_, _-_, _≤_, _<_}
-use mathlib.Core.Path.{_≡_, sym, _∙_, ap, subst}
+use mathlib.Core.Path.{_≡_, refl, sym, _∙_, ap, subst}
 use mathlib.Core.Logic.{⊎-elim}
 use native.Mathlib.Omega.{arith}
 use native.Mathlib.Numerals.{add-one}
-use borrow.Author.Tests.{lt-ltb, le-ltb, lt-leb, le-leb}
-use Rattle.lists.proofs.CaseLaws.{lt-or-le}
+use borrow.Author.Tests.{lt-ltb, le-ltb, lt-leb, le-leb, eq-eqb, ne-eqb}
+use Rattle.lists.proofs.CaseLaws.{lt-or-le, eq-or-ne}
 use Rattle.ports.specs.declared.size.Block.{Block}
 use Rattle.fabric.specs.declared.span.Span.{Span}
 use Rattle.ports.specs.declared.Port.the-variants.{Sp4RVB}
@@ -14,10 +14,10 @@ use Rattle.ports.specs.Block.{port}
 use Rattle.ports.specs.Lengths.{portsPerTile}
 use Rattle.ports.specs.PortIndex.{sp4VT, sp4RVB}
 use Rattle.fabric.specs.Span.{flip, walk, names, Proper}
-use Rattle.fabric.specs.Joins.{Join, sp4-right, sp4-v-side}
-use Rattle.fabric.specs.SpanWire.{ends, rowPort, rowWire, columnPort, columnWire, foot, rightWire}
+use Rattle.fabric.specs.Joins.{Join, sp4-right, sp4-v-side, east-in}
+use Rattle.fabric.specs.SpanWire.{ends, rowPort, rowWire, columnPort, columnWire, foot, eastPort, rightWire}
 use Rattle.fabric.specs.Wire.{wireOf, wireAt}
-use Rattle.wiring.specs.Fill.{Range, Copies, Crosses, Owns, FarSide, FromSouth, RowSpan}
+use Rattle.wiring.specs.Fill.{Range, Copies, Crosses, Owns, FarSide, FromSouth, RowSpan, EastSpan}
 use Rattle.fabric.proofs.FlipLaws.{flip-flip, flip-lt}
 use Rattle.fabric.proofs.WalkLaws.{walk-suc, walk-stops}
 use Rattle.fabric.proofs.PlaceLaws.{wire-name}
@@ -189,14 +189,50 @@ module _ (B : Block) (x : ℕ) where
     unfolding wireAt
     right-own y hy h = owns (range hx hy (omega arith) (omega arith)) (λ k l. wire-name B x y (Sp4RVB k) hx (omega arith) l ∙ h k)
 
-    -- the east column
-    pub right-owns-east : (y : ℕ) → y < B .h → B .w ≤ x + 1 → Owns B x y (sp4RVB 0) 48
-    right-owns-east y hy out = right-own y hy (λ k. rw (le-ltb (suc x) (B .w) (omega arith)))
+    -- the east column, where the column outside does not run on
+    pub right-owns-east : (y : ℕ) → y < B .h → B .w ≤ x + 1 → (B .east ≡ 1 → ⊥) → Owns B x y (sp4RVB 0) 48
+    right-owns-east y hy out no-east = right-own y hy (λ k. rw (le-ltb (suc x) (B .w) (omega arith), ne-eqb (B .east) 1 no-east))
 
     -- the south row, where they come before the column's own names
     pub right-owns-south : (y : ℕ) → y < B .h → y < 1 → Owns B x y (sp4RVB 0) 48
     unfolding walk
     right-owns-south (suc y) hy z = absurd (omega arith)
     right-owns-south zero hy z =
-        ⊎-elim (λ (t : suc x < B .w). right-own 0 hy (λ k. rw (lt-ltb (suc x) (B .w) t))) (λ (t : B .w ≤ suc x). right-owns-east 0 hy (omega arith))
-        (lt-or-le (suc x) (B .w))
+        ⊎-elim (λ (t : suc x < B .w). right-own 0 hy (λ k. rw (lt-ltb (suc x) (B .w) t))) (λ (t : B .w ≤ suc x).
+        ⊎-elim (λ (e : B .east ≡ 1). right-own 0 hy (λ k. rw (le-ltb (suc x) (B .w) t, eq-eqb (B .east) 1 e)))
+        (λ (e : B .east ≡ 1 → ⊥). right-owns-east 0 hy (omega arith) e) (eq-or-ne (B .east) 1)) (lt-or-le (suc x) (B .w))
+
+    -- the east column, where it does
+    module _ (y : ℕ) (t : B .east ≡ 1) (last : suc x ≡ B .w) (hy : suc y < B .h) where
+      east-same : (k : ℕ) → k < 36 → wireOf B (port B x (suc y) (sp4RVB 0 + k)) ≡ wireOf B (port B x y (sp4RVB 12 + flip k))
+      east-same k l =
+          let e : sp4RVB (flip k + 12) ≡ sp4RVB 12 + flip k = omega arith in
+          join-same B (east-in x y k t last hy l) ∙ ap (λ (m : ℕ). wireOf B (port B x y m)) e
+
+      east-starts : (k : ℕ) → k < 12 → wireOf B (port B x (suc y) (sp4RVB 36 + k)) ≡ port B x (suc y) (sp4RVB 36 + k)
+      unfolding wireAt
+      east-starts k l =
+          let e : sp4RVB 36 + k ≡ sp4RVB (36 + k) = omega arith in
+          ap (λ (m : ℕ). wireOf B (port B x (suc y) m)) e ∙ wire-name B x (suc y) (Sp4RVB (36 + k)) hx (omega arith) (omega arith)
+          ∙ rw (le-ltb (suc x) (B .w) (omega arith), eq-eqb (B .east) 1 t)
+          (sym (ap (ends (eastPort B x)) (walk-stops _ _ (suc y) (36 + k) (le-ltb (36 + k) 36 (omega arith)))))
+          ∙ ap (port B x (suc y)) (sym e)
+
+      east-above : EastSpan B x (suc y)
+      east-above =
+          let u : suc y - 1 ≡ y = omega arith in
+          record {
+            above = omega arith;
+            crosses = rw u record {
+              from = range hx (omega arith) (omega arith) (omega arith);
+              to = range hx hy (omega arith) (omega arith);
+              before = omega arith;
+              even = refl;
+              same = east-same;
+            };
+            starts = owns (range hx hy (omega arith) (omega arith)) east-starts;
+          }
+
+    pub east-span : (y : ℕ) → 1 ≤ y → y < B .h → B .w ≤ x + 1 → B .east ≡ 1 → EastSpan B x y
+    east-span zero z hy out t = absurd (omega arith)
+    east-span (suc y) z hy out t = east-above y t (omega arith) hy

@@ -6,8 +6,9 @@ use mathlib.Core.List.{List}
 use Rattle.lists.specs.Tables.{Filled}
 use Rattle.ports.specs.declared.size.Block.{Block}
 use Rattle.fabric.specs.declared.span.Span.{Span}
-use Rattle.ports.specs.Lengths.{ports, portsPerTile}
 use Rattle.ports.specs.Block.{port}
+use Rattle.ports.specs.Lengths.{ports, portsPerTile}
+use Rattle.ports.specs.PortIndex.{sp4RVB}
 use Rattle.fabric.specs.Span.{flip, names}
 use Rattle.fabric.specs.Wire.{wireOf}
 
@@ -66,3 +67,9 @@ pub record RowSpan (B : Block) (s : Span) : Type 0 where
   pub from-west : (x y : ℕ) → 0 < x → x < B .w → y < B .h → Copies B (x - 1) y (s .far) x y (s .near) (names s)
   pub from-rim : (x y : ℕ) → x ≤ 0 → x < B .w → y < B .h → Owns B x y (s .near) (names s)
   pub far-side : (x y : ℕ) → x < B .w → y < B .h → FarSide B s x y
+
+-- sp4_r_v_b at the east column, from the row to the south, where the column outside runs on
+pub record EastSpan (B : Block) (x y : ℕ) : Type 0 where
+  pub above : 0 < y
+  pub crosses : Crosses B x (y - 1) (sp4RVB 12) x y (sp4RVB 0) 36
+  pub starts : Owns B x y (sp4RVB 36) 12

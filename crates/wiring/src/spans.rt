@@ -3,7 +3,7 @@ ghost use Prim.Native.Nat.{_+_, _<_};
 ghost use Rattle.ports.specs.Block.{Sized, port};
 ghost use Rattle.ports.specs.PortIndex.{sp4VT, sp4RVB, sp12HL, sp12VT, localPort};
 ghost use Rattle.fabric.specs.Span.{names};
-ghost use Rattle.wiring.specs.Fill.{Wired, Owns, FarSide, FromSouth, RowSpan};
+ghost use Rattle.wiring.specs.Fill.{Wired, Owns, FarSide, FromSouth, RowSpan, EastSpan};
 use crate::ranges::copy;
 use crate::ranges::cross;
 use crate::ranges::own;
@@ -69,6 +69,25 @@ pub fn fill_sp4_column(b: Block, wires: &mut [u16], x: u32, y: u32)
     from_rim(SPAN4_COLUMN, b, wires, x, y);
 }
 
+// sp4_r_v_b at the east column, where the column outside runs on: as sp4_v_t from the row to the south.
+fn outside(b: Block, wires: &mut [u16], x: u32, y: u32)
+    requires { ⌜ Sized b × EastSpan b x y × Wired b (port b x y (sp4RVB 0)) (now wires) ⌝ }
+    ensures { λ r. ⌜ Wired b (port b x y (sp12HL 0)) (now (wires .exit)) ⌝ }
+{
+    cross(
+        b,
+        wires,
+        x,
+        y - 1,
+        ports::SP4_R_V_B + 12,
+        x,
+        y,
+        ports::SP4_R_V_B,
+        36,
+    );
+    own(b, wires, x, y, ports::SP4_R_V_B + 36, 12);
+}
+
 // sp4_r_v_b: what the tile to the east has as sp4_v_b.
 pub fn right(b: Block, wires: &mut [u16], x: u32, y: u32)
     requires { ⌜ Sized b × (x < b .w) × (y < b .h) × Wired b (port b x y (sp4RVB 0)) (now wires) ⌝ }
@@ -79,6 +98,10 @@ pub fn right(b: Block, wires: &mut [u16], x: u32, y: u32)
         return;
     }
     if b.w <= x + 1 {
+        if b.east == 1 {
+            outside(b, wires, x, y);
+            return;
+        }
         own(b, wires, x, y, ports::SP4_R_V_B, 48);
         return;
     }

@@ -20,7 +20,7 @@ put-input-requires : tie.Need-put-input-requires
 put-input-requires c κs =
     let at-w = c .before .before in
     let at-parse = at-w .before .before in
-    (small-size _ _ _ _ (at-parse .parse .ensures .1) (at-w .w .given .1), search needs)
+    (small-size _ _ _ _ _ (at-parse .parse .ensures .1) (at-w .w .given .1), search needs)
 
 returns : tie.Need-returns
 returns c =
@@ -32,7 +32,7 @@ returns-2 : tie.Need-returns-2
 returns-2 c =
     let at-w = c .before .before .before in
     let at-parse = at-w .before .before in
-    report-put _ _ _ _ _ (block-report _ _ (at-parse .parse .ensures .0) (at-w .w .given .0 .0) (at-w .w .given .0 .1 .0) (at-w .w .given .1)) (c .put-input .ensures)
+    report-put _ _ _ _ _ (block-report _ _ (at-parse .parse .ensures .0) (at-w .w .given .0 .0) (at-w .w .given .0 .1 .0) (at-w .w .given .0 .1 .1 .0) (at-w .w .given .1)) (c .put-input .ensures)
 
 pub report-spec : {M : Type 1} → statement M
 report-spec =

@@ -2,6 +2,9 @@
 use Rattle.block.proofs.BuildingLaws.{list-contended}
 use Rattle.ports.proofs.BlockLaws.{tiles-le}
 use native.Mathlib.Omega.{arith}
+use Prim.Native.Nat.{_≤_}
+use Rattle.ports.specs.Lengths.{ports}
+use Rattle.equations.specs.Sources.{contendedWire}
 use mathlib.Core.Path.{refl, _∙_}
 use borrow.Author.Needs.{needs}
 use Rattle.block.proofs.list.list_settings.Statement.{statement}
@@ -44,7 +47,20 @@ list-sources-requires c κs =
     let at-fill-wires = at-find-sources .before .before .before .before .before in
     let at-start = at-fill-wires .before .before .before .before .before .before .before .before .before .before in
     let room = at-start .pre .1 in
-    ((at-start .pre .0, omega (arith, at-find-sources .find-sources .ensures .0, room .wires-long)), ((at-fill-wires .fill-wires .ensures, at-find-sources .find-sources .ensures .1), record { list-long = room .list-long; wires-long = omega (arith, room .wires-long); sources-long = omega (arith, room .sources-long); rows-long = room .rows-long; marks-long = room .marks-long; queue-long = room .queue-long }))
+    let B = at-start .args .b in
+    let few : ports B ≤ contendedWire B (at-start .args .table .now) (at-start .args .st .now) =
+        omega (arith, c .before .before .before .before .before .before .if1 .left, at-find-sources .find-sources .ensures .0, room .wires-long) in
+    ((at-start .pre .0, few), (
+      (at-fill-wires .fill-wires .ensures, at-find-sources .find-sources .ensures .1),
+      record {
+        list-long = room .list-long;
+        wires-long = at-fill-wires .fill-wires .kept .1 .0 ∙ room .wires-long;
+        sources-long = at-find-sources .find-sources .kept .1 .1 .1 .1 .0 ∙ room .sources-long;
+        rows-long = room .rows-long;
+        marks-long = room .marks-long;
+        queue-long = room .queue-long;
+      },
+    ))
 
 same-length-3 : tie.Need-same-length-3
 same-length-3 c =

@@ -2,16 +2,16 @@
 -- ---- what holds behind a test
 use Rattle.frames.proofs.ParsedLaws.{parsed-no-fields, parsed-no-passives, parsed-no-size, parsed-not-small}
 use Rattle.frames.proofs.MeaningLaws.{says-too}
-use Rattle.frames.proofs.BoundLaws.{group-count-le, size-at-le}
+use Rattle.frames.proofs.BoundLaws.{group-count-le, size-at-le, size-digits-le}
 use Rattle.frames.specs.Input.{sizeAt, width, height, small, Opened, parsed}
-use Rattle.frames.specs.Lines.{fieldsLine, passiveLine, sizeLine}
+use Rattle.frames.specs.Lines.{fieldsLine, passiveLine, sizeDigits, eastAt, sizeLine}
 use Rattle.texts.specs.Hex.{pairAt}
 use Rattle.frames.specs.declared.input.Parsed.the-variants.{Refused}
 use Rattle.refusal.specs.declared.Refusal.the-variants.{WrongSize, Line}
 use Rattle.lists.proofs.CaseLaws.{and-true, and-false-left, and-false-right}
 use borrow.Author.Tests.{not-true, not-false}
 use native.Mathlib.Omega.{arith}
-use Prim.Native.Nat.{ℕ, _+_}
+use Prim.Native.Nat.{ℕ, _+_, _≤_}
 use mathlib.Core.Bool.{true, false, _&&_}
 use mathlib.Core.List.{List}
 use mathlib.Core.Path.{_≡_, sym, ap, _∙_}
@@ -137,18 +137,43 @@ returns-5 c = says-too _ _
     let bad = ap small (sym (h-is at-h)) ∙ sym (at-is-small2 .is-small2 .ensures) ∙ not-true _ (c .if5 .taken) in
     sym (not-small (at-h .before .before) (and-false-right (small (width s)) (small (height s)) bad)))
 
+-- the position of the block frame, behind the test of H
+at-is : (c : tie.Else5) → c .before .before .before .before .before .before .before .before .count-groups .result .end ≡ sizeAt (text (c .before .before .before .before .before .before))
+at-is c = c .before .before .before .before .before .before .before .before .count-groups .ensures .1
+
+size-digits-requires : tie.Need-size-digits-requires
+size-digits-requires c κs = omega (arith, at-is c, size-at-le (text (c .before .before .before .before .before .before)))
+
+from-le : (c : tie.After-size-digits) → c .before .before .before .before .before .before .before .before .before .count-groups .result .end + c .size-digits .result ≤ 1312280
+from-le c =
+    let s = text (c .before .before .before .before .before .before .before) in
+    omega (arith, at-is (c .before), c .size-digits .ensures, size-at-le s, size-digits-le s (c .before .before .before .before .before .before .before .before .before .count-groups .result .end))
+
+add-from : tie.Need-add-from
+add-from c = let from = from-le c in omega arith
+
+add-from-2 : tie.Need-add-from-2
+add-from-2 c = let from = from-le c in omega arith
+
+east-requires : tie.Need-east-requires
+east-requires c κs = omega (arith, at-is (c .before), size-at-le (text (c .before .before .before .before .before .before .before)))
+
 parse-tiles-requires : tie.Need-parse-tiles-requires
 parse-tiles-requires c κs =
-    let at-is-small2 = c .before in
+    let at-size-digits = c .before in
+    let at-if5 = at-size-digits .before in
+    let at-is-small2 = at-if5 .before in
     let at-if4 = at-is-small2 .before in
     let at-is-small = at-if4 .before in
     let at-h = at-is-small .before in
     let at-w = at-h .before in
     let at-if3 = at-w .before in
+    let s = text at-if3 in
     let found = at-if3 .before .before .count-groups .ensures in
     let w-small = ap small (sym (w-is at-w)) ∙ sym (at-is-small .is-small .ensures) ∙ not-false _ (at-if4 .if4 .left) in
-    let h-small = ap small (sym (h-is at-h)) ∙ sym (at-is-small2 .is-small2 .ensures) ∙ not-false _ (c .if5 .left) in
-    (opened at-if3 (and-true w-small h-small), found .0, found .1, w-is at-w, h-is at-h)
+    let h-small = ap small (sym (h-is at-h)) ∙ sym (at-is-small2 .is-small2 .ensures) ∙ not-false _ (at-if5 .if5 .left) in
+    let long = at-size-digits .size-digits .ensures ∙ ap (sizeDigits s) (found .1) in
+    (opened at-if3 (and-true w-small h-small), found .0, omega (arith, found .1, long), w-is at-w, h-is at-h, c .east .ensures ∙ ap (eastAt s) (found .1))
 
 returns-6 : tie.Need-returns-6
 returns-6 c = says-too _ _
@@ -177,5 +202,9 @@ parse-spec =
     returns-4
     is-small-requires-2
     returns-5
+    size-digits-requires
+    add-from
+    add-from-2
+    east-requires
     parse-tiles-requires
     returns-6)

@@ -71,7 +71,7 @@ slice-aggregate-put-built c =
     let at-rows-room = c .before .before .before .before .before .before .before in
     let at-start = at-rows-room .before .before .before .before .before in
     let few = small-tiles (at-start .args .b) (at-start .pre .0) in
-    sym (front-long (listLength (at-start .args .b)) (listLength (block 3 3)) (at-rows-room .rows-room .result) (at-rows-room .rows-room .ensures) (omega arith))
+    sym (front-long (listLength (at-start .args .b)) (listLength (block 3 3 0)) (at-rows-room .rows-room .result) (at-rows-room .rows-room .ensures) (omega arith))
 
 array-borrow-prefix-settings : tie.Need-array-borrow-prefix-settings
 array-borrow-prefix-settings c =
@@ -97,7 +97,7 @@ slice-aggregate-put-built-3 c =
     let at-ports-room = c .before .before .before .before .before .before in
     let at-start = at-ports-room .before .before .before .before .before .before .before .before in
     let few = small-tiles (at-start .args .b) (at-start .pre .0) in
-    sym (front-long (ports (at-start .args .b)) (ports (block 3 3)) (at-ports-room .ports-room .result) (at-ports-room .ports-room .ensures) (omega arith))
+    sym (front-long (ports (at-start .args .b)) (ports (block 3 3 0)) (at-ports-room .ports-room .result) (at-ports-room .ports-room .ensures) (omega arith))
 
 array-borrow-prefix-sources : tie.Need-array-borrow-prefix-sources
 array-borrow-prefix-sources c =
@@ -110,7 +110,7 @@ slice-aggregate-put-built-4 c =
     let at-ports-room2 = c .before .before .before .before .before .before in
     let at-start = at-ports-room2 .before .before .before .before .before .before .before .before .before in
     let few = small-tiles (at-start .args .b) (at-start .pre .0) in
-    sym (front-long (ports (at-start .args .b)) (ports (block 3 3)) (at-ports-room2 .ports-room2 .result) (at-ports-room2 .ports-room2 .ensures) (omega arith))
+    sym (front-long (ports (at-start .args .b)) (ports (block 3 3 0)) (at-ports-room2 .ports-room2 .result) (at-ports-room2 .ports-room2 .ensures) (omega arith))
 
 array-borrow-prefix-rows : tie.Need-array-borrow-prefix-rows
 array-borrow-prefix-rows c =
@@ -123,7 +123,7 @@ slice-aggregate-put-built-5 c =
     let at-rows-room2 = c .before .before .before .before .before .before .before .before .before .before in
     let at-start = at-rows-room2 .before .before .before .before .before .before in
     let few = small-tiles (at-start .args .b) (at-start .pre .0) in
-    sym (front-long (listLength (at-start .args .b)) (listLength (block 3 3)) (at-rows-room2 .rows-room2 .result) (at-rows-room2 .rows-room2 .ensures) (omega arith))
+    sym (front-long (listLength (at-start .args .b)) (listLength (block 3 3 0)) (at-rows-room2 .rows-room2 .result) (at-rows-room2 .rows-room2 .ensures) (omega arith))
 
 array-borrow-prefix-marks : tie.Need-array-borrow-prefix-marks
 array-borrow-prefix-marks c =
@@ -136,7 +136,7 @@ slice-aggregate-put-built-6 c =
     let at-ports-room3 = c .before .before .before .before .before .before .before in
     let at-start = at-ports-room3 .before .before .before .before .before .before .before .before .before .before in
     let few = small-tiles (at-start .args .b) (at-start .pre .0) in
-    sym (front-long (ports (at-start .args .b)) (ports (block 3 3)) (at-ports-room3 .ports-room3 .result) (at-ports-room3 .ports-room3 .ensures) (omega arith))
+    sym (front-long (ports (at-start .args .b)) (ports (block 3 3 0)) (at-ports-room3 .ports-room3 .result) (at-ports-room3 .ports-room3 .ensures) (omega arith))
 
 array-borrow-prefix-queue : tie.Need-array-borrow-prefix-queue
 array-borrow-prefix-queue c =
@@ -149,7 +149,7 @@ slice-aggregate-put-built-7 c =
     let at-ports-room4 = c .before .before .before .before .before .before .before in
     let at-start = at-ports-room4 .before .before .before .before .before .before .before .before .before .before .before in
     let few = small-tiles (at-start .args .b) (at-start .pre .0) in
-    sym (front-long (ports (at-start .args .b)) (ports (block 3 3)) (at-ports-room4 .ports-room4 .result) (at-ports-room4 .ports-room4 .ensures) (omega arith))
+    sym (front-long (ports (at-start .args .b)) (ports (block 3 3 0)) (at-ports-room4 .ports-room4 .result) (at-ports-room4 .ports-room4 .ensures) (omega arith))
 
 put-built-requires : tie.Need-put-built-requires
 put-built-requires c κs =
@@ -168,12 +168,12 @@ put-built-requires c κs =
         bits-long = at-start .pre .1;
         settings-long = front-long (settingsTotal (sizeOf (at-start .args .b))) (settingsTotal (size 3 3)) (at-settings-room .settings-room .result) (at-settings-room .settings-room .ensures) (omega arith);
         room-long = record {
-          list-long = front-long (listLength (at-start .args .b)) (listLength (block 3 3)) (at-rows-room .rows-room .result) (at-rows-room .rows-room .ensures) (omega arith);
-          wires-long = front-long (ports (at-start .args .b)) (ports (block 3 3)) (at-ports-room .ports-room .result) (at-ports-room .ports-room .ensures) (omega arith);
-          sources-long = front-long (ports (at-start .args .b)) (ports (block 3 3)) (at-ports-room2 .ports-room2 .result) (at-ports-room2 .ports-room2 .ensures) (omega arith);
-          rows-long = front-long (listLength (at-start .args .b)) (listLength (block 3 3)) (at-rows-room2 .rows-room2 .result) (at-rows-room2 .rows-room2 .ensures) (omega arith);
-          marks-long = front-long (ports (at-start .args .b)) (ports (block 3 3)) (at-ports-room3 .ports-room3 .result) (at-ports-room3 .ports-room3 .ensures) (omega arith);
-          queue-long = front-long (ports (at-start .args .b)) (ports (block 3 3)) (at-ports-room4 .ports-room4 .result) (at-ports-room4 .ports-room4 .ensures) (omega arith);
+          list-long = front-long (listLength (at-start .args .b)) (listLength (block 3 3 0)) (at-rows-room .rows-room .result) (at-rows-room .rows-room .ensures) (omega arith);
+          wires-long = front-long (ports (at-start .args .b)) (ports (block 3 3 0)) (at-ports-room .ports-room .result) (at-ports-room .ports-room .ensures) (omega arith);
+          sources-long = front-long (ports (at-start .args .b)) (ports (block 3 3 0)) (at-ports-room2 .ports-room2 .result) (at-ports-room2 .ports-room2 .ensures) (omega arith);
+          rows-long = front-long (listLength (at-start .args .b)) (listLength (block 3 3 0)) (at-rows-room2 .rows-room2 .result) (at-rows-room2 .rows-room2 .ensures) (omega arith);
+          marks-long = front-long (ports (at-start .args .b)) (ports (block 3 3 0)) (at-ports-room3 .ports-room3 .result) (at-ports-room3 .ports-room3 .ensures) (omega arith);
+          queue-long = front-long (ports (at-start .args .b)) (ports (block 3 3 0)) (at-ports-room4 .ports-room4 .result) (at-ports-room4 .ports-room4 .ensures) (omega arith);
         };
       },
     )

@@ -31,7 +31,7 @@ put-accepted-requires c κs =
     let at-build = at-built2 .before .before .before .before .before .before .before .before .before .before .before .before .before .before .before .before in
     let at-start = at-build .before .before .before .before .before .before .before .before .before .before .before .before .before .before .before .before .before .before in
     let says = subst (BuildSays (at-start .args .b) (at-start .args .table .now) (at-start .args .bits .now) (buildLent (at-start .args .table .now) (at-start .args .bits .now) (at-start .args .settings .now) (roomLent (at-start .args .list .now) (at-start .args .wires .now) (at-start .args .sources .now) (at-start .args .rows .now) (at-start .args .marks .now) (at-start .args .queue .now)))) (at-built2 .built2 .given .1) (at-build .build .ensures .1 .1 .1 .1 .1 .1 .1 .1) in (
-      (says .0 .size, small-tiles _ (at-start .pre .0 .0), says .0 .rules, listed-decodable _ _ _ _ _ (at-build .build .ensures .0) (build-long-exact (at-start .args .b) (buildLent (at-start .args .table .now) (at-start .args .bits .now) (at-start .args .settings .now) (roomLent (at-start .args .list .now) (at-start .args .wires .now) (at-start .args .sources .now) (at-start .args .rows .now) (at-start .args .marks .now) (at-start .args .queue .now))) .1 (at-start .pre .1)) (at-built2 .built2 .given .0 .0) (at-built2 .built2 .given .1)),
+      (says .0 .size, small-tiles (at-start .args .b) (at-start .pre .0 .0), says .0 .rules, listed-decodable _ _ _ _ _ (at-build .build .ensures .0) (build-long-exact (at-start .args .b) (buildLent (at-start .args .table .now) (at-start .args .bits .now) (at-start .args .settings .now) (roomLent (at-start .args .list .now) (at-start .args .wires .now) (at-start .args .sources .now) (at-start .args .rows .now) (at-start .args .marks .now) (at-start .args .queue .now))) .1 (at-start .pre .1)) (at-built2 .built2 .given .0 .0) (at-built2 .built2 .given .1)),
       (
         at-start .pre .1 .bits-long,
         at-build .build .kept .1 .1 .1 .1 .0 ∙ at-start .pre .1 .settings-long,

@@ -90,11 +90,12 @@ def run(tests, seed):
 
 
 def blocks():
+    """The bundled blocks: name to (w, h, east, table, bits)."""
     return {os.path.basename(f)[:-3]: model.parse(open(f).read()) for f in sorted(glob.glob(os.path.join(DATA, '*.in')))}
 
 
 def tables():
-    return {os.path.basename(f)[:-4]: model.parse(open(f).read())[2] for f in sorted(glob.glob(os.path.join(DATA, '*.tab')))}
+    return {os.path.basename(f)[:-4]: model.parse(open(f).read())[3] for f in sorted(glob.glob(os.path.join(DATA, '*.tab')))}
 
 
 def check_read(lib, count, w, h, table, bits, what=''):
@@ -127,7 +128,7 @@ def real(lib):
         check_write(lib, count, 1, 1, table, expected, name)
     wrong = count.done()
     count = Count('real blocks: read, written back to the same bits')
-    for name, (w, h, table, bits) in blocks().items():
+    for name, (w, h, _, table, bits) in blocks().items():
         settings = check_read(lib, count, w, h, table, bits, name)
         answer, after = lib.call('ice40_write', w, h, (U16, table), (U16, settings), (U8, bytes(len(bits))))
         count.same((answer, bytes(after[2])), ((0, 0), bits), name)
@@ -139,7 +140,7 @@ def real(lib):
 
 def damaged(lib, rounds):
     """Bits flipped, settings changed, tables changed in every slot that is read."""
-    whole = list(blocks().values())
+    whole = [(w, h, table, bits) for w, h, _, table, bits in blocks().values()]
     count = Count('bits flipped: the lowest undecodable tile')
     for _ in range(rounds):
         w, h, table, bits = random.choice(whole)
@@ -175,7 +176,7 @@ def damaged(lib, rounds):
 
 def bad_input(lib):
     count = Count('sizes and lengths: grounds 1 and 2, nothing touched')
-    w, h, table, bits = next(b for b in blocks().values() if b[0] * b[1] == 4)
+    w, h, _, table, bits = next(b for b in blocks().values() if b[0] * b[1] == 4)
     settings = [7] * (595 * 4)
     for size in ((0, 1), (1, 0), (9, 1), (1, 9), (0, 0), (4294967295, 4294967295), (65536, 65536)):
         answer, after = lib.call('ice40_read', *size, (U16, []), (U8, []), (U16, [1, 2, 3]))

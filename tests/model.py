@@ -1,8 +1,9 @@
-"""A model of the reader, written from document 01 and apart from the reader's own text: plain Python, slow, and proved nowhere.
+"""A model of the reader, written from documents 01 and 02 and apart from the reader's own text: plain Python, slow, and proved nowhere.
 
 The tests compare the library with it. It works on the lent form of everything: a routing table of 38,469 numbers, 595 settings and 108
 bytes a tile, rows of seven numbers; at its end, on the lines of the report program. A no is a pair (ground, place); a yes is what was
-asked for.
+asked for. `east` is the byte that says whether the column to the east of the block is logic or RAM; calls whose answer rests on no join do
+not take it.
 """
 import heapq
 import os
@@ -194,9 +195,9 @@ def depends(reads, start):
 class Block:
     """The equations of a block with settings: what each wire is, by document 01's sentences."""
 
-    def __init__(self, w, h, table, settings):
+    def __init__(self, w, h, east, table, settings):
         self.tiles, self.settings = w * h, settings
-        self.wire = union_find(w, h)
+        self.wire = union_find(w, h, east)
         self.wires = [p for p, n in enumerate(self.wire) if n == p]
         groups = groups_of(table)
         self.switches = []  # (driven wire, source wire, tile, group)
@@ -312,14 +313,14 @@ class Block:
         return None
 
 
-def build(w, h, table, bits):
+def build(w, h, east, table, bits):
     """The rows of the list, in order, or a no."""
-    settings = read(w, h, table, bits)
-    return settings if isinstance(settings, tuple) else build_settings(w, h, table, settings)
+    settings = read(w, h, table, bits) if east < 2 else (1, 0)
+    return settings if isinstance(settings, tuple) else build_settings(w, h, east, table, settings)
 
 
-def build_settings(w, h, table, settings):
-    block = Block(w, h, table, settings)
+def build_settings(w, h, east, table, settings):
+    block = Block(w, h, east, table, settings)
     if block.contended:
         return 5, min(block.contended)
     carry = block.disabled_carry()
@@ -343,9 +344,9 @@ def run(rows, state, lent):
     return values
 
 
-def step(w, h, settings, rows, state, before, after):
+def step(w, h, east, settings, rows, state, before, after):
     """Every port's value before, and the next state."""
-    wire = union_find(w, h)
+    wire = union_find(w, h, east)
     b, a = run(rows, state, before), run(rows, state, after)
     new = list(state)
     for t in range(w * h):
@@ -390,7 +391,8 @@ def group_numbers(data):
 
 
 def frame(line):
-    """A line's kind and what it says, or None where it is malformed: fields, passive positions, a group, the size, a tile's bytes."""
+    """A line's kind and what it says, or None where it is malformed: fields, passive positions, a group, the size with the byte for the
+    east, a tile's bytes."""
     if len(line) > 512 or len(line) % 2 or not re.fullmatch(b'[0-9A-F]+', line):
         return None
     kind, data = line[:2], bytes.fromhex(line[2:].decode())
@@ -400,8 +402,8 @@ def frame(line):
         return 2, words(data[1:])
     if kind == b'03' and group_numbers(data):
         return 3, group_numbers(data)
-    if kind == b'04' and len(data) == 2:
-        return 4, list(data)
+    if kind == b'04' and (len(data) == 2 or len(data) == 3 and data[2] in (0, 1)):
+        return 4, [*data, 0][:3]
     if kind == b'05' and len(data) == BYTES:
         return 5, data
     return None
@@ -411,7 +413,7 @@ class Input:
     """What frames say, one taken after the other."""
 
     def __init__(self):
-        self.w, self.h, self.table, self.bits = 0, 0, [0] * TABLE, b''
+        self.w, self.h, self.east, self.table, self.bits = 0, 0, 0, [0] * TABLE, b''
 
     def take(self, kind, data):
         if kind == 1:
@@ -423,7 +425,7 @@ class Input:
             self.table[at:at + 75] = data
             self.table[68] += 1
         elif kind == 4:
-            self.w, self.h = data
+            self.w, self.h, self.east = data
         else:
             self.bits += data
 
@@ -433,11 +435,11 @@ class Input:
                 5: [5] if len(self.bits) < BYTES * self.w * self.h else []}[kind]
 
     def block(self):
-        return self.w, self.h, self.table, self.bits
+        return self.w, self.h, self.east, self.table, self.bits
 
 
 def parse(text):
-    """(w, h, table, bits) of well-formed frames, whichever of them are there."""
+    """(w, h, east, table, bits) of well-formed frames, whichever of them are there."""
     whole = Input()
     for line in text.split():
         whole.take(*frame(line.encode()))
@@ -465,12 +467,12 @@ def last_line(ground, place):
     return '08%02X%04X\n' % (ground, place)
 
 
-def report(w, h, table, bits):
+def report(w, h, east, table, bits):
     """A block's report: its text, the enabled switches (driven wire, source wire), the cells in use (tile, cell, table, flags)."""
-    answer = build(w, h, table, bits)
+    answer = build(w, h, east, table, bits)
     if isinstance(answer, tuple):
         return last_line(*answer), [], []
-    block = Block(w, h, table, read(w, h, table, bits))
+    block = Block(w, h, east, table, read(w, h, table, bits))
     switches = sorted((driven, source) for driven, source, _, _ in block.switches)
     cells = [(t, i, block.lut(t, i), block.settings[SETTINGS * t + 580 + 2 * i]) for t in range(w * h) for i in range(8)]
     cells = [cell for cell in cells if cell[2] or cell[3]]

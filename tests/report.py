@@ -115,9 +115,10 @@ def tile_line(positions):
     return '05' + sum(1 << p for p in set(positions)).to_bytes(model.BYTES, 'little').hex().upper()
 
 
-def lines_of(groups, tiles, w=1, h=1, fields=FIELDS, passive=()):
-    """An input's lines. A group is (destination, positions, entries of pattern and source), a tile the positions that are set."""
-    return ['01' + four(fields), '02%02X' % len(passive) + four(passive), *[group_line(*group) for group in groups], '04%02X%02X' % (w, h),
+def lines_of(groups, tiles, w=1, h=1, fields=FIELDS, passive=(), east=''):
+    """An input's lines. A group is (destination, positions, entries of pattern and source), a tile the positions that are set, `east` the
+    digits of the byte for the column to the east."""
+    return ['01' + four(fields), '02%02X' % len(passive) + four(passive), *[group_line(*group) for group in groups], '04%02X%02X' % (w, h) + east,
             *[tile_line(tile) for tile in tiles]]
 
 
@@ -133,7 +134,7 @@ def sample():
 def longest():
     """As many digits as frames can have."""
     group = 0, FREE[:8], [(pattern, 404) for pattern in range(1, 33)]
-    return lines_of([group] * 512, [[]] * 9, 3, 3, passive=FREE[:64])
+    return lines_of([group] * 512, [[]] * 9, 3, 3, passive=FREE[:64], east='01')
 
 
 # ---- groups of cases
@@ -163,7 +164,8 @@ def malformed(line):
     yield from (line[:-1] + digit for digit in 'aGg/:@`\xb0')
     yield from (line + end for end in '\r \t\0')
     yield from (start + line for start in ('\r', ' ', '\0', '0x', 'x', '\xef\xbb\xbf'))
-    yield from (line[:-1], line[:-2], line[:1], line[:2], line + '0', line + '00', line + line)
+    more = '0000' if line[:2] == '04' else '00'  # one byte more is the block frame's own
+    yield from (line[:-1], line[:-2], line[:1], line[:2], line + '0', line + more, line + line)
     yield from ('%02X' % kind + line[2:] for kind in (0, 6, 7, 8, 9, 10, 15, 16, 17, 255))
     yield from (line + '0' * (n - len(line)) for n in (511, 512, 513, 514, 1024, 4096))
 
@@ -246,8 +248,25 @@ def sizes(program):
     return count.done()
 
 
+def east_bytes(program):
+    count = Count('the byte for the east: 01, 00 or left out, another is 11 before 1')
+    lines = sample()
+    for size in ('0101', '0302', '0000', '0401', '0909', 'FFFF'):
+        fine = size in ('0101', '0302')
+        tiles = [tile_line([])] * (6 if size == '0302' else 1)
+        for east in ('', '00', '01'):
+            program.check(count, whole(lines[:4] + ['04' + size + east] + tiles), (size, east), (0 if fine else 1, 0))
+            program.check(count, whole(lines[:4]) + ('04' + size + east).encode(), (size, east), (11, 5))
+        for east in ['%02X' % byte for byte in range(2, 256)] + ['0', '1', '0000', '0001', '0100', '0101', '000000', '1 ', '+1', '0g', 'aa', ' 0']:
+            program.check(count, whole(lines[:4] + ['04' + size + east] + tiles), (size, east), (11, 5))
+        for fields in ('0864' * 3, '0000' * 3):  # nor does a table that breaks a rule come first
+            program.check(count, whole(['01' + fields] + lines[1:4] + ['04' + size + '02'] + tiles), size, (11, 5))
+    return count.done()
+
+
 A, B, C, D = FREE[100:104]
 OUT, LOCAL, IN, CLK, S_R, COUT = 404, 336, 372, 476, 478, 489
+RIGHT, BOT, BNR, RGT, TNL, TOP, TNR = 192, 420, 428, 444, 452, 460, 468  # sp4_r_v_b_0, and neigh_op names of number 0
 PLAIN = LOCAL, [A], [(1, OUT)]
 
 
@@ -310,6 +329,38 @@ def judged_blocks():
     fields, passive, local, lut_in, size, tile = sample()
     bits = bytes.fromhex(tile[2:])
     yield 7, LOCAL, [fields, passive, local, lut_in, size, tile_line(p for p in range(864) if model.bit(bits, p) and p != 45)]
+
+
+def outside_blocks():
+    """Blocks of one column, whose answer hangs on what is joined outside: lines without a byte, then what they give without and with it."""
+    right = RIGHT, [A], [(1, OUT)]  # row 1's sp4_r_v_b_0 is row 0's sp4_r_v_b_13
+    yield [right, (RIGHT + 13, [B], [(1, OUT)])], [[B], [A]], (0, 0), (5, RIGHT + 13)
+    yield [right, (RIGHT + 12, [B], [(1, OUT)])], [[B], [A]], (0, 0), (0, 0)  # not without the flip
+    yield [right, (RIGHT + 13, [B], [(1, OUT)])], [[B], [], [A]], (0, 0), (0, 0)  # one row further it is sp4_r_v_b_24
+    yield [right, (RIGHT + 24, [B], [(1, OUT)])], [[B], [], [A]], (0, 0), (5, RIGHT + 24)
+    yield [(RIGHT + 36, [A], [(1, OUT)]), (RIGHT + 47, [B], [(1, OUT)])], [[B], [A]], (0, 0), (0, 0)  # 36 and above end in their row
+    back = [(LOCAL, [A], [(1, RIGHT + 13)]), (IN, [B], [(1, LOCAL)]), (RIGHT, [C], [(1, BOT)])]
+    yield back, [[A, B], [C]], (0, 0), (7, RIGHT + 13)
+    yield back, [[A, B], [A, B]], (0, 0), (0, 0)
+    clock = [(CLK, [A], [(1, RIGHT + 13)]), (RIGHT, [B], [(1, BOT)])]
+    yield clock, [[A, flag(3, 1)], [B]], (0, 0), (8, 0)
+    carry = [(RIGHT, [A], [(1, COUT)]), (LOCAL, [B], [(1, RIGHT + 13)])]
+    yield carry, [[B, flag(0, 0)], [A]], (6, 506 + COUT), (6, 506 + COUT)
+
+
+def outside(program):
+    """The two joins outside, by blocks of two and three rows, and by the sources of single switches."""
+    count = Count('joined outside: the column to the east, neigh_op names of one tile')
+    for groups, tiles, apart, joined in outside_blocks():
+        for east, ends in (('', apart), ('00', apart), ('01', joined)):
+            program.check(count, whole(lines_of(groups, tiles, 1, len(tiles), east=east)), (groups, east), ends)
+    # a switch of the last tile of a block of 2 by 2, and its source's wire: the lowest name for the same output of that outside tile
+    for source, wire in ((RGT, 506 + TNR), (RGT + 7, 506 + TNR + 7), (BNR, 506 + RGT), (BNR + 3, 506 + RGT + 3), (TOP, 2 * 506 + TNR), (TNL, 2 * 506 + TOP),
+                         (TNR, 3 * 506 + TNR)):
+        for east in ('', '00', '01'):
+            lines = lines_of([(LOCAL, [A], [(1, source)])], [[], [], [], [A]], 2, 2, east=east)
+            count.same(program.check(count, whole(lines), (source, east)), '06%04X%04X\n08000000\n' % (3 * 506 + LOCAL, wire), (source, east))
+    return count.done()
 
 
 def grounds(program):
@@ -396,7 +447,7 @@ def random_block():
     passive = [free.pop() for _ in range(random.choice((0, 0, 1, 5)))]
     groups = [random_group([free.pop() for _ in range(random.randint(1, 5))]) for _ in range(random.choice((1, 4, 10, 30)))]
     w, h = random.choice(((1, 1), (1, 1), (1, 2), (2, 1), (2, 2), (3, 3)))
-    return lines_of(groups, [random_tile(groups, passive) for _ in range(w * h)], w, h, passive=passive)
+    return lines_of(groups, [random_tile(groups, passive) for _ in range(w * h)], w, h, passive=passive, east=random.choice(('', '00', '01', '01')))
 
 
 def made(program, rounds):
@@ -491,8 +542,9 @@ def main():
     parser.add_argument('--program', metavar='PROGRAM')
     arguments = parser.parse_args()
     program, rounds = Program(arguments.program or own_program()), arguments.rounds
-    return run([(real, program), (vectors, program), (bad_lines, program), (counts, program), (sizes, program), (grounds, program), (cut, program),
-                (large, program), (pieces, program), (made, program, rounds // 4), (damaged, program, rounds), (every_ground, program)], 3)
+    return run([(real, program), (vectors, program), (bad_lines, program), (counts, program), (sizes, program), (east_bytes, program), (grounds, program),
+                (outside, program), (cut, program), (large, program), (pieces, program), (made, program, rounds // 4), (damaged, program, rounds),
+                (every_ground, program)], 3)
 
 
 if __name__ == '__main__':

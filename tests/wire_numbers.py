@@ -1,8 +1,9 @@
 #!/usr/bin/env python3
-"""Compares ice40_wire_number with a union-find over the published joins, for every port of all 64 block sizes.
+"""Compares ice40_wire_number with a union-find over the published joins, for every port of all 64 block sizes, without and with a column to
+the east; a byte for that column that is neither 0 nor 1.
 
 Run from anywhere in the repository; it needs the Rattle kit (rt), a C compiler and Python 3:  python3 tests/wire_numbers.py
-The joins are written here from document 01 by the ports' names, apart from the reader's own text.
+The joins are written here from documents 01 and 02 (W2) by the ports' names, apart from the reader's own text.
 """
 import os
 import subprocess
@@ -25,8 +26,8 @@ PORTS = at
 assert PORTS == 506
 
 
-def joins(w, h):
-    """Each published join of a w by h block, as a pair of port numbers."""
+def joins(w, h, east):
+    """Each published join of a w by h block, as a pair of port numbers; `east` is 1 where the column to the east is logic or RAM."""
     def port(x, y, name, k=0):
         return PORTS * (y * w + x) + BASE[name] + k
 
@@ -57,9 +58,20 @@ def joins(w, h):
             if inside(x, y - 1):
                 yield port(x, y, 'carry_in'), port(x, y - 1, 'cout', 7)
                 yield port(x, y, 'ltin'), port(x, y - 1, 'lout', 7)
+    if east:
+        for y in range(1, h):
+            for k in range(36):
+                yield port(w - 1, y, 'sp4_r_v_b', k), port(w - 1, y - 1, 'sp4_r_v_b', (k ^ 1) + 12)
+    first = {}  # for output i of an outside tile, the first name that means it
+    for t in range(w * h):
+        for name, (dx, dy) in SEES.items():
+            tile = t % w + dx, t // w + dy
+            for i in range(8):
+                if not inside(*tile):
+                    yield port(t % w, t // w, name, i), first.setdefault((tile, i), port(t % w, t // w, name, i))
 
 
-def wires(w, h):
+def wires(w, h, east):
     """The lowest port of each port's wire, by union-find."""
     root = list(range(PORTS * w * h))
 
@@ -69,7 +81,7 @@ def wires(w, h):
             p = root[p]
         return p
 
-    for p, q in joins(w, h):
+    for p, q in joins(w, h, east):
         p, q = find(p), find(q)
         if p != q:
             root[max(p, q)] = min(p, q)
@@ -80,37 +92,52 @@ DRIVER = r'''
 #include <stdio.h>
 #include "ice40.h"
 int main(void) {
-    for (uint32_t h = 1; h <= 8; h++)
-        for (uint32_t w = 1; w <= 8; w++)
-            for (uint32_t t = 0; t < w * h; t++)
-                for (uint32_t q = 0; q < 506; q++)
-                    printf("%llu\n", (unsigned long long)ice40_wire_number(w, h, t, q));
+    for (uint32_t east = 0; east < 2; east++)
+        for (uint32_t h = 1; h <= 8; h++)
+            for (uint32_t w = 1; w <= 8; w++)
+                for (uint32_t t = 0; t < w * h; t++)
+                    for (uint32_t q = 0; q < 506; q++)
+                        printf("%llu\n", (unsigned long long)ice40_wire_number(w, h, east, t, q));
+    static const uint32_t refused[][5] = {{1, 1, 2, 0, 0}, {8, 8, 255, 0, 0}, {2, 2, UINT32_MAX, 9, 999}, {2, 2, 256, 4, 0}, {9, 1, 1, 0, 0}, {0, 1, 2, 0, 0}};
+    for (size_t k = 0; k < sizeof refused / sizeof *refused; k++) {
+        const uint32_t *asked = refused[k];
+        printf("%llu\n", (unsigned long long)ice40_wire_number(asked[0], asked[1], asked[2], asked[3], asked[4]));
+    }
     return 0;
 }
 '''
+REFUSED = 6  # the last calls, all with ground 1 at place 0: a byte above 1, or a size
 
 
-def main():
+def answers():
+    """What the library answers to the calls of DRIVER."""
     subprocess.run(['rt', 'staticlib', 'capi'], cwd=ROOT, check=True, stdout=subprocess.DEVNULL)
     with tempfile.TemporaryDirectory() as folder:
         source, program = os.path.join(folder, 'all.c'), os.path.join(folder, 'all')
         with open(source, 'w') as f:
             f.write(DRIVER)
         subprocess.run(['cc', '-I', os.path.join(ROOT, 'include'), source, os.path.join(ROOT, 'target/staticlib/libcapi.a'), '-o', program], check=True)
-        got = iter(subprocess.run([program], check=True, stdout=subprocess.PIPE).stdout.split())
+        return [int(line) for line in subprocess.run([program], check=True, stdout=subprocess.PIPE).stdout.split()]
+
+
+def main():
+    got = iter(answers())
     ports = different = 0
     counts = {}
-    for h in range(1, 9):
-        for w in range(1, 9):
-            expected = wires(w, h)
-            counts[w, h] = sum(p == n for p, n in enumerate(expected))
-            for n in expected:
-                ports += 1
-                different += int(next(got)) != n
-    for w, h in ((1, 1), (2, 2), (3, 3), (8, 8)):
-        print('%d by %d: %d wires' % (w, h, counts[w, h]))
-    print('%d ports in 64 sizes, %d differences' % (ports, different))
-    return different != 0
+    for east in (0, 1):
+        for h in range(1, 9):
+            for w in range(1, 9):
+                expected = wires(w, h, east)
+                counts[w, h, east] = sum(p == n for p, n in enumerate(expected))
+                for n in expected:
+                    ports += 1
+                    different += next(got) != n
+    for n in (1, 2, 3, 8):
+        print('%d by %d: %d wires, %d with a column to the east' % (n, n, counts[n, n, 0], counts[n, n, 1]))
+    print('%d ports in 64 sizes without and with that column, %d differences' % (ports, different))
+    wrong = sum(answer != 1 << 32 for answer in got)
+    print('%d calls with another byte or size, %d not refused with ground 1' % (REFUSED, wrong))
+    return different + wrong != 0
 
 
 if __name__ == '__main__':

@@ -1,9 +1,10 @@
 // A cell's settings as a record by value, its lookup table and its carry.
 ghost use mathlib.Core.Path.{_≡_};
-ghost use Prim.Native.Nat.{_<_, _≤_};
+ghost use Prim.Native.Nat.{ℕ, _+_, _*_, _<_, _≤_};
 ghost use mathlib.Core.Bool.{cond};
 ghost use Rattle.cell.specs.Settings.{cellOf, flagsOf};
 ghost use Rattle.cell.specs.Lookup.{lookupBit, lookedUp, majority};
+ghost use Rattle.cell.specs.Halves.{halved};
 ghost use Rattle.digits.specs.Digits.{digit, isSet};
 use refusal::Refusal;
 
@@ -57,24 +58,48 @@ pub fn lookup(table: u16, inputs: u32) -> Looked
     if 15 < inputs {
         return Looked::Refused(Refusal::OutOfRange(inputs));
     }
-    Looked::Bit(table_bit(table, inputs))
+    let in0 = input(inputs, 0);
+    let in1 = input(inputs, 1);
+    let in2 = input(inputs, 2);
+    let in3 = input(inputs, 3);
+    Looked::Bit(lookup_bit(table, in0, in1, in2, in3))
 }
 
-// The selected bit of a table, by a shifted mask.
-pub fn table_bit(table: u16, index: u32) -> u8
-    requires { ⌜ index < 16 ⌝ }
-    ensures { λ r. ⌜ r ≡ digit table index ⌝ }
+// Input k of inputs that are given as one number.
+fn input(inputs: u32, k: u32) -> u8
+    requires { ⌜ k < 4 ⌝ }
+    ensures { λ r. ⌜ r ≡ digit inputs k ⌝ }
 {
-    ((table >> index) & 1) as u8
+    ((inputs >> k) & 1) as u8
 }
 
-// The lookup of a cell whose inputs in_0 to in_3 are bits.
+// The lookup of a cell whose inputs in_0 to in_3 are bits: four choices, each halving what is left of the table's sixteen bits.
+// `ByHalves` says after each choice where the bit wanted is (specs/Halves.antt).
+// Rules out: one input that makes the choice of another; a 0 that picks the upper half.
 pub fn lookup_bit(table: u16, in0: u8, in1: u8, in2: u8, in3: u8) -> u8
     requires { ⌜ (in0 < 2) × (in1 < 2) × (in2 < 2) × (in3 < 2) ⌝ }
     ensures { λ r. ⌜ r ≡ lookupBit table in0 in1 in2 in3 ⌝ }
 {
-    let index = in3 * 8 + in2 * 4 + in1 * 2 + in0;
-    table_bit(table, index as u32)
+    // of sixteen; in_2, in_1 and in_0 index the bit wanted among the eight (`after-in3`)
+    let eight = half(table, in3, 8);
+    // of eight; in_1 and in_0 index it among the four (`after-in2`)
+    let four = half(eight, in2, 4);
+    // of four; in_0 indexes it among the two (`after-in1`)
+    let two = half(four, in1, 2);
+    // of two; this is the bit (`after-in0`)
+    let one = half(two, in0, 1);
+    one as u8
+}
+
+// One choice between the two halves of 2n bits: a 0 picks the lower n and a 1 the upper n, by a shifted mask.
+// "after each choice the bit wanted is the one the remaining inputs index among those left" (02, W3): `among`, where i is what they index.
+fn half(bits: u16, choice: u8, n: u8) -> u16
+    requires { ⌜ (choice < 2) × (n ≤ 8) ⌝ }
+    ensures is { λ r. ⌜ r ≡ halved bits choice n ⌝ }
+    ensures among { λ r. ⌜ ((i : ℕ) → i < n → digit r i ≡ digit bits (choice * n + i)) ⌝ }
+{
+    let mask: u16 = (1 << n) - 1;
+    (bits >> (choice * n)) & mask
 }
 
 // The carry of a cell: the majority of three bits.

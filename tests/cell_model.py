@@ -1,5 +1,6 @@
 #!/usr/bin/env python3
-"""What a logic cell gives over all inputs, from the words of document 01 and the Verilog of source document 003.
+"""What a logic cell gives over all inputs, from the words of document 01 and the Verilog of source document 003; the lookup by halves, from
+those of document 02.
 
 Prints the expected output of the program cell_run:  python3 tests/cell_model.py | diff - crates/cell_run/stdout
 """
@@ -29,6 +30,21 @@ def step(flop, asynchronous, set_value, ticked, cen, sr_before, sr_after, lookup
         if ticked and cen:
             return lookup
     return old
+
+
+def halves(table, inputs):
+    """02, W3: "in_3 picks eight of sixteen, in_2 four, and so on". What is left after each choice, as binary digits with the highest first, for
+    inputs as four digits with in_3 first"""
+    left = format(table, '016b')
+    for choice in inputs:
+        upper, lower = left[:len(left) // 2], left[len(left) // 2:]
+        left = upper if choice == '1' else lower
+        yield left
+
+
+def table_bit(table, inputs):
+    """01: "the table bit at in_3·8 + in_2·4 + in_1·2 + in_0", for inputs as one number"""
+    return int(format(table, '016b')[15 - inputs])
 
 
 def main():

@@ -1,6 +1,6 @@
 #!/usr/bin/env python3
-"""Builds the examples in C and Rust and compares what they print with the model of tests/model.py; bad input, closed and full output, and
-the benchmark's scripts with bad words.
+"""Builds the examples in C and Rust and compares what they print with the models of tests/model.py and tests/cell_model.py; bad input, closed
+and full output, the numbers of docs/LOOKUP.md, and the benchmark's scripts with bad words.
 
     python3 tests/examples.py             needs the Rattle kit (rt), a C compiler, rustc and Python 3
     python3 tests/examples.py FOLDER ..   the same on the inputs NAME.in of other folders, and with NAME.out beside them (NAME.full for a
@@ -11,24 +11,28 @@ their lines or by its own limit of 3 by 3 (grounds 11 and 1): the examples have 
 """
 import glob
 import os
+import random
+import re
 import subprocess
 import sys
 import tempfile
 
 sys.path.insert(0, os.path.dirname(os.path.abspath(__file__)))
+import cell_model  # noqa: E402
 import model  # noqa: E402
 from library import DATA, ROOT, Count, build_archive, run  # noqa: E402
 from report import lines_of, sample, whole  # noqa: E402
 
 STRICT = ['-std=c11', '-Wall', '-Wextra', '-Wpedantic', '-Werror']
 YES, NO, COULD_NOT = 0, 1, 2
+BUILDS, SHOWS = ('build.c', 'build.rs'), ('viewer.c', 'lookup.c')  # those that take a block, and those that show something of their own
 
 
 def build_programs(folder):
     """The examples, compiled against the static library: name to program."""
     archive = build_archive()
-    programs = {name: os.path.join(folder, name.replace('.', '_')) for name in ('build.c', 'build.rs', 'viewer.c')}
-    for name in ('build.c', 'viewer.c'):
+    programs = {name: os.path.join(folder, name.replace('.', '_')) for name in BUILDS + SHOWS}
+    for name in ('build.c',) + SHOWS:
         subprocess.run(['cc', *STRICT, '-Iinclude', 'examples/' + name, archive, '-o', programs[name]], cwd=ROOT, check=True)
     subprocess.run(['rustc', '-O', '-D', 'warnings', 'examples/build.rs', '-L', os.path.dirname(archive), '-l', 'static=capi', '-o', programs['build.rs']],
                    cwd=ROOT, check=True)
@@ -42,7 +46,7 @@ def answer(command, **options):
 
 
 def contents(path):
-    with open(path) as file:
+    with open(path, encoding='utf-8') as file:
         return file.read()
 
 
@@ -74,7 +78,7 @@ def compare_all(programs, where):
     paths = sorted(glob.glob(os.path.join(where, '*.in')))
     taken = [path for path in paths if not left_out(path)]
     print('%s: %d inputs, %d left out' % (os.path.relpath(where, ROOT) if where == DATA else where, len(paths), len(paths) - len(taken)))
-    return sum(compare(name, program, taken, os.path.basename(where)) for name, program in programs.items() if name != 'viewer.c')
+    return sum(compare(name, program, taken, os.path.basename(where)) for name, program in programs.items() if name in BUILDS)
 
 
 def compare(name, program, paths, where):
@@ -143,11 +147,12 @@ def full_output(programs):
     count = Count('closed and full output, /dev/null')
     block = os.path.join(DATA, 'uart_tx_3x3.in')
     for name, program in programs.items():
+        given = block if name in BUILDS else ''
         for where in ('>/dev/full', '>&-', '>&- 2>&-', '<&- >&-'):
-            status, output, errors = answer('%s %s %s' % (program, block, where), shell=True)
+            status, output, errors = answer('%s %s %s' % (program, given, where), shell=True)
             count.same((status, output, errors.count('\n')), (COULD_NOT, '', int('2>' not in where)), (name, where, errors))
         for where in ('>/dev/null', '1<>/dev/null', '>/dev/null 2>&1'):
-            count.same(answer('%s %s %s' % (program, block, where), shell=True), (YES, '', ''), (name, where))
+            count.same(answer('%s %s %s' % (program, given, where), shell=True), (YES, '', ''), (name, where))
     return count.done()
 
 
@@ -156,6 +161,59 @@ def viewer(program):
     words = 'no, ground 20, a port, tile or lookup input is out of range: number'
     count.same(answer([program]), (0, 'wire of sp4_r_v_b_37, tile 2, 2 by 5: 639\nwire of port 506: %s 506\nlookup F0F0 at 4: 1\nlookup F0F0 at 16: %s 16\n'
                                    % (words, words), ''))
+    return count.done()
+
+
+def halving(table, inputs):
+    """What lookup.c prints, by the model: what is left after each choice, in the columns where it stands in the table."""
+    lines, from_left = ['%-22s%s  %04X' % ('sixteen bits', format(table, '016b'), table)], 0
+    for name, choice, picked, left in zip(('in_3', 'in_2', 'in_1', 'in_0'), inputs, ('eight', 'four', 'two', 'one'), cell_model.halves(table, inputs)):
+        from_left += 0 if choice == '1' else len(left)
+        columns = ' ' * from_left + left + ' ' * (16 - from_left - len(left))
+        lines.append('%-22s%s  %0*X' % ('%s = %s picks %s' % (name, choice, picked), columns, max(len(left) // 4, 1), int(left, 2)))
+    at = int(inputs, 2)
+    lines.append("the library's lookup of %04X at %d: %d" % (table, at, cell_model.table_bit(table, at)))
+    return '\n'.join(lines) + '\n'
+
+
+def lookup(program):
+    count = Count('lookup.c: what is left after each choice')
+    count.same(answer([program]), (0, halving(0xACFC, '1101'), ''))
+    every = [format(n, '04b') for n in range(16)]
+    pairs = [(0xACFC, inputs) for inputs in every] + [(1 << k, inputs) for k in range(16) for inputs in every]
+    for table, inputs in pairs + [(random.randrange(65536), random.choice(every)) for _ in range(200)]:
+        count.same(answer([program, '%04X' % table, inputs]), (0, halving(table, inputs), ''), (table, inputs))
+    for words in (['ACFC'], ['ACF', '1101'], ['ACFCC', '1101'], ['acfc', '1101'], ['ACFG', '1101'], ['ACFC', '110'], ['ACFC', '11011'], ['ACFC', '1102'], ['', ''],
+                  ['-ACF', '1101'], ['0xAC', '1101'], ['ACFC', '1101', '0']):
+        status, output, errors = answer([program, *words])
+        count.same((status, output, errors.count('\n')), (COULD_NOT, '', 1), words)
+    return count.done()
+
+
+def lookup_page():
+    """The numbers of docs/LOOKUP.md: the cell is the block's, and each row of the table of all inputs is the model's."""
+    count = Count('docs/LOOKUP.md: the cell, the halves, what they give')
+    page = contents(os.path.join(ROOT, 'docs', 'LOOKUP.md'))
+    cells = model.report(*model.parse(contents(os.path.join(DATA, 'uart_tx_3x3.in'))))[2]
+    count.same((6, 3, 0xACFC, 6) in cells, True, 'tile 6 is (5,12): corner (5,10), 3 wide; cell 3; flip-flop, set')
+    count.same('(5,12)' in page and 'lutff_3' in page, True)
+    rows = re.findall(r'(?m)^\| ([01]) ([01]) ([01]) ([01]) \| ([0-9A-F]{2}) \| ([0-9A-F]) \| ([0-3]) \| ([01]) \|$', page)
+    count.same([''.join(row[:4]) for row in rows], [format(n, '04b') for n in range(16)])
+    for row in rows:
+        numbers = [int(left, 2) for left in cell_model.halves(0xACFC, ''.join(row[:4]))]
+        count.same([int(number, 16) for number in row[4:]], numbers, row)
+        in3, in2, in1, in0 = (digit == '1' for digit in row[:4])
+        count.same(bool(numbers[-1]), (in0 if in2 else in1) if in3 else in2 or in1, 'what the page says that the table does')
+    for words, shown in re.findall(r'(?m)^    \$ target/lookup(.*)\n((?:    (?!\$).*\n)+)', page):
+        table, inputs = words.split() or ('ACFC', '1101')
+        count.same([line[4:] for line in shown.splitlines()], halving(int(table, 16), inputs).splitlines(), words)
+    code, said = contents(os.path.join(ROOT, 'crates', 'cell', 'src', 'logic.rt')), contents(os.path.join(ROOT, 'crates', 'cell', 'specs', 'Halves.antt'))
+    lines = re.findall(r'(?m)^\| in_\d picks .* \| `(let .*)` \| `(.*)` \| `(.*)` \|$', page)
+    for line, bit, field in lines:
+        count.same(('    %s\n' % line in code, 'pub %s : %s ≡ lookupBit ' % (field, bit) in said), (True, True), line)
+    count.same(len(lines), 4)
+    swapped = [list(cell_model.halves(0xACFC, in2 + in3 + rest))[-1] for in3, in2, rest in (('1', '1', '01'), ('0', '1', '00'))]
+    count.same(swapped, ['1', '0'], 'in_2 picks the eight: nothing changes at 1101, and 0 in place of 1 at 0100')
     return count.done()
 
 
@@ -182,10 +240,10 @@ def benchmark(folder):
 def main():
     with tempfile.TemporaryDirectory() as folder:
         programs = build_programs(folder)
-        builds = [(name, program) for name, program in programs.items() if name != 'viewer.c']
+        builds = [(name, programs[name]) for name in BUILDS]
         tests = [(compare_all, programs, where) for where in [DATA] + sys.argv[1:]] + [(explained, *build) for build in builds]
         return run(tests + [(bad_input, *build, folder) for build in builds] + [(full_output, programs), (viewer, programs['viewer.c']),
-                                                                                (benchmark, folder)], 1)
+                                                                                (lookup, programs['lookup.c']), (lookup_page,), (benchmark, folder)], 1)
 
 
 if __name__ == '__main__':

@@ -1,5 +1,6 @@
 #!/usr/bin/env python3
-"""Compares the library with the model of tests/model.py: real tables and blocks, damaged ones, and bad input of every kind.
+"""Compares the library with the model of tests/model.py: real tables and blocks, damaged ones, and bad input of every kind. Lookups are
+compared with tests/cell_model.py.
 
     python3 tests/library.py            needs the Rattle kit (rt), a C compiler and Python 3
     python3 tests/library.py 20000      the same with so many random cases (2,000 unless said)
@@ -15,6 +16,7 @@ import sys
 import tempfile
 
 sys.path.insert(0, os.path.dirname(os.path.abspath(__file__)))
+import cell_model  # noqa: E402
 import model  # noqa: E402
 
 ROOT = os.path.dirname(os.path.dirname(os.path.abspath(__file__)))
@@ -198,9 +200,21 @@ def bad_input(lib):
     return count.done()
 
 
+def lookups(lib):
+    count = Count('lookups: every table at every input, inputs above 15')
+    look = lib.lib.ice40_lookup
+    look.argtypes, look.restype = [U16, ctypes.c_uint32], ctypes.c_uint64
+    for table in range(65536):
+        expected = [cell_model.table_bit(table, inputs) for inputs in range(16)]
+        count.same([look(table, inputs) for inputs in range(16)], expected, table)
+    for inputs in (16, 17, 31, 32, 65536, 4294967295):
+        count.same(look(0xACFC, inputs), 20 << 32 | inputs, inputs)
+    return count.done()
+
+
 def main():
     lib = Library()
-    return run([(real, lib), (damaged, lib, rounds_asked(2000)), (bad_input, lib)], 1)
+    return run([(real, lib), (damaged, lib, rounds_asked(2000)), (bad_input, lib), (lookups, lib)], 1)
 
 
 if __name__ == '__main__':

@@ -1,6 +1,6 @@
 #!/usr/bin/env python3
-"""Runs the commands that README.md shows and compares what they print with what it shows; looks at its shape, its links and the lists of
-docs/ARCHITECTURE.md.
+"""Runs the commands that README.md and docs/LOOKUP.md show and compares what they print with what is shown; looks at the shape, the links and
+the lists of docs/ARCHITECTURE.md.
 
     python3 tests/readme.py             needs a build (make), a C compiler, pkg-config and Python 3; fpga-icestorm-chipdb for one command
 
@@ -70,13 +70,13 @@ def is_left_out(command):
     return any(command == words or words.endswith(' ') and command.startswith(words) for words in LEFT_OUT)
 
 
-def check_commands():
-    count = Count('commands of README.md, and what they print')
+def check_commands(page):
+    count = Count('commands of %s, and what they print' % page)
     if not os.path.exists(os.path.join(ROOT, 'target', 'bin', 'report')):
         sys.exit('target/bin/report is not there: make')
     with tempfile.TemporaryDirectory() as folder:
         environment = workshop(folder)
-        for command, shown in commands(contents('README.md')):
+        for command, shown in commands(contents(page)):
             if is_left_out(command):
                 continue
             if DEBIAN in command and not os.path.isdir(DEBIAN):
@@ -150,7 +150,7 @@ def check_architecture():
 
 
 def main():
-    return run([(check_commands,), (check_status,), (check_shape,), (check_yes_words,), (check_architecture,)], 1)
+    return run([(check_commands, 'README.md'), (check_commands, 'docs/LOOKUP.md'), (check_status,), (check_shape,), (check_yes_words,), (check_architecture,)], 1)
 
 
 if __name__ == '__main__':

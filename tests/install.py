@@ -101,9 +101,9 @@ def check_programs(prefix, folder):
         path = os.path.join(DATA, block + '.in')
         got, text, errors = answer('ice40-report <%s | ice40-explain --input %s' % (path, path), shell=True, cwd=folder, env=environment)
         count.same((got, text.endswith(words), errors), (status, True, ''), block)
-    cut = 'ice40-asc-to-frames %s/counter8.asc 5 7 1 1 --table %s/1k.tab' % (DATA, DATA)
+    cut = 'ice40-asc-to-frames %s/counter8.asc 5 7 1 1 --east 0 --table %s/1k.tab' % (DATA, DATA)
     with open(os.path.join(DATA, 'counter8_1x1.in')) as file:
-        note = 'note: %s/counter8.asc was read by the proved library\n' % DATA
+        note = 'note: %s/counter8.asc was read by the proved library\nnote: the column to the east, x = 6, is logic; --east 0 was given\n' % DATA
         count.same(answer(cut, shell=True, cwd=folder, env=environment), (0, file.read(), note))
     count.same(answer('ice40-names 1 1 wire 354', shell=True, cwd=folder, env=environment), (0, '(0,0) local_g2_2\n', ''))
     count.same(answer('ice40-chipdb-to-frames --help', shell=True, cwd=folder, env=environment)[0], 0)

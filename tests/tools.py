@@ -10,6 +10,7 @@ says of reports is in tests/words.py.
 It prints a line for each group of cases and ends with the number of differences.
 """
 import argparse
+import itertools
 import os
 import subprocess
 import sys
@@ -23,8 +24,10 @@ from library import DATA, ROOT, Count  # noqa: E402
 
 TOOLS = os.path.join(ROOT, 'tools')
 sys.path.insert(0, TOOLS)
+import asc_to_frames  # noqa: E402
 import frames  # noqa: E402
 import ice40  # noqa: E402
+import icestorm  # noqa: E402
 import names  # noqa: E402
 import proved  # noqa: E402
 
@@ -91,15 +94,59 @@ def check_tables(folder):
 
 
 def check_blocks(folders, reader):
+    """The bundled blocks have no byte for the column to the east; it is logic or RAM for each of them."""
     count = Count('.asc files to blocks, byte for byte, by ' + ('the library' if reader else 'Python'))
     for name, (design, x, y, w, h) in CUTS.items():
         found = [path for path in (os.path.join(folder, design + '.asc') for folder in folders) if os.path.exists(path)]
         for path in found[:1]:
-            status, whole, notes = run('asc_to_frames', path, x, y, w, h, '--table', data('1k.tab'), reader=reader)
-            who, *size = notes.splitlines()
-            count.same((status, whole, who, len(size)), (0, contents(data(name + '.in')), 'note: %s was read by %s' % (path, read_by(reader)), int(max(w, h) > 3)), name)
-            frames = run('asc_to_frames', path, x, y, w, h, reader=reader)[1]
-            count.same(contents(data('1k.tab')) + frames, whole, name)
+            expected, size = contents(data(name + '.in')), '04%02X%02X' % (w, h)
+            kind = 'RAM' if x + w in (3, 10) else 'logic'
+            for options, words, text in (([], ', so --east 1 is taken', expected.replace(size + '\n', size + '01\n')), (['--east', 0], '; --east 0 was given', expected),
+                                         (['--east', 1], '; --east 1 was given', expected.replace(size + '\n', size + '01\n'))):
+                status, whole, notes = run('asc_to_frames', path, x, y, w, h, '--table', data('1k.tab'), *options, reader=reader)
+                who, column, *large = notes.splitlines()
+                count.same((status, whole, who), (0, text, 'note: %s was read by %s' % (path, read_by(reader))), (name, options))
+                count.same((column, len(large)), ('note: the column to the east, x = %d, is %s%s' % (x + w, kind, words), int(max(w, h) > 3)), (name, options))
+                frames = run('asc_to_frames', path, x, y, w, h, *options, reader=reader)[1]
+                count.same(contents(data('1k.tab')) + frames, whole, (name, options))
+    return count.done()
+
+
+def columns_of(path):
+    """The columns of a chip database, west to east: the kinds of tile that each has besides its first and last row."""
+    kinds = {}
+    with open(path) as file:
+        for line in file:
+            words = line.split()
+            if words[:1] == ['.device']:
+                height = int(words[3])
+            if words[:1] == ['.net']:
+                break  # the tiles stand before
+            if line.startswith('.') and words[0].endswith('_tile') and 0 < int(words[2]) < height - 1:
+                kinds.setdefault(int(words[1]), set()).add(words[0][1:-len('_tile')])
+    return kinds
+
+
+def check_columns(folder):
+    """What the tools know of a device's columns, against its chip database; what asc_to_frames takes and says of each."""
+    count, missing = Count("columns of all devices: the chip databases' own, and the byte for each"), []
+    made_of = {'logic': {'logic'}, 'RAM': {'ramb', 'ramt'}, 'IO': {'io'}, 'DSP': {'dsp0', 'dsp1', 'dsp2', 'dsp3', 'ipcon'}}
+    for device in icestorm.LAST_COLUMN:
+        path = os.path.join(folder, 'chipdb-%s.txt' % device)
+        if not os.path.exists(path):
+            missing.append(device)
+            continue
+        columns = columns_of(path)
+        for x in range(-1, max(columns) + 3):
+            kind = icestorm.column_kind(device, x)
+            count.same(columns.get(x), made_of.get(kind), (device, x))
+            east = int(kind in ('logic', 'RAM'))
+            words = 'the column to the east, x = %d, is %s, so --east %d is taken' % (x, kind or 'not known of a ' + device, east)
+            count.same(asc_to_frames.east_of(device, x, None), (east, words), (device, x))
+    if missing:
+        print('left out, no chip database: %s' % ', '.join(missing))
+    count.same(asc_to_frames.east_of('9k', 4, None), (0, 'the column to the east, x = 4, is not known of a 9k, so --east 0 is taken'))
+    count.same(asc_to_frames.east_of('9k', 4, 1), (1, 'the column to the east, x = 4, is not known of a 9k; --east 1 was given'))
     return count.done()
 
 
@@ -148,12 +195,11 @@ WIRES = [(5, 1, '0,0', 'sp4_h_r_0', 48), (5, 1, '4,0', 'sp4_h_l_37', 48), (2, 5,
 
 
 def check_wires():
-    count = Count('wires of every port, all 64 sizes')
-    for w in range(1, 9):
-        for h in range(1, 9):
-            block, expected = ice40.Block(w, h), wire_numbers.wires(w, h)
-            for port, wire in enumerate(expected):
-                count.same(block.wire[port], wire, (w, h, port))
+    count = Count('wires of every port, all 64 sizes, without and with a column to the east')
+    for w, h, east in itertools.product(range(1, 9), range(1, 9), (0, 1)):
+        block = ice40.Block(w, h, east=east)
+        for port, wire in enumerate(wire_numbers.wires(w, h, east)):
+            count.same(block.wire[port], wire, (w, h, east, port))
     return count.done()
 
 
@@ -171,6 +217,12 @@ def check_names():
     count.same(run('names', 2, 2, 'wire', '0x1BC')[1], seen % (0, 0, 1, 0, 0, 1, 1, 1))
     count.same(run('names', '--corner', 5, 6, 2, 2, 'wire', 444)[1], seen % (5, 6, 6, 6, 5, 7, 6, 7))
     count.same(run('names', '--corner', 5, 6, 2, 2, 'port', '5,7', 'neigh_op_bnr_0')[1], '444 (0x01BC)\n')
+    # names outside: of one output of a tile, and of the column to the east
+    count.same(run('names', 2, 2, 'wire', 974), (0, '(1,0) neigh_op_tnr_0\n(1,1) neigh_op_rgt_0\n', ''))
+    count.same(run('names', 2, 2, 'port', '1,1', 'neigh_op_rgt_0'), (0, '974 (0x03CE)\n', ''))
+    for options, wire, names in (([], 1710, '(1,1) sp4_r_v_b_0\n'), (['--east', 0], 1710, '(1,1) sp4_r_v_b_0\n'), (['--east', 1], 711, '(1,0) sp4_r_v_b_13\n(1,1) sp4_r_v_b_0\n')):
+        count.same(run('names', 2, 2, 'port', 3, 'sp4_r_v_b_0', *options), (0, '%d (0x%04X)\n' % (wire, wire), ''), options)
+        count.same(run('names', 2, 2, 'wire', wire, *options), (0, names, ''), options)
     return count.done()
 
 
@@ -193,7 +245,7 @@ def claims(table):
 
 def check_positions():
     count = Count('positions and what claims them')
-    expected = claims(model.parse(contents(data('1k.tab')))[2])
+    expected = claims(model.parse(contents(data('1k.tab')))[3])
     count.same(864 - len(expected), 57, 'positions that nothing claims')
     table = frames.read_table(data('1k.tab'))
     for p in range(864):
@@ -296,7 +348,8 @@ def mistakes():
 
 
 USAGES = [('asc_to_frames', ['design.asc', 5, 6, 1]), ('chipdb_to_frames', []), ('names', ['2', '2']), ('explain', []),
-          ('explain', ['--input', os.devnull, os.devnull, os.devnull]), ('names', ['--nothing'])]
+          ('explain', ['--input', os.devnull, os.devnull, os.devnull]), ('names', ['--nothing']), ('names', ['2', '2', 'wire', '0', '--east', '2']),
+          ('explain', ['--input', os.devnull, '--east', '1']), ('explain', ['2', '2', '--east', '-1']), ('asc_to_frames', ['design.asc', 5, 6, 1, 1, '--east', 'yes'])]
 
 
 def check_mistakes(reader):
@@ -326,10 +379,10 @@ def check_channels(folder):
             count.same((status, output, errors), (2, '', '%s: %s\n' % (command.split()[0], words)), (command, where))
         count.same(shell('echo 08070162 | %s %s/%s >/dev/full 2>&-' % (sys.executable, TOOLS, command)), (2, '', ''), command)
     count.same(shell('%s %s/explain.py 1 1 <&-' % (sys.executable, TOOLS)), (2, '', 'explain.py: standard input: it is closed\n'))
-    count.same(shell('cat %s | %s %s/asc_to_frames.py - 5 7 1 1 --table <(cat %s)' % (design, sys.executable, TOOLS, table)),
+    count.same(shell('cat %s | %s %s/asc_to_frames.py - 5 7 1 1 --east 0 --table <(cat %s)' % (design, sys.executable, TOOLS, table)),
                (0, contents(data('counter8_1x1.in')), ''))
     for closed in ('2>&-', '2>/dev/full'):
-        count.same(shell('%s %s/asc_to_frames.py %s 5 7 1 1 --table %s %s' % (sys.executable, TOOLS, design, table, closed)), (0, contents(data('counter8_1x1.in')), ''), closed)
+        count.same(shell('%s %s/asc_to_frames.py %s 5 7 1 1 --east 0 --table %s %s' % (sys.executable, TOOLS, design, table, closed)), (0, contents(data('counter8_1x1.in')), ''), closed)
     count.same(shell('echo 08070162 | %s %s/explain.py --input <(cat %s)' % (sys.executable, TOOLS, block))[0], 1)
     if os.path.exists(database):
         count.same(shell('cat %s | %s %s/chipdb_to_frames.py -' % (database, sys.executable, TOOLS)), (0, contents(table), ''))
@@ -354,7 +407,7 @@ def main():
     parser.add_argument('--designs', metavar='FOLDER', action='append', default=[])
     arguments = parser.parse_args()
     with tempfile.TemporaryDirectory() as folder:
-        tests = [(check_tables, arguments.chipdb), (check_wires,), (check_names,), (check_positions,), (check_no_library,), (check_channels, arguments.chipdb)]
+        tests = [(check_tables, arguments.chipdb), (check_columns, arguments.chipdb), (check_wires,), (check_names,), (check_positions,), (check_no_library,), (check_channels, arguments.chipdb)]
         for reader in readers(arguments.library):
             tests += [(check_blocks, [DATA] + arguments.designs, reader), (check_devices, Folder(folder), reader), (check_mistakes, reader)]
             tests += [(check_strict, Folder(folder), reader)] if reader else []

@@ -32,19 +32,19 @@ YES, NO, COULD_NOT = 0, 1, 2
 
 # ---- the lines of a yes
 
-def names_of(w, h, corner):
+def names_of(w, h, east, corner):
     """Every wire's names as explain prints them, from the wires of tests/wire_numbers.py."""
     all_names = {}
-    for port, wire in enumerate(wire_numbers.wires(w, h)):
+    for port, wire in enumerate(wire_numbers.wires(w, h, east)):
         t, q = divmod(port, wire_numbers.PORTS)
         all_names.setdefault(wire, []).append('(%d,%d) %s' % (corner[0] + t % w, corner[1] + t // w, ice40.NAMES[q]))
     return {wire: ports[0].split()[1] + ' of every tile' if 'glb_netwk' in ports[0] else ', '.join(ports)
             for wire, ports in all_names.items()}
 
 
-def leaving(w, h):
+def leaving(w, h, east):
     """The wires of a block that go on in the tiles around it: seen in a block that is larger by one tile on each side."""
-    own, wide, ports = wire_numbers.wires(w, h), wire_numbers.wires(w + 2, h + 2), wire_numbers.PORTS
+    own, wide, ports = wire_numbers.wires(w, h, east), wire_numbers.wires(w + 2, h + 2, 0), wire_numbers.PORTS
     around = {wide[ports * (y * (w + 2) + x) + q] for y in range(h + 2) for x in range(w + 2) for q in range(ports)
               if x in (0, w + 1) or y in (0, h + 1)}
     return {own[ports * t + q] for t in range(w * h) for q in range(ports) if wide[ports * ((t // w + 1) * (w + 2) + t % w + 1) + q] in around}
@@ -57,9 +57,9 @@ def field_lines(w, corner, settings):
                 yield '(%d,%d) %s' % (corner[0] + t % w, corner[1] + t // w, words)
 
 
-def explained(w, h, corner, switches, cells, fields=()):
+def explained(w, h, east, corner, switches, cells, fields=()):
     """The lines that explain prints for a yes."""
-    named, out = names_of(w, h, corner), leaving(w, h)
+    named, out = names_of(w, h, east, corner), leaving(w, h, east)
     for driven, source in switches:
         yield 'wire %d [%s] <- wire %d [%s]' % (driven, named[driven], source, named[source])
     yield from fields
@@ -100,17 +100,41 @@ wire 446 [(5,6) neigh_op_rgt_2, (6,6) lutff_2/out, (5,7) neigh_op_bnr_2, (6,7) n
 
 def check_bundled():
     count = Count('reports of the bundled blocks: every line, exit status')
-    for name, (w, h, table, bits) in blocks().items():
-        text, switches, cells = model.report(w, h, table, bits)
+    for name, (w, h, east, table, bits) in blocks().items():
+        text, switches, cells = model.report(w, h, east, table, bits)
         by_size = run('explain', w, h, '--corner', 5, 6, stdin=text)
         by_input = run('explain', '--input', data(name + '.in'), '--corner', 5, 6, stdin=text)
         if text.endswith('08000000\n'):
             fields = list(field_lines(w, (5, 6), model.read(w, h, table, bits)))
-            count.same(by_size, (YES, '\n'.join(explained(w, h, (5, 6), switches, cells)) + '\n', ''), name)
-            count.same(by_input, (YES, '\n'.join(explained(w, h, (5, 6), switches, cells, fields)) + '\n', ''), name)
+            count.same(by_size, (YES, '\n'.join(explained(w, h, east, (5, 6), switches, cells)) + '\n', ''), name)
+            count.same(by_input, (YES, '\n'.join(explained(w, h, east, (5, 6), switches, cells, fields)) + '\n', ''), name)
         else:
             count.same((by_size[0], by_size[2]), (NO, ''), name)
             count.same(by_input, (NO, by_size[1] + TRAILS[name], ''), name)
+    return count.done()
+
+
+def check_east():
+    """The bundled blocks once more, with a column to the east: wires of that column, some of which are driven, have one name a row."""
+    count = Count('the same with a column to the east; the byte left out or 00')
+    more = 0
+    for name, (w, h, _, table, bits) in blocks().items():
+        text, switches, cells = model.report(w, h, 1, table, bits)
+        digits = '04%02X%02X' % (w, h)
+        with_byte = contents(data(name + '.in')).replace(digits + '\n', digits + '01\n')
+        status, words = told(text, with_byte)
+        if text.endswith('08000000\n'):
+            fields, size = list(field_lines(w, (0, 0), model.read(w, h, table, bits))), (w, h, 1, (0, 0))
+            count.same((status, words), (YES, list(explained(*size, switches, cells, fields))), name)
+            count.same(run('explain', w, h, '--east', 1, stdin=text), (YES, ''.join(line + '\n' for line in explained(*size, switches, cells)), ''), name)
+            more += text != model.report(w, h, 0, table, bits)[0]
+        else:
+            count.same(status, NO, (name, words))
+        for given in (contents(data(name + '.in')), with_byte.replace(digits + '01\n', digits + '00\n')):
+            apart = model.report(w, h, 0, table, bits)[0]
+            count.same(told(apart, given), told(apart, contents(data(name + '.in'))), (name, 'the byte 00 is one that is left out'))
+            count.same(told(text, given)[0] == COULD_NOT, text != apart, (name, 'the report of the other byte'))
+    count.same(more > 0, True, 'a report that the byte changes')
     return count.done()
 
 
@@ -157,8 +181,9 @@ def check_yes():
         lines = report.whole(lines)
         count.same(told(model.report_of(lines), lines.decode())[1][-1], words)
     for w, h in ((1, 1), (1, 3), (2, 2), (3, 1), (3, 3), (8, 8)):
-        spans = {wire for wire in leaving(w, h) if wire % 506 < 336}
-        count.same(ice40.Block(w, h).leaving, spans, (w, h))
+        for east in (0, 1):
+            spans = {wire for wire in leaving(w, h, east) if wire % 506 < 336}
+            count.same(ice40.Block(w, h, east=east).leaving, spans, (w, h, east))
     return count.done()
 
 
@@ -166,8 +191,8 @@ def check_two_blocks():
     """Two switches that end on one span-12 wire, nine tiles apart: a fight on the chip, a yes for every block that has one of them. What
     explain says of each is that a driven wire leaves."""
     count = Count('a fight across blocks: each yes says that a driven wire leaves')
-    table = model.parse(contents(data('1k.tab')))[2]
-    wires = wire_numbers.wires(10, 1)
+    table = model.parse(contents(data('1k.tab')))[3]
+    wires = wire_numbers.wires(10, 1, 0)
 
     def switch_to(t):
         """The first group and entry of tile t that drive a name of the wire that sp12_h_r_2 of tile 0 is on, from a cell's output."""
@@ -191,14 +216,14 @@ def check_two_blocks():
         status, words = told(model.report_of(block.encode()), block)
         count.same((status, words[-2]), (YES, '1 driven wire leaves the block: switches outside that end on it are not looked at'), t)
     row = tiles[0] + bytes(108) * (far[0] - 1) + tiles[1]
-    whole = model.Block(far[0] + 1, 1, table, [n for t in range(far[0] + 1) for n in model.decode(table, row[108 * t:108 * t + 108])])
+    whole = model.Block(far[0] + 1, 1, 0, table, [n for t in range(far[0] + 1) for n in model.decode(table, row[108 * t:108 * t + 108])])
     count.same(whole.contended, {wires[wire_numbers.BASE['sp12_h_r'] + 2]}, 'one wire, two switches, in a row that no block can have')
     return count.done()
 
 
 def extents(w, h, spans):
     """How many columns and rows the wires of some spans lie in, of those that stay off the rim of a block."""
-    tiles, wires = {}, wire_numbers.wires(w, h)
+    tiles, wires = {}, wire_numbers.wires(w, h, 0)
     for t in range(w * h):
         for name, count in wire_numbers.RANGES:
             if name in spans:
@@ -241,6 +266,7 @@ def check_noes():
 FIRST = '01000000680067\n'
 # an input that is refused by a line, that line, and what explain shows of it
 LINES = [('', 1, 'missing'), (FIRST, 2, 'missing'), (FIRST + '0200', 2, "'0200', without a line end"), ('01\r\n02\n', 1, "'01\\r'\n"), (FIRST + '\n', 2, "''\n"),
+         (FIRST + '0200\n04010102\n', 3, "'04010102'\n"), (FIRST + '0200\n04FFFF02\n', 3, "'04FFFF02'\n"), (FIRST + '0200\n04FFFF', 3, "'04FFFF', without"),
          ('\xff\n', 1, 'xff'), ('0' * 3000000, 1, "'000"), (FIRST + '0200\n040101\n' + '05' + '0' * 216 + '\n' + 'x' * 2000000, 5, "'xxx")]
 
 
@@ -349,21 +375,21 @@ def check_reads(rounds):
     count = Count("what each wire's equation reads, with and without ignored inputs")
     table, sound = frames.read_table(data('1k.tab')), [blocks()[name] for name in CUTS]
     for _ in range(rounds):
-        w, h, lent, bits = random.choice(sound)
-        bits = faulty(w, h, lent, bits)
+        w, h, _, lent, bits = random.choice(sound)
+        bits, east = faulty(w, h, lent, bits), random.randrange(2)
         settings = model.read(w, h, lent, bits)
-        if isinstance(settings, tuple) or model.Block(w, h, lent, settings).contended:
+        if isinstance(settings, tuple) or model.Block(w, h, east, lent, settings).contended:
             continue
-        block, found = model.Block(w, h, lent, settings), trail.Trail(ice40.Block(w, h), table, tile_numbers(bits))
+        block, found = model.Block(w, h, east, lent, settings), trail.Trail(ice40.Block(w, h, east=east), table, tile_numbers(bits))
         for wire in block.wires:
             count.same(found.reads(wire), block.reads(block.row(wire)), (wire, block.row(wire)))
             count.same(found.reads(wire, live=True), live_reads(block, wire), (wire, block.row(wire)))
     return count.done()
 
 
-def frames_of(w, h, table, bits):
+def frames_of(w, h, east, table, bits):
     """A block as an input, with a table's text."""
-    return table + '04%02X%02X\n' % (w, h) + ''.join('05%s\n' % bits[at:at + 108].hex().upper() for at in range(0, len(bits), 108))
+    return table + '04%02X%02X%s\n' % (w, h, '01' * east) + ''.join('05%s\n' % bits[at:at + 108].hex().upper() for at in range(0, len(bits), 108))
 
 
 def check_trails(rounds):
@@ -371,19 +397,19 @@ def check_trails(rounds):
     table = contents(data('1k.tab'))
     sound = [block for block in (blocks()[name] for name in list(CUTS) + ['pwm_1x1']) if block[1] <= 3]
     for _ in range(rounds):
-        w, h, lent, bits = random.choice(sound)
-        bits = faulty(w, h, lent, bits)
-        answer = model.build(w, h, lent, bits)
+        w, h, _, lent, bits = random.choice(sound)
+        bits, east = faulty(w, h, lent, bits), random.randrange(2)
+        answer = model.build(w, h, east, lent, bits)
         if not isinstance(answer, tuple):
             continue
         ground, place = answer
-        given = frames_of(w, h, table, bits)
+        given = frames_of(w, h, east, table, bits)
         status, lines = in_words(model.report_of(given.encode()), given)
         counts[ground].same(status, NO, lines)
         if ground == 4:
             counts[ground].same(len(lines) - 3, fault_count(lent, bits[108 * place:108 * place + 108]))
             continue
-        block = model.Block(w, h, lent, model.read(w, h, lent, bits))
+        block = model.Block(w, h, east, lent, model.read(w, h, lent, bits))
         right = is_loop(block, w, place, lines[2:]) if ground == 7 else is_trail(block, place, ground, lines[2:])
         counts[ground].same(right, True, (answer, lines))
     return sum(count.done() for count in counts.values())
@@ -410,8 +436,8 @@ def check_structure():
         for i, lut in enumerate(luts):
             ignored = ', '.join('in_%d' % j for j in range(4) if not used(lut, j)) or 'no input'
             count.same('  (0,0) lutff_%d: table %04X, which ignores %s' % (i, lut, ignored) in lines, True, (luts, i))
-        w, h, table, bits = model.parse(given)
-        count.same(is_loop(model.Block(w, h, table, model.read(w, h, table, bits)), w, int(text[4:8], 16), lines[2:]), True, luts)
+        w, h, east, table, bits = model.parse(given)
+        count.same(is_loop(model.Block(w, h, east, table, model.read(w, h, table, bits)), w, int(text[4:8], 16), lines[2:]), True, luts)
     return count.done()
 
 
@@ -474,7 +500,7 @@ def check_verdicts(rounds):
 
 
 def main():
-    return run_all([(check_bundled,), (check_yes,), (check_two_blocks,), (check_lengths,), (check_noes,), (check_lines,), (check_reads, 20), (check_trails, 400),
+    return run_all([(check_bundled,), (check_east,), (check_yes,), (check_two_blocks,), (check_lengths,), (check_noes,), (check_lines,), (check_reads, 20), (check_trails, 400),
                     (check_structure,), (check_refused,), (check_strangers,), (check_verdicts, rounds_asked(1000))], 1)
 
 

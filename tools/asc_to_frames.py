@@ -7,6 +7,9 @@ X and Y are the chip's coordinates of the block's south-west tile; W and H, its 
 frames come first, so that the output is a whole input of the report program. The table must be for the design's device: a table says
 by its passive list, the bits of the column buffers, which devices it is for, or --device says it. A file may be - for standard input.
 
+The column to the east of the block is known from the device. Where it is logic or RAM, frame 04 has the byte 01 behind W and H, so that the
+vertical wires of that column are followed from row to row; else it has none. A note says which, and --east says it in the device's place.
+
 The design of a 1k is read by the proved library where that is built (`make lib`); a design of another device, and any where there is no
 library, by Python. A note says which of the two it was. The library takes what document 02, W1, says and refuses the rest.
 """
@@ -18,8 +21,8 @@ import re
 import proved
 from frames import read_table, table_frames
 from ice40 import COLUMNS, PROGRAM_LIMIT, ROWS, check_size
-from icestorm import LINE, coordinates, sections, table_devices
-from tool import Mistake, about, bytes_of, counted, file_name, lines_in, note, number, run
+from icestorm import LINE, column_kind, coordinates, sections, table_devices
+from tool import Mistake, about, add_east, bytes_of, counted, file_name, lines_in, note, number, run
 
 LIBRARY_DEVICE = '1k'  # the one whose files the library reads
 LONGEST = 1 << 28  # bytes of a file; a real one has some millions at most
@@ -71,9 +74,9 @@ def python_block(tiles, corner, w, h):
     return [tile_bytes(each) for each in rows]
 
 
-def block_frames(block, w, h):
-    """Frame 04 and the frames 05 of a block."""
-    return ['04%02X%02X' % (w, h)] + ['05' + tile.hex().upper() for tile in block]
+def block_frames(block, w, h, east=0):
+    """Frame 04 and the frames 05 of a block. A byte of 00 for the column to the east is left out."""
+    return ['04%02X%02X' % (w, h) + '01' * east] + ['05' + tile.hex().upper() for tile in block]
 
 
 # ---- which of the two reads a file
@@ -132,6 +135,14 @@ def read_block(text, corner, w, h):
 
 # ---- the tool
 
+def east_of(device, x, told):
+    """The byte for the column to the east of a block, which has the coordinate x, and what is known of it in words. `told` is what the user
+    says of it, if anything."""
+    kind = column_kind(device, x)
+    known = 'the column to the east, x = %d, is %s' % (x, kind or 'not known of a ' + device)
+    east = int(kind in ('logic', 'RAM')) if told is None else told
+    return east, '%s%s' % (known, ', so --east %d is taken' % east if told is None else '; --east %d was given' % east)
+
 
 def check_device(device, table, told):
     """Refuses a table of another device. `told` is the device that the user says the table is for, if any."""
@@ -154,6 +165,7 @@ def main():
     for name in 'XYWH':
         parser.add_argument(name, type=number)
     parser.add_argument('--table', metavar='FILE', help='a routing table from chipdb_to_frames.py')
+    add_east(parser, '1 where the column to the east of the block is logic or RAM, else 0; unless said, it is known from the device')
     parser.add_argument('--device', metavar='NAME', help='the device that the table is for, as .device has it, whatever its passive list is')
     arguments = parser.parse_args()
     check_size(arguments.W, arguments.H)
@@ -164,8 +176,10 @@ def main():
         if table:
             check_device(device, table, arguments.device)
     note('%s was read by %s' % (file_name(arguments.design), reader))
+    east, words = east_of(device, arguments.X + arguments.W, arguments.east)
+    note(words)
     note_size(arguments.W, arguments.H)
-    return (list(table_frames(table)) if table else []) + block_frames(block, arguments.W, arguments.H), 0
+    return (list(table_frames(table)) if table else []) + block_frames(block, arguments.W, arguments.H, east), 0
 
 
 if __name__ == '__main__':

@@ -1,7 +1,7 @@
 #!/usr/bin/env python3
 """Turns a report (frames 06, 07 and 08) into words, with IceStorm's names for its wires.
 
-    explain.py W H [REPORT]                     from the block's size
+    explain.py W H [--east 1] [REPORT]          from the block's size, and whether the column to the east is logic or RAM
     explain.py --input block.frames [REPORT]    from the report's own input: also shows what leads to a no and which fields a yes
                                                 has set (NegClk, CarryInSet), and refuses the report of another input
 
@@ -14,13 +14,13 @@ import functools
 from frames import Cursor, Input, lines_of
 from ice40 import CELLS, FLAGS, PROGRAM_LIMIT, Block
 from rules import broken_rules, undecodable
-from tool import Mistake, counted, file_name, number, run, start_of, text_of
+from tool import Mistake, add_east, counted, file_name, number, run, start_of, text_of
 from trail import Trail, verdict
 
 YES, NO = 0, 1  # exit status
 # each ground for a no in words, and what its place is (document 01, 'Grounds for a no', and 02); include/ice40.h has the same words
 GROUNDS = {
-    1: ('W or H is not 1 to 8, or not 1 to 3 for the programs', None),
+    1: ('W or H is not 1 to 8, or not 1 to 3 for the programs, or the byte for the column to the east is not 0 or 1', None),
     2: ('a lent length differs from the exact one', None),
     3: ('the routing table breaks a rule', 'part'),
     4: ("a tile cannot be decoded: a group's bits are a pattern that the table does not list, a bit is set that nothing claims, "
@@ -89,11 +89,11 @@ class Report:
 
 
 class Scene:
-    """What is known beside a report: the size, or the report's input. Both are looked at only where the report needs them, as an input
-    that was refused may have no size, or none that there are blocks of."""
+    """What is known beside a report: the size with the byte for the column to the east, or the report's input. Both are looked at only
+    where the report needs them, as an input that was refused may have no size, or none that there are blocks of."""
 
-    def __init__(self, size, path, corner):
-        self.size, self.path, self.corner = size, path, corner
+    def __init__(self, size, path, corner, east=0):
+        self.size, self.path, self.corner, self.east = size, path, corner, east
 
     @functools.cached_property
     def text(self):
@@ -105,7 +105,9 @@ class Scene:
 
     @functools.cached_property
     def block(self):
-        return Block(*(self.input.size if self.path else self.size), self.corner)
+        if self.path:
+            return Block(*self.input.size, self.corner, self.input.east)
+        return Block(*self.size, self.corner, self.east)
 
     @functools.cached_property
     def trail(self):
@@ -221,8 +223,11 @@ def main():
     parser.add_argument('words', nargs='*', metavar='W H REPORT')
     parser.add_argument('--input', metavar='FILE', help="the report's input; W and H are left out then")
     parser.add_argument('--corner', nargs=2, type=number, default=(0, 0), metavar=('X', 'Y'), help="the chip's coordinates of tile 0")
+    add_east(parser, '1 where the column to the east of the block is logic or RAM, else 0; 0 unless said, and left out with --input, which has it')
     arguments = parser.parse_args()
     words, size = arguments.words, None
+    if arguments.input and arguments.east is not None:
+        parser.error('--east goes with W H; the input has its own byte')
     if not arguments.input:
         if len(words) < 2:
             parser.error('give the size, W H, or --input FILE')
@@ -230,7 +235,7 @@ def main():
     if len(words) > 1:
         parser.error('one report at a time')
     report = Report(text_of(words[0] if words else '-', 'a report'))
-    scene = Scene(size, arguments.input, arguments.corner)
+    scene = Scene(size, arguments.input, arguments.corner, arguments.east or 0)
     if scene.path:
         scene.check(report)
     if report.verdict[0]:

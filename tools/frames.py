@@ -73,19 +73,19 @@ def lines_of(text):
 class Input:
     """A routing table and a block, as frames say them; or the table alone, or what stands before the first bad line.
 
-    `fault` is None for a whole input, else the line at which it is not the frame due there, and words for it. A tile is one number with
-    position p at weight 2^p.
+    `fault` is None for a whole input, else the line at which it is not the frame due there, and words for it. `east` is the byte for the
+    column to the east, 0 where it is left out. A tile is one number with position p at weight 2^p.
     """
 
     def __init__(self, text):
-        self.table, self.size, self.tiles, self.fault = Table([], [], []), (), [], None
+        self.table, self.size, self.east, self.tiles, self.fault = Table([], [], []), (), 0, [], None
         self.due = (1,)
         lines = lines_of(text)
         for at, (line, ended) in enumerate(lines, 1):
             try:
-                self.add(Cursor(line))
                 if not ended:
                     raise Mistake('a last line without a line end')
+                self.add(Cursor(line))
             except Mistake as mistake:
                 self.fault = at, str(mistake)
                 return
@@ -116,7 +116,11 @@ class Input:
         self.due = (3, 4) if len(self.table.groups) < GROUP_LIMIT else (4,)
 
     def add_size(self, cursor):
-        self.size, self.due = (cursor.byte(), cursor.byte()), (5,)
+        size, east = (cursor.byte(), cursor.byte()), cursor.byte() if cursor.left else 0
+        cursor.end()
+        if east > 1:
+            raise Mistake('a byte of %02X for the column to the east: it is 00, 01 or left out' % east)
+        self.size, self.east, self.due = size, east, (5,)
 
     def add_tile(self, cursor):
         self.tiles.append(sum(cursor.byte() << 8 * b for b in range(POSITIONS // 8)))

@@ -44,7 +44,7 @@ NAMES += ['ltin']  # the cascade input of cell 0; IceStorm has no name for it
 PORT = {name: q for q, name in enumerate(NAMES)}
 
 
-# ---- joins and wires (document 01, 'Joins')
+# ---- joins and wires (document 01, 'Joins', and 02, W2)
 
 def span_joins(x, y):
     """The span wires: on to the next tile east and south, crossed in pairs from one side of the tile to the other, and seen from the west."""
@@ -59,27 +59,41 @@ def span_joins(x, y):
         yield (x, y, 'sp4_r_v_b_%d' % k), (x + 1, y, 'sp4_v_b_%d' % k)
 
 
-def joins(x, y):
-    """Each join that starts in tile (x, y): two ends of (x, y, name). The other end may be outside the block."""
-    yield from span_joins(x, y)
+def output_names(x, y):
+    """The neigh_op names of tile (x, y), each with the output that it is a name for."""
     for side, (east, north) in NEIGHBOURS.items():
         for i in range(CELLS):
             yield (x, y, 'neigh_op_%s_%d' % (side, i)), (x + east, y + north, 'lutff_%d/out' % i)
+
+
+def joins(x, y):
+    """Each join that starts in tile (x, y): two ends of (x, y, name). The other end may be outside the block."""
+    yield from span_joins(x, y)
+    yield from output_names(x, y)
     for n in range(8):
         yield (x, y, 'glb_netwk_%d' % n), (0, 0, 'glb_netwk_%d' % n)
     yield (x, y, 'carry_in'), (x, y - 1, 'lutff_7/cout')
     yield (x, y, 'ltin'), (x, y - 1, 'lutff_7/lout')
 
 
+def east_joins(w, h):
+    """The vertical wires of the column to the east of a block, where that is logic or RAM: they run on from row to row, and the block's east
+    column has names for them."""
+    for y in range(1, h):
+        for k in range(36):
+            yield (w - 1, y, 'sp4_r_v_b_%d' % k), (w - 1, y - 1, 'sp4_r_v_b_%d' % ((k ^ 1) + 12))
+
+
 class Block:
     """W by H logic tiles: which ports are one wire, and what everything is called.
 
-    `corner` is the chip's coordinates of tile 0, so that names are those of the chip; without it tile 0 is (0,0).
+    `corner` is the chip's coordinates of tile 0, so that names are those of the chip; without it tile 0 is (0,0). `east` is 1 where the
+    column to the east is logic or RAM, else 0.
     """
 
-    def __init__(self, w, h, corner=(0, 0)):
+    def __init__(self, w, h, corner=(0, 0), east=0):
         check_size(w, h)
-        self.w, self.h, self.corner = w, h, corner
+        self.w, self.h, self.corner, self.east = w, h, corner, east
         self.wire = self.lowest_ports()  # by port number: the wire's number, which is the lowest port number on it
         self.members = {}  # by wire: its ports, rising
         for port, wire in enumerate(self.wire):
@@ -94,12 +108,18 @@ class Block:
                 port = root[port]
             return port
 
-        for tile in range(self.w * self.h):
-            for one, other in joins(tile % self.w, tile // self.w):
-                if self.inside(other[0], other[1]):
-                    low, high = sorted((find(self.number(one)), find(self.number(other))))
-                    root[high] = low
+        for one, other in self.joins():
+            low, high = sorted((find(self.number(one)), find(self.number(other))))
+            root[high] = low
         return [find(port) for port in range(len(root))]
+
+    def joins(self):
+        """Each join of the block, as two ends inside it. Names for one output of a tile outside are one wire."""
+        names = {}  # by output of a tile outside: the first name for it
+        for x, y in [(x, y) for y in range(self.h) for x in range(self.w)]:
+            yield from (ends for ends in joins(x, y) if self.inside(*ends[1][:2]))
+            yield from ((name, names.setdefault(output, name)) for name, output in output_names(x, y) if not self.inside(*output[:2]))
+        yield from east_joins(self.w, self.h) if self.east else ()
 
     def inside(self, x, y):
         return 0 <= x < self.w and 0 <= y < self.h

@@ -11,6 +11,19 @@ COLUMN_BUFFERS = {
     **dict.fromkeys(('5k', '8k', 'lm4k', 'u4k'), (439, 493, 547, 601, 655, 709, 763, 817)),
 }
 
+# The last column of each device and what it is made of, and its RAM columns (the sections .logic_tile, .ramb_tile, .io_tile, .. of the chip
+# databases). All other columns from the second on are logic.
+LAST_COLUMN = {'384': (7, 'IO'), '1k': (13, 'IO'), '8k': (33, 'IO'), 'lm4k': (25, 'IO'), '5k': (25, 'DSP'), 'u4k': (25, 'DSP')}
+RAM_COLUMNS = {'384': (), '1k': (3, 10), '8k': (8, 25), **dict.fromkeys(('5k', 'lm4k', 'u4k'), (6, 19))}
+
+
+def column_kind(device, x):
+    """What the tiles of a column are, between the rows of IO tiles: logic, RAM, IO or DSP; None for a device or a column that is not known."""
+    last, kind = LAST_COLUMN.get(device, (0, None))
+    if 0 < x < last:
+        return 'RAM' if x in RAM_COLUMNS[device] else 'logic'
+    return kind if x in (0, last) else None
+
 
 def sections(lines):
     """The dot sections of a file, one at a time: the words of the dot line, and those of each line below it. The lines have LINE characters

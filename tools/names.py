@@ -5,13 +5,14 @@
     names.py W H port TILE NAME    the number of the wire that a port is on; TILE is an index or x,y
     names.py position P            a bit position as row and column, and what claims it; P is a number or a name as B0[14]
 
-Numbers are decimal, or hexadecimal after 0x: the report's wire 0162 is 0x0162.
+Numbers are decimal, or hexadecimal after 0x: the report's wire 0162 is 0x0162. With --east 1 the column to the east of the block is logic or
+RAM, as the last byte of the input's frame 04 says.
 """
 import argparse
 
 from frames import FIELDS, port_name, read_table
 from ice40 import CELLS, FLAG_BITS, FLAGS, LUT_INIT, NAMES, PORT, POSITIONS, Block, cell_position, position_at, position_name
-from tool import Mistake, number, run
+from tool import Mistake, add_east, number, run
 
 
 def wire_words(block, wire):
@@ -55,15 +56,20 @@ def main():
     parser = argparse.ArgumentParser(description=__doc__, formatter_class=argparse.RawDescriptionHelpFormatter, usage='%(prog)s [options] QUESTION')
     parser.add_argument('question', nargs='+', metavar='QUESTION', help='one of the three forms above')
     parser.add_argument('--corner', nargs=2, type=number, default=(0, 0), metavar=('X', 'Y'), help="the chip's coordinates of tile 0")
+    add_east(parser, '1 where the column to the east of the block is logic or RAM, else 0; 0 unless said')
     parser.add_argument('--table', metavar='FILE', help='the routing table, or a whole input, for what claims a position')
     arguments = parser.parse_args()
+
+    def block():
+        return Block(number(words[0]), number(words[1]), arguments.corner, arguments.east or 0)
+
     words = arguments.question
     if words[0] == 'position' and len(words) == 2:
         return [position_words(words[1], arguments.table)], 0
     if words[2:3] == ['wire'] and len(words) == 4:
-        return wire_words(Block(number(words[0]), number(words[1]), arguments.corner), number(words[3])), 0
+        return wire_words(block(), number(words[3])), 0
     if words[2:3] == ['port'] and len(words) == 5:
-        return [port_words(Block(number(words[0]), number(words[1]), arguments.corner), words[3], words[4])], 0
+        return [port_words(block(), words[3], words[4])], 0
     return parser.error('the question is W H wire N, W H port TILE NAME, or position P')
 
 

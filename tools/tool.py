@@ -11,7 +11,7 @@ import sys
 from contextlib import contextmanager
 
 COULD_NOT = 2  # the exit status of a mistake, and argparse's of bad usage
-START = 1 << 20  # as much of a file of frames is looked at; the longest whole input has 134,619 bytes
+START = 1 << 20  # as much of a file of frames is looked at; the longest whole input has 134,621 bytes
 
 
 if sys.version_info < (3, 8):
@@ -150,6 +150,11 @@ def number(text):
     if not re.fullmatch('-?(0|[1-9][0-9]{0,18}|0[xX][0-9a-fA-F]{1,16})', text):
         raise Mistake('%s is no number: write it in decimal, or in hexadecimal after 0x' % ascii(text))
     return int(text, 0)
+
+
+def add_east(parser, words):
+    """The option for the column to the east of a block; None where it is not given."""
+    parser.add_argument('--east', type=int, choices=(0, 1), help=words)
 
 
 def counted(count, what, ending='s'):

@@ -12,7 +12,7 @@
 
 enum { TILES = ICE40_TILES_LIMIT };
 
-static uint32_t w, h, tiles;
+static uint32_t w, h, east, tiles; /* east: whether the column to the east of the block is logic or RAM */
 static uint16_t table[ICE40_TABLE_LENGTH];
 static uint8_t bits[ICE40_BITS_LENGTH(TILES)];
 static unsigned line_number, last_kind; /* of the frames that were taken */
@@ -72,6 +72,13 @@ static void take_tile(const char **frame) {
     for (size_t b = 0; b < ICE40_BITS_LENGTH(1); b++) tile[b] = (uint8_t)take(frame, 2);
 }
 
+/* The size, and a byte for the column to the east, which may be left out. */
+static void take_size(const char **frame) {
+    w = take(frame, 2), h = take(frame, 2);
+    if (**frame != '\n') east = take(frame, 2);
+    if (east > 1) bad_line();
+}
+
 /* One 01, one 02, the 03s, one 04, the 05s. */
 static int is_due(unsigned kind) {
     return kind == last_kind + 1 || (kind == last_kind && (kind == 3 || kind == 5)) || (kind == 4 && last_kind == 2);
@@ -87,7 +94,7 @@ static void take_frame(const char *frame) {
         take_positions(&frame, table + ICE40_TABLE_PASSIVE(0), table[ICE40_TABLE_PASSIVE_COUNT]);
         break;
     case 3: take_group(&frame); break;
-    case 4: w = take(&frame, 2), h = take(&frame, 2); break;
+    case 4: take_size(&frame); break;
     default: take_tile(&frame);
     }
     if (*frame != '\n') bad_line();
@@ -116,8 +123,8 @@ static uint64_t build(void) {
     static uint16_t wires[ICE40_PORTS_LENGTH(TILES)], sources[ICE40_PORTS_LENGTH(TILES)];
     static uint16_t marks[ICE40_PORTS_LENGTH(TILES)], queue[ICE40_PORTS_LENGTH(TILES)];
     size_t ports = ICE40_PORTS_LENGTH(tiles), numbers = ICE40_LIST_LENGTH(tiles);
-    return ice40_build(w, h, table, ICE40_TABLE_LENGTH, bits, ICE40_BITS_LENGTH(tiles), list, numbers, settings, ICE40_SETTINGS_LENGTH(tiles),
-                       wires, ports, sources, ports, rows, numbers, marks, ports, queue, ports);
+    return ice40_build(w, h, east, table, ICE40_TABLE_LENGTH, bits, ICE40_BITS_LENGTH(tiles), list, numbers, settings,
+                       ICE40_SETTINGS_LENGTH(tiles), wires, ports, sources, ports, rows, numbers, marks, ports, queue, ports);
 }
 
 typedef struct {
@@ -131,7 +138,7 @@ static int by_driven(const void *one, const void *other) {
 
 /* The wire of a port that is there: the call has no reason for a no. */
 static uint32_t wire(uint32_t tile, uint32_t port) {
-    return ICE40_VALUE(ice40_wire_number(w, h, tile, port));
+    return ICE40_VALUE(ice40_wire_number(w, h, east, tile, port));
 }
 
 /* Lines 06: driven wire and source wire of each enabled switch, rising by the first. */

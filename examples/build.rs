@@ -10,11 +10,12 @@ use std::io::{Read, Write};
 use std::process::ExitCode;
 use std::sync::atomic::{AtomicBool, Ordering};
 
-const READ_LIMIT: u64 = 1 << 20; // bytes that are looked at; the longest whole input has 134,619
+const READ_LIMIT: u64 = 1 << 20; // bytes that are looked at; the longest whole input has 134,621
 
 struct Input {
     w: u32,
     h: u32,
+    east: u32, // whether the column to the east of the block is logic or RAM
     table: Vec<u16>,
     bits: Vec<u8>,
 }
@@ -34,7 +35,7 @@ impl Input {
 
     /// The wire of a port that is there: the call has no reason for a no.
     fn wire(&self, tile: usize, port: u16) -> u32 {
-        ice40::value(unsafe { ice40::ice40_wire_number(self.w, self.h, tile as u32, port.into()) })
+        ice40::value(unsafe { ice40::ice40_wire_number(self.w, self.h, self.east, tile as u32, port.into()) })
     }
 }
 
@@ -51,6 +52,13 @@ impl<'a> Frame<'a> {
     /// A count of what follows it; the table has no room for a larger one.
     fn count(&mut self, limit: usize) -> Option<u16> {
         self.take(2).filter(|&count| count as usize <= limit)
+    }
+
+    /// The size, and a byte for the column to the east, which may be left out.
+    fn size(&mut self, input: &mut Input) -> Option<()> {
+        (input.w, input.h) = (self.take(2)?.into(), self.take(2)?.into());
+        input.east = if self.0 == "\n" { 0 } else { self.take(2).filter(|&byte| byte <= 1)?.into() };
+        Some(())
     }
 
     fn positions(&mut self, to: &mut [u16]) -> Option<()> {
@@ -90,7 +98,7 @@ impl<'a> Frame<'a> {
                 self.group(input.table.get_mut(at..at + ice40::GROUP_LENGTH)?)?;
                 input.table[ice40::TABLE_GROUP_COUNT] += 1
             }
-            4 => (input.w, input.h) = (self.take(2)?.into(), self.take(2)?.into()),
+            4 => self.size(input)?,
             5 => for _ in 0..ice40::BITS_LENGTH { input.bits.push(self.take(2)? as u8) },
             _ => return None,
         }
@@ -99,7 +107,7 @@ impl<'a> Frame<'a> {
 }
 
 fn parse(text: &str) -> Result<Input, String> {
-    let mut input = Input { w: 0, h: 0, table: vec![0; ice40::TABLE_LENGTH], bits: vec![] };
+    let mut input = Input { w: 0, h: 0, east: 0, table: vec![0; ice40::TABLE_LENGTH], bits: vec![] };
     let (mut last, mut lines) = (0, 0);
     for line in text.split_inclusive('\n') {
         lines += 1;
@@ -122,7 +130,7 @@ fn build(input: &Input) -> (u32, u32) {
     let [mut wires, mut sources, mut marks, mut queue] = [(); 4].map(|_| vec![0u16; ice40::PORTS_LENGTH * tiles]);
     let mut settings = vec![0u16; ice40::SETTINGS_LENGTH * tiles];
     let answer = unsafe {
-        ice40::ice40_build(input.w, input.h, input.table.as_ptr(), input.table.len(), input.bits.as_ptr(), input.bits.len(),
+        ice40::ice40_build(input.w, input.h, input.east, input.table.as_ptr(), input.table.len(), input.bits.as_ptr(), input.bits.len(),
                            list.as_mut_ptr(), list.len(), settings.as_mut_ptr(), settings.len(), wires.as_mut_ptr(), wires.len(),
                            sources.as_mut_ptr(), sources.len(), rows.as_mut_ptr(), rows.len(), marks.as_mut_ptr(), marks.len(),
                            queue.as_mut_ptr(), queue.len())

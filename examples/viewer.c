@@ -13,8 +13,8 @@ static void show(const char *what, uint64_t answer) {
 }
 
 int main(void) {
-    show("wire of sp4_r_v_b_37, tile 2, 2 by 5", ice40_wire_number(2, 5, 2, ICE40_PORT_SP4_R_V_B + 37));
-    show("wire of port 506", ice40_wire_number(2, 5, 2, ICE40_PORTS));
+    show("wire of sp4_r_v_b_37, tile 2, 2 by 5", ice40_wire_number(2, 5, 0, 2, ICE40_PORT_SP4_R_V_B + 37));
+    show("wire of port 506", ice40_wire_number(2, 5, 0, 2, ICE40_PORTS));
     show("lookup F0F0 at 4", ice40_lookup(0xF0F0, 4));
     show("lookup F0F0 at 16", ice40_lookup(0xF0F0, 16));
     return fflush(stdout) || ferror(stdout) ? perror("viewer: standard output"), 2 : 0;

@@ -3,6 +3,12 @@
  * Every function takes any numbers and always ends. The answer is one 64-bit number: what was asked for, with nothing above its
  * low 32 bits, or, for a no, the ground's number times 2^32 plus its place. ICE40_GROUND and ICE40_VALUE take it apart.
  *
+ * Blocks. A block is w by h logic tiles, w and h from 1 to 8. A call whose answer rests on which ports are one wire takes east behind them: 1
+ * where the column of tiles to the east of the block is logic or RAM, else 0; another number is refused with ground 1. The east column of
+ * the block has names (sp4_r_v_b) for the vertical wires of the column beside it. Where that is logic or RAM these run on from row to row, so
+ * that with 1 their names in two rows are one wire; with 0 each row's are wires of their own. On a chip's last column of logic, beside IO
+ * tiles, 1 would join what is apart. With h = 1 both give the same. A list is a block's own only with the same east.
+ *
  * Memory. A slice is a pointer and a length, counted in numbers and not in bytes. Every length is exact: another one is refused with
  * ground 2; only the text that ice40_asc_read reads may have any length. On a no the outputs keep their old contents; the work room comes
  * back zeroed, or untouched under grounds 1 and 2.
@@ -27,9 +33,9 @@
 #include <stdint.h>
 
 #define ICE40_VERSION_MAJOR 0
-#define ICE40_VERSION_MINOR 2
+#define ICE40_VERSION_MINOR 3
 #define ICE40_VERSION_PATCH 0
-#define ICE40_VERSION "0.2.0"
+#define ICE40_VERSION "0.3.0"
 
 #define ICE40_STACK_BYTES 131072
 
@@ -43,7 +49,7 @@
  * ICE40_NO_SIZE .. are the numbers. Calls of this version give 1 to 10, 12, 13 and 20, the report program 11 too; 14 to 16 come with the
  * requests of document 02. */
 #define ICE40_GROUNDS(X) \
-    X(1, SIZE, "W or H is not 1 to 8, or not 1 to 3 for the programs", "") \
+    X(1, SIZE, "W or H is not 1 to 8, or not 1 to 3 for the programs, or the byte for the column to the east is not 0 or 1", "") \
     X(2, LENGTH, "a lent length differs from the exact one", "") \
     X(3, TABLE, "the routing table breaks a rule", "part") \
     X(4, UNDECODABLE, "a tile cannot be decoded: a group's bits are a pattern that the table does not list, a bit is set that nothing claims, " \
@@ -183,8 +189,8 @@ static inline const char *ice40_place_words(uint32_t ground) {
 extern "C" {
 #endif
 
-/* The number of the wire that a port of a tile is on, in a block of w by h logic tiles. Grounds 1, 20. */
-uint64_t ice40_wire_number(uint32_t w, uint32_t h, uint32_t tile, uint32_t port);
+/* The number of the wire that a port of a tile is on. Grounds 1, 20. */
+uint64_t ice40_wire_number(uint32_t w, uint32_t h, uint32_t east, uint32_t tile, uint32_t port);
 
 /* The bit of a lookup table at inputs given as one number, in_0 with weight 1. Ground 20. */
 uint64_t ice40_lookup(uint16_t table, uint32_t inputs);
@@ -202,24 +208,25 @@ uint64_t ice40_bit_count(uint32_t w, uint32_t h, const uint8_t *bits, size_t bit
 
 /* The list of a block's rows, in order; the value is the row count. Grounds 1 to 8. The output is list; the work room follows it: settings,
  * then wires, sources, rows (a list), marks and queue, which but for rows have a number for each port. */
-uint64_t ice40_build(uint32_t w, uint32_t h, const uint16_t *table, size_t table_length, const uint8_t *bits, size_t bits_length,
-                     uint16_t *list, size_t list_length, uint16_t *settings, size_t settings_length, uint16_t *wires, size_t wires_length,
-                     uint16_t *sources, size_t sources_length, uint16_t *rows, size_t rows_length, uint16_t *marks, size_t marks_length,
-                     uint16_t *queue, size_t queue_length);
+uint64_t ice40_build(uint32_t w, uint32_t h, uint32_t east, const uint16_t *table, size_t table_length, const uint8_t *bits,
+                     size_t bits_length, uint16_t *list, size_t list_length, uint16_t *settings, size_t settings_length, uint16_t *wires,
+                     size_t wires_length, uint16_t *sources, size_t sources_length, uint16_t *rows, size_t rows_length, uint16_t *marks,
+                     size_t marks_length, uint16_t *queue, size_t queue_length);
 
 /* What drives a port, followed from switch to switch; ICE40_END and ICE40_END_WIRE take the value apart. Grounds 1, 2, 3, 9, 5, 20. The
  * work room is wires, sources and marks. */
-uint64_t ice40_follow(uint32_t w, uint32_t h, const uint16_t *table, size_t table_length, const uint16_t *settings, size_t settings_length,
-                      uint32_t tile, uint32_t port, uint16_t *wires, size_t wires_length, uint16_t *sources, size_t sources_length,
-                      uint16_t *marks, size_t marks_length);
+uint64_t ice40_follow(uint32_t w, uint32_t h, uint32_t east, const uint16_t *table, size_t table_length, const uint16_t *settings,
+                      size_t settings_length, uint32_t tile, uint32_t port, uint16_t *wires, size_t wires_length, uint16_t *sources,
+                      size_t sources_length, uint16_t *marks, size_t marks_length);
 
 /* One step from the values before to those after: writes every port's value before, and the next state. Grounds 1, 2, 3, 9, 12, 10. The
  * outputs are values and next; the work room is wires, own, marks, first and second. */
-uint64_t ice40_step(uint32_t w, uint32_t h, const uint16_t *table, size_t table_length, const uint16_t *settings, size_t settings_length,
-                    const uint16_t *list, size_t list_length, const uint8_t *state, size_t state_length, const uint8_t *before,
-                    size_t before_length, const uint8_t *after, size_t after_length, uint8_t *values, size_t values_length, uint8_t *next,
-                    size_t next_length, uint16_t *wires, size_t wires_length, uint16_t *own, size_t own_length, uint16_t *marks,
-                    size_t marks_length, uint8_t *first, size_t first_length, uint8_t *second, size_t second_length);
+uint64_t ice40_step(uint32_t w, uint32_t h, uint32_t east, const uint16_t *table, size_t table_length, const uint16_t *settings,
+                    size_t settings_length, const uint16_t *list, size_t list_length, const uint8_t *state, size_t state_length,
+                    const uint8_t *before, size_t before_length, const uint8_t *after, size_t after_length, uint8_t *values,
+                    size_t values_length, uint8_t *next, size_t next_length, uint16_t *wires, size_t wires_length, uint16_t *own,
+                    size_t own_length, uint16_t *marks, size_t marks_length, uint8_t *first, size_t first_length, uint8_t *second,
+                    size_t second_length);
 
 /* ---- IceStorm's ASCII files (.asc) of a 1k. The block is w by h logic tiles with its south-west one at x, y of the chip; the other tiles
  * and sections of a file are skipped. A block that reaches past 255 is refused with ground 1. A text is bytes, with no 0 at its end */

@@ -1,11 +1,11 @@
 // include/ice40.h for Rust: the functions, lengths and layouts, under the same names without the ICE40_ of the macros. What a call does,
-// which slices may overlap, threads and stack stand in the header. A slice is a pointer and a length in numbers.
+// what `east` says, which slices may overlap, threads and stack stand in the header. A slice is a pointer and a length in numbers.
 //
 //     #[path = "../include/ice40.rs"]
 //     mod ice40;
 #![allow(dead_code)]
 
-pub const VERSION: &str = "0.2.0";
+pub const VERSION: &str = "0.3.0";
 pub const STACK_BYTES: usize = 131072;
 
 /// The ground of an answer: 0 for a yes.
@@ -96,22 +96,22 @@ pub const PORT_LTIN: u32 = 505;
 
 #[rustfmt::skip]
 extern "C" {
-    pub fn ice40_wire_number(w: u32, h: u32, tile: u32, port: u32) -> u64;
+    pub fn ice40_wire_number(w: u32, h: u32, east: u32, tile: u32, port: u32) -> u64;
     pub fn ice40_lookup(table: u16, inputs: u32) -> u64;
     pub fn ice40_read(w: u32, h: u32, table: *const u16, table_length: usize, bits: *const u8, bits_length: usize,
                       settings: *mut u16, settings_length: usize) -> u64;
     pub fn ice40_write(w: u32, h: u32, table: *const u16, table_length: usize, settings: *const u16, settings_length: usize,
                        bits: *mut u8, bits_length: usize) -> u64;
     pub fn ice40_bit_count(w: u32, h: u32, bits: *const u8, bits_length: usize, tile: u32) -> u64;
-    pub fn ice40_build(w: u32, h: u32, table: *const u16, table_length: usize, bits: *const u8, bits_length: usize,
+    pub fn ice40_build(w: u32, h: u32, east: u32, table: *const u16, table_length: usize, bits: *const u8, bits_length: usize,
                        list: *mut u16, list_length: usize, settings: *mut u16, settings_length: usize,
                        wires: *mut u16, wires_length: usize, sources: *mut u16, sources_length: usize,
                        rows: *mut u16, rows_length: usize, marks: *mut u16, marks_length: usize,
                        queue: *mut u16, queue_length: usize) -> u64;
-    pub fn ice40_follow(w: u32, h: u32, table: *const u16, table_length: usize, settings: *const u16, settings_length: usize,
+    pub fn ice40_follow(w: u32, h: u32, east: u32, table: *const u16, table_length: usize, settings: *const u16, settings_length: usize,
                         tile: u32, port: u32, wires: *mut u16, wires_length: usize, sources: *mut u16, sources_length: usize,
                         marks: *mut u16, marks_length: usize) -> u64;
-    pub fn ice40_step(w: u32, h: u32, table: *const u16, table_length: usize, settings: *const u16, settings_length: usize,
+    pub fn ice40_step(w: u32, h: u32, east: u32, table: *const u16, table_length: usize, settings: *const u16, settings_length: usize,
                       list: *const u16, list_length: usize, state: *const u8, state_length: usize,
                       before: *const u8, before_length: usize, after: *const u8, after_length: usize,
                       values: *mut u8, values_length: usize, next: *mut u8, next_length: usize,

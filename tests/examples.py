@@ -20,7 +20,7 @@ import tempfile
 sys.path.insert(0, os.path.dirname(os.path.abspath(__file__)))
 import cell_model  # noqa: E402
 import model  # noqa: E402
-from library import DATA, ROOT, Count, build_archive, run  # noqa: E402
+from library import DATA, ROOT, Count, blocks, build_archive, run  # noqa: E402
 from report import lines_of, sample, whole  # noqa: E402
 
 STRICT = ['-std=c11', '-Wall', '-Wextra', '-Wpedantic', '-Werror']
@@ -70,7 +70,7 @@ def left_out(path):
     if text is None or text[:4] not in ('0801', '080B'):
         return False
     size = [frame[2:] for frame in contents(path).splitlines() if frame.startswith('04')]
-    return text[:4] == '080B' or all(1 <= n <= 8 for n in bytes.fromhex(size[0]))
+    return text[:4] == '080B' or all(1 <= n <= 8 for n in bytes.fromhex(size[0])[:2])
 
 
 def compare_all(programs, where):
@@ -89,6 +89,18 @@ def compare(name, program, paths, where):
             count.same(found[1], beside, path)
         if beside != '08010000\n':  # after a refused size anything may follow, which the model does not read
             count.same(found, (*modelled(path), ''), path)
+    return count.done()
+
+
+def with_byte(name, program, folder):
+    """The bundled blocks with a byte for the column to the east."""
+    count, path = Count('%s with a byte for the column to the east' % name), os.path.join(folder, 'east.in')
+    for block, (w, h, *_) in blocks().items():
+        for east in ('00', '01'):
+            size = '04%02X%02X' % (w, h)
+            with open(path, 'w') as file:
+                file.write(contents(os.path.join(DATA, block + '.in')).replace(size + '\n', size + east + '\n'))
+            count.same(answer([program, path]), (*modelled(path), ''), (block, east))
     return count.done()
 
 
@@ -114,6 +126,9 @@ def bad_inputs():
     for extra in ('0', '\n', lines[-1], lines[-1] + '\n', lines[0] + '\n'):
         yield ''.join(whole_line) + extra, len(lines) + 1
     yield whole(lines_of([], [[]] * 3, 2, 2)).decode(), 7
+    for rest in ('02', 'FF', '0', '1', '0000', '0001', '000000', '1 ', 'aa'):
+        yield ''.join(whole_line[:4]) + '040101' + rest + '\n' + whole_line[5], 5
+        yield ''.join(whole_line[:4]) + '040901' + rest + '\n', 5
     for rest in ('0241', '02410000'):
         yield whole_line[0] + rest + '\n', 2
     for rest in ('015009', '01500100210121'):
@@ -135,9 +150,10 @@ def bad_input(name, program, folder):
     for arguments in ([], [path + '.none'], [folder], ['/dev/zero']):
         status, output, errors = answer([program] + arguments)
         count.same((status, output, errors.count('\n')), (COULD_NOT, '', 1), (arguments, errors))
-    with open(path, 'w') as file:
-        file.write(''.join(line + '\n' for line in sample()[:4]) + '040901\nanything')
-    count.same(answer([program, path]), (NO, '08010000\n', ''), 'a size that no call takes')
+    for size in ('040901', '04090100', '04000101'):
+        with open(path, 'w') as file:
+            file.write(''.join(line + '\n' for line in sample()[:4]) + size + '\nanything')
+        count.same(answer([program, path]), (NO, '08010000\n', ''), 'a size that no call takes')
     return count.done()
 
 
@@ -242,6 +258,7 @@ def main():
         programs = build_programs(folder)
         builds = [(name, programs[name]) for name in BUILDS]
         tests = [(compare_all, programs, where) for where in [DATA] + sys.argv[1:]] + [(explained, *build) for build in builds]
+        tests += [(with_byte, *build, folder) for build in builds]
         return run(tests + [(bad_input, *build, folder) for build in builds] + [(full_output, programs), (viewer, programs['viewer.c']),
                                                                                 (lookup, programs['lookup.c']), (lookup_page,), (benchmark, folder)], 1)
 

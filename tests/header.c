@@ -1,5 +1,5 @@
-/* What include/ice40.h says, tried; compiled as C and as C++ by tests/header.py. The one argument is a block as tests/header.py writes it: w and
- * h, a byte each, the table, the bits. It prints a line for each group of calls, the number of calls and of those that are wrong. */
+/* What include/ice40.h says, tried; compiled as C and as C++ by tests/header.py. The one argument is a block as tests/header.py writes it: w, h
+ * and east, a byte each, the table, the bits. It prints a line for each group of calls, the number of calls and of those that are wrong. */
 #include <pthread.h>
 #include <stdio.h>
 #include <stdlib.h>
@@ -21,7 +21,7 @@ typedef struct {
     uint8_t first[ICE40_PORTS_LENGTH(N)], second[ICE40_PORTS_LENGTH(N)];
 } Work;
 
-static uint32_t w, h;
+static uint32_t w, h, east;
 static size_t n, ports;
 static unsigned cases, wrong;
 
@@ -36,7 +36,7 @@ static void done(const char *what) {
 }
 
 static uint64_t step(Work *k, const uint8_t *before, const uint8_t *after) {
-    return ice40_step(w, h, k->table, ICE40_TABLE_LENGTH, k->settings, ICE40_SETTINGS_LENGTH(n), k->list, ICE40_LIST_LENGTH(n), k->state,
+    return ice40_step(w, h, east, k->table, ICE40_TABLE_LENGTH, k->settings, ICE40_SETTINGS_LENGTH(n), k->list, ICE40_LIST_LENGTH(n), k->state,
                       ICE40_STATE_LENGTH(n), before, ports, after, ports, k->values, ports, k->next, ICE40_STATE_LENGTH(n), k->a, ports, k->b, ports,
                       k->c, ports, k->first, ports, k->second, ports);
 }
@@ -49,12 +49,12 @@ static uint64_t write_settings(Work *k, const uint16_t *settings) {
 static void call_all(Work *k) {
     k->answers[0] = ice40_read(w, h, k->table, ICE40_TABLE_LENGTH, k->bits, ICE40_BITS_LENGTH(n), k->settings, ICE40_SETTINGS_LENGTH(n));
     k->answers[1] = write_settings(k, k->settings);
-    k->answers[2] = ice40_build(w, h, k->table, ICE40_TABLE_LENGTH, k->bits, ICE40_BITS_LENGTH(n), k->list, ICE40_LIST_LENGTH(n), k->room_settings,
+    k->answers[2] = ice40_build(w, h, east, k->table, ICE40_TABLE_LENGTH, k->bits, ICE40_BITS_LENGTH(n), k->list, ICE40_LIST_LENGTH(n), k->room_settings,
                                 ICE40_SETTINGS_LENGTH(n), k->a, ports, k->b, ports, k->rows, ICE40_LIST_LENGTH(n), k->c, ports, k->d, ports);
-    k->answers[3] = ice40_follow(w, h, k->table, ICE40_TABLE_LENGTH, k->settings, ICE40_SETTINGS_LENGTH(n), (uint32_t)n - 1, ICE40_PORT_CLK, k->a, ports,
+    k->answers[3] = ice40_follow(w, h, east, k->table, ICE40_TABLE_LENGTH, k->settings, ICE40_SETTINGS_LENGTH(n), (uint32_t)n - 1, ICE40_PORT_CLK, k->a, ports,
                                  k->b, ports, k->c, ports);
     k->answers[4] = step(k, k->before, k->after);
-    k->answers[5] = ice40_bit_count(w, h, k->bits, ICE40_BITS_LENGTH(n), 0) + ice40_wire_number(w, h, 0, ICE40_PORT_OUT) + ice40_lookup(0xF0F0, 4);
+    k->answers[5] = ice40_bit_count(w, h, k->bits, ICE40_BITS_LENGTH(n), 0) + ice40_wire_number(w, h, east, 0, ICE40_PORT_OUT) + ice40_lookup(0xF0F0, 4);
     k->answers[6] = ice40_asc_length(w, h, X, Y);
     k->answers[7] = ice40_asc_write(w, h, X, Y, k->bits, ICE40_BITS_LENGTH(n), k->text, ICE40_VALUE(k->answers[6]));
     k->answers[8] = ice40_asc_read(w, h, X, Y, k->text, ICE40_VALUE(k->answers[6]), k->again, ICE40_BITS_LENGTH(n));
@@ -143,14 +143,16 @@ static void try_null(const Work *result) {
         same(ice40_read(x, h, NULL, 0, NULL, 0, NULL, 0) == expected, "read");
         same(ice40_write(x, h, NULL, 0, NULL, 0, NULL, 0) == expected, "write");
         same(ice40_bit_count(x, h, NULL, 0, 0) == expected, "bit_count");
-        same(ice40_build(x, h, NULL, 0, NULL, 0, NULL, 0, NULL, 0, NULL, 0, NULL, 0, NULL, 0, NULL, 0, NULL, 0) == expected, "build");
-        same(ice40_follow(x, h, NULL, 0, NULL, 0, 0, 0, NULL, 0, NULL, 0, NULL, 0) == expected, "follow");
-        same(ice40_step(x, h, NULL, 0, NULL, 0, NULL, 0, NULL, 0, NULL, 0, NULL, 0, NULL, 0, NULL, 0, NULL, 0, NULL, 0, NULL, 0, NULL, 0, NULL, 0) == expected,
+        same(ice40_build(x, h, east, NULL, 0, NULL, 0, NULL, 0, NULL, 0, NULL, 0, NULL, 0, NULL, 0, NULL, 0, NULL, 0) == expected, "build");
+        same(ice40_follow(x, h, east, NULL, 0, NULL, 0, 0, 0, NULL, 0, NULL, 0, NULL, 0) == expected, "follow");
+        same(ice40_step(x, h, east, NULL, 0, NULL, 0, NULL, 0, NULL, 0, NULL, 0, NULL, 0, NULL, 0, NULL, 0, NULL, 0, NULL, 0, NULL, 0, NULL, 0, NULL, 0) == expected,
              "step");
     }
+    same(ice40_wire_number(w, h, 2, 0, 0) == no(1) && ice40_wire_number(w, h, UINT32_MAX, 99, 999) == no(1), "wire_number, another byte");
+    same(ice40_build(w, h, 2, NULL, 0, NULL, 0, NULL, 0, NULL, 0, NULL, 0, NULL, 0, NULL, 0, NULL, 0, NULL, 0) == no(1), "build, another byte");
 #define LENT(slot, slice, length) (slot == at ? NULL : slice), (slot == at ? 0 : (size_t)(length))
     for (int at = 0; at < 9; at++) {
-        same(ice40_build(w, h, LENT(0, k->table, ICE40_TABLE_LENGTH), LENT(1, k->bits, ICE40_BITS_LENGTH(n)), LENT(2, k->list, ICE40_LIST_LENGTH(n)),
+        same(ice40_build(w, h, east, LENT(0, k->table, ICE40_TABLE_LENGTH), LENT(1, k->bits, ICE40_BITS_LENGTH(n)), LENT(2, k->list, ICE40_LIST_LENGTH(n)),
                          LENT(3, k->room_settings, ICE40_SETTINGS_LENGTH(n)), LENT(4, k->a, ports), LENT(5, k->b, ports),
                          LENT(6, k->rows, ICE40_LIST_LENGTH(n)), LENT(7, k->c, ports), LENT(8, k->d, ports)) == no(2), "build");
         same(at > 2 || ice40_read(w, h, LENT(0, k->table, ICE40_TABLE_LENGTH), LENT(1, k->bits, ICE40_BITS_LENGTH(n)),
@@ -166,7 +168,7 @@ static void try_null(const Work *result) {
 static void load(Work *k, const char *path) {
     FILE *file = fopen(path, "rb");
     if (!file) exit(2);
-    w = (uint32_t)getc(file), h = (uint32_t)getc(file);
+    w = (uint32_t)getc(file), h = (uint32_t)getc(file), east = (uint32_t)getc(file);
     n = w * h, ports = ICE40_PORTS_LENGTH(n);
     if (fread(k->table, sizeof *k->table, ICE40_TABLE_LENGTH, file) != ICE40_TABLE_LENGTH) exit(2);
     if (fread(k->bits, 1, ICE40_BITS_LENGTH(n), file) != ICE40_BITS_LENGTH(n)) exit(2);

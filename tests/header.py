@@ -124,20 +124,20 @@ def check_binding():
     for name, value in constants.items():
         count.same(value, values.get(name), name)
 
-    def functions(text, types):
-        """Each function's name and the number of its arguments, slices as two."""
-        return {name: arguments.count(',') + 1 for name, arguments in re.findall(types + r'(ice40_\w+)\(([^)]*)\)', text)}
+    def functions(text, kind, argument):
+        """Each function's name and the names of its arguments, slices as two."""
+        return {name: re.findall(argument, arguments) for name, arguments in re.findall(kind + r'(ice40_\w+)\(([^)]*)\)', text)}
 
-    count.same(functions(binding, 'pub fn '), functions(header, 'uint64_t '))
+    count.same(functions(binding, 'pub fn ', r'(\w+):'), functions(header, 'uint64_t ', r'(\w+)(?:,|$)'))
     return count.done()
 
 
 def block_file(folder, block):
     """A block as tests/header.c reads it."""
-    w, h, table, bits = block
+    w, h, east, table, bits = block
     path = os.path.join(folder, 'block')
     with open(path, 'wb') as file:
-        file.write(bytes([w, h]) + array('H', table).tobytes() + bytes(bits))
+        file.write(bytes([w, h, east]) + array('H', table).tobytes() + bytes(bits))
     return path
 
 
@@ -146,8 +146,9 @@ def check_calls(folder, archive):
     for compiler, language, standard in (('cc', 'c', 'c11'), ('c++', 'c++', 'c++17')):
         program, errors = compiled(compiler, language, standard, os.path.join(ROOT, 'tests', 'header.c'), folder, archive, '-pthread')
         counts.setdefault('linked', Count('a program linked from C and from C++')).same(errors, '', compiler)
-        for name in ('counter8_1x1', 'uart_tx_3x3', 'latch_1x1', 'big8_8x8'):
-            for line in output_of([program, block_file(folder, blocks()[name])]).splitlines() if program else []:
+        for name, east in (('counter8_1x1', 0), ('uart_tx_3x3', 0), ('uart_tx_3x3', 1), ('latch_1x1', 1), ('big8_8x8', 1)):
+            w, h, _, *block = blocks()[name]
+            for line in output_of([program, block_file(folder, (w, h, east, *block))]).splitlines() if program else []:
                 if line.startswith('  '):
                     print(line)
                     continue

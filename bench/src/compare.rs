@@ -38,14 +38,14 @@ impl Case {
         };
         let b = &case.block;
         let _ = baseline::read(b.w, b.h, &b.table, &b.bits, &mut case.settings);
-        case.rows = baseline::build(b.w, b.h, &b.table, &b.bits, &mut case.list).ok();
+        case.rows = baseline::build(b.w, b.h, b.east, &b.table, &b.bits, &mut case.list).ok();
         case
     }
 
     pub fn step(&self) -> Step<'_> {
         let b = &self.block;
         let (table, settings, list) = (&b.table[..], &self.settings[..], &self.list[..]);
-        Step { w: b.w, h: b.h, table, settings, list, state: &self.state, before: &self.before, after: &self.after }
+        Step { w: b.w, h: b.h, east: b.east, table, settings, list, state: &self.state, before: &self.before, after: &self.after }
     }
 }
 
@@ -97,11 +97,11 @@ pub fn build(case: &Case) -> Result<(u32, u32), String> {
     let b = &case.block;
     let mut room = Room::new(b.tiles());
     let (mut x, mut y) = (junk(0x3333, case.list.len()), junk(0x3333, case.list.len()));
-    let answer = proved::build(b.w, b.h, &b.table, &b.bits, &mut x, &mut room);
+    let answer = proved::build(b.w, b.h, b.east, &b.table, &b.bits, &mut x, &mut room);
     if !room.built_clean() {
         return Err(format!("{} build: work room", b.name));
     }
-    let other = baseline::build(b.w, b.h, &b.table, &b.bits, &mut y);
+    let other = baseline::build(b.w, b.h, b.east, &b.table, &b.bits, &mut y);
     agree(&b.name, "build", (answer, x), (other, y))
 }
 
@@ -132,10 +132,9 @@ pub fn all(case: &Case) -> Result<(), String> {
 pub fn damaged(blocks: &[Block], rounds: usize) -> Result<[usize; 21], String> {
     let mut random = Random(5);
     let mut met = [0; 21];
-    let whole: Vec<Case> = blocks.iter().map(|block| Case::new(block.clone())).collect();
     for round in 0..rounds {
-        let case = &whole[random.below(whole.len())];
-        let mut case = Case::new(case.block.clone());
+        let block = &blocks[random.below(blocks.len())];
+        let mut case = Case::new(Block { east: random.below(2) as u32, ..block.clone() });
         let found = match round % 5 {
             0 => damage_bits(&mut case, &mut random),
             1 => damage_table(&mut case, &mut random),

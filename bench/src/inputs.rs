@@ -3,12 +3,13 @@ use crate::baseline::{BYTES, TABLE};
 use std::fs;
 use std::path::Path;
 
-/// A block's size, its routing table and its bits.
+/// A block's size, whether the column to its east is logic or RAM, its routing table and its bits.
 #[derive(Clone)]
 pub struct Block {
     pub name: String,
     pub w: u32,
     pub h: u32,
+    pub east: u32,
     pub table: Vec<u16>,
     pub bits: Vec<u8>,
 }
@@ -25,7 +26,12 @@ impl Block {
             let from = BYTES * (row * self.w + x) as usize;
             bits.extend(&self.bits[from..from + BYTES * s as usize]);
         }
-        Block { name: format!("big8_{s}x{s}"), w: s, h: s, table: self.table.clone(), bits }
+        Block { name: format!("big8_{s}x{s}"), w: s, h: s, east: self.east, table: self.table.clone(), bits }
+    }
+
+    /// The same block beside a column of logic or RAM.
+    pub fn beside_logic(&self) -> Block {
+        Block { name: format!("{}_east", self.name), east: 1, ..self.clone() }
     }
 
     /// The same table with no bit set.
@@ -38,7 +44,7 @@ impl Block {
 pub fn load(folder: &Path, name: &str) -> Block {
     let path = folder.join(format!("{name}.in"));
     let text = fs::read_to_string(&path).unwrap_or_else(|e| panic!("{}: {e}", path.display()));
-    let mut block = Block { name: name.to_string(), w: 0, h: 0, table: vec![0; TABLE], bits: Vec::new() };
+    let mut block = Block { name: name.to_string(), w: 0, h: 0, east: 0, table: vec![0; TABLE], bits: Vec::new() };
     for line in text.lines() {
         let bytes: Vec<u8> = (0..line.len() / 2).map(|i| u8::from_str_radix(&line[2 * i..2 * i + 2], 16).unwrap()).collect();
         frame(&mut block, &bytes);
@@ -59,7 +65,7 @@ fn frame(block: &mut Block, bytes: &[u8]) {
             data[1..].chunks_exact(2).enumerate().for_each(|(j, p)| block.table[4 + j] = pair(p));
         }
         3 => group(&mut block.table, data),
-        4 => (block.w, block.h) = (data[0] as u32, data[1] as u32),
+        4 => (block.w, block.h, block.east) = (data[0] as u32, data[1] as u32, data.get(2).copied().unwrap_or(0) as u32),
         _ => block.bits.extend(data),
     }
 }

@@ -32,6 +32,7 @@ fn blocks(data: &Path) -> Vec<(Block, bool)> {
     let mut blocks: Vec<(Block, bool)> = ["counter8_1x1", "uart_tx_3x3"].map(|name| (inputs::load(data, name), true)).into();
     blocks.push((accepted_part(&big, 4), true));
     blocks.push((big.clone(), true));
+    blocks.push((big.beside_logic(), true));
     blocks.push((big.empty(), true));
     let made = [worst::chain_block(), worst::loop_block(), worst::groups_block(), worst::entries_block()];
     blocks.extend(made.map(|block| (block, false)));
@@ -51,7 +52,7 @@ fn call_proved(case: &mut Case, call: &str) {
     let _ = black_box(match call {
         "read" => proved::read(b.w, b.h, &b.table, &b.bits, &mut case.settings),
         "write" => proved::write(b.w, b.h, &b.table, &case.settings, &mut case.written),
-        "build" => proved::build(b.w, b.h, &b.table, &b.bits, &mut case.list, &mut room),
+        "build" => proved::build(b.w, b.h, b.east, &b.table, &b.bits, &mut case.list, &mut room),
         _ => {
             let (mut values, mut next) = (std::mem::take(&mut case.values), std::mem::take(&mut case.next));
             let answer = proved::step(&case.step(), &mut values, &mut next, &mut room);
@@ -67,7 +68,7 @@ fn call_baseline(case: &mut Case, call: &str) {
     let _ = black_box(match call {
         "read" => baseline::read(b.w, b.h, &b.table, &b.bits, &mut case.settings),
         "write" => baseline::write(b.w, b.h, &b.table, &case.settings, &mut case.written),
-        "build" => baseline::build(b.w, b.h, &b.table, &b.bits, &mut case.list),
+        "build" => baseline::build(b.w, b.h, b.east, &b.table, &b.bits, &mut case.list),
         _ => {
             let (mut values, mut next) = (std::mem::take(&mut case.values), std::mem::take(&mut case.next));
             let answer = baseline::step(&case.step(), &mut values, &mut next);

@@ -53,11 +53,11 @@ pub fn write(w: u32, h: u32, table: &[u16], settings: &[u16], bits: &mut [u8]) -
     })
 }
 
-pub fn build(w: u32, h: u32, table: &[u16], bits: &[u8], list: &mut [u16], room: &mut Room) -> Answer {
+pub fn build(w: u32, h: u32, east: u32, table: &[u16], bits: &[u8], list: &mut [u16], room: &mut Room) -> Answer {
     let [settings, wires, sources, rows, marks, queue] = &mut room.build;
     unpack(unsafe {
         ice40_build(
-            w, h,
+            w, h, east,
             table.as_ptr(), table.len(),
             bits.as_ptr(), bits.len(),
             list.as_mut_ptr(), list.len(),
@@ -76,7 +76,7 @@ pub fn step(s: &Step, values: &mut [u8], next: &mut [u8], room: &mut Room) -> An
     let [first, second] = &mut room.bytes;
     unpack(unsafe {
         ice40_step(
-            s.w, s.h,
+            s.w, s.h, s.east,
             s.table.as_ptr(), s.table.len(),
             s.settings.as_ptr(), s.settings.len(),
             s.list.as_ptr(), s.list.len(),

@@ -10,18 +10,18 @@ typedef struct {
 #define LENT(k) const void *numbers##k, size_t length##k
 #define SLICE(k) &(Slice){numbers##k, length##k}
 
-uint64_t try_ice40_wire_number(uint32_t, uint32_t, uint32_t, uint32_t);
+uint64_t try_ice40_wire_number(uint32_t, uint32_t, uint32_t, uint32_t, uint32_t);
 uint64_t try_ice40_read(uint32_t, uint32_t, Slice *, Slice *, Slice *);
 uint64_t try_ice40_write(uint32_t, uint32_t, Slice *, Slice *, Slice *);
-uint64_t try_ice40_build(uint32_t, uint32_t, Slice *, Slice *, Slice *, Slice *, Slice *, Slice *, Slice *, Slice *, Slice *);
-uint64_t try_ice40_step(uint32_t, uint32_t, Slice *, Slice *, Slice *, Slice *, Slice *, Slice *, Slice *, Slice *, Slice *, Slice *, Slice *,
-                        Slice *, Slice *);
+uint64_t try_ice40_build(uint32_t, uint32_t, uint32_t, Slice *, Slice *, Slice *, Slice *, Slice *, Slice *, Slice *, Slice *, Slice *);
+uint64_t try_ice40_step(uint32_t, uint32_t, uint32_t, Slice *, Slice *, Slice *, Slice *, Slice *, Slice *, Slice *, Slice *, Slice *, Slice *,
+                        Slice *, Slice *, Slice *);
 uint64_t try_ice40_asc_read(uint32_t, uint32_t, uint32_t, uint32_t, Slice *, Slice *);
 uint64_t try_ice40_asc_length(uint32_t, uint32_t, uint32_t, uint32_t);
 uint64_t try_ice40_asc_write(uint32_t, uint32_t, uint32_t, uint32_t, Slice *, Slice *);
 
-uint64_t ice40_wire_number(uint32_t w, uint32_t h, uint32_t tile, uint32_t port) {
-    return try_ice40_wire_number(w, h, tile, port);
+uint64_t ice40_wire_number(uint32_t w, uint32_t h, uint32_t east, uint32_t tile, uint32_t port) {
+    return try_ice40_wire_number(w, h, east, tile, port);
 }
 
 uint64_t ice40_read(uint32_t w, uint32_t h, LENT(1), LENT(2), LENT(3)) {
@@ -32,13 +32,13 @@ uint64_t ice40_write(uint32_t w, uint32_t h, LENT(1), LENT(2), LENT(3)) {
     return try_ice40_write(w, h, SLICE(1), SLICE(2), SLICE(3));
 }
 
-uint64_t ice40_build(uint32_t w, uint32_t h, LENT(1), LENT(2), LENT(3), LENT(4), LENT(5), LENT(6), LENT(7), LENT(8), LENT(9)) {
-    return try_ice40_build(w, h, SLICE(1), SLICE(2), SLICE(3), SLICE(4), SLICE(5), SLICE(6), SLICE(7), SLICE(8), SLICE(9));
+uint64_t ice40_build(uint32_t w, uint32_t h, uint32_t east, LENT(1), LENT(2), LENT(3), LENT(4), LENT(5), LENT(6), LENT(7), LENT(8), LENT(9)) {
+    return try_ice40_build(w, h, east, SLICE(1), SLICE(2), SLICE(3), SLICE(4), SLICE(5), SLICE(6), SLICE(7), SLICE(8), SLICE(9));
 }
 
-uint64_t ice40_step(uint32_t w, uint32_t h, LENT(1), LENT(2), LENT(3), LENT(4), LENT(5), LENT(6), LENT(7), LENT(8), LENT(9), LENT(10),
-                    LENT(11), LENT(12), LENT(13)) {
-    return try_ice40_step(w, h, SLICE(1), SLICE(2), SLICE(3), SLICE(4), SLICE(5), SLICE(6), SLICE(7), SLICE(8), SLICE(9), SLICE(10),
+uint64_t ice40_step(uint32_t w, uint32_t h, uint32_t east, LENT(1), LENT(2), LENT(3), LENT(4), LENT(5), LENT(6), LENT(7), LENT(8), LENT(9),
+                    LENT(10), LENT(11), LENT(12), LENT(13)) {
+    return try_ice40_step(w, h, east, SLICE(1), SLICE(2), SLICE(3), SLICE(4), SLICE(5), SLICE(6), SLICE(7), SLICE(8), SLICE(9), SLICE(10),
                           SLICE(11), SLICE(12), SLICE(13));
 }
 

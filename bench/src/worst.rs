@@ -28,10 +28,10 @@ fn free_positions() -> Vec<u16> {
 /// The lowest port of each port's wire, as the library numbers them.
 fn wires() -> Vec<usize> {
     extern "C" {
-        fn ice40_wire_number(w: u32, h: u32, tile: u32, port: u32) -> u64;
+        fn ice40_wire_number(w: u32, h: u32, east: u32, tile: u32, port: u32) -> u64;
     }
     let side = SIDE as u32;
-    (0..TILES as u32).flat_map(|t| (0..PORTS as u32).map(move |q| unsafe { ice40_wire_number(side, side, t, q) as usize })).collect()
+    (0..TILES as u32).flat_map(|t| (0..PORTS as u32).map(move |q| unsafe { ice40_wire_number(side, side, 0, t, q) as usize })).collect()
 }
 
 impl Plan {
@@ -105,7 +105,7 @@ impl Table {
         let mut bits = vec![0; BYTES * TILES];
         let side = SIDE as u32;
         assert!(baseline::write(side, side, &self.numbers, settings, &mut bits).is_ok(), "{name}");
-        Block { name: name.to_string(), w: side, h: side, table: self.numbers, bits }
+        Block { name: name.to_string(), w: side, h: side, east: 0, table: self.numbers, bits }
     }
 }
 

@@ -221,12 +221,12 @@ fn copy(wire: usize, source: u16) -> Row {
     [5, wire as u16, source - 1, 0, 0, 0, 0]
 }
 
-pub fn build(w: u32, h: u32, table: &[u16], bits: &[u8], list: &mut [u16]) -> Answer {
-    let n = tiles(w, h)?;
+pub fn build(w: u32, h: u32, east: u32, table: &[u16], bits: &[u8], list: &mut [u16]) -> Answer {
+    let n = joined_tiles(w, h, east)?;
     lengths(&[(table.len(), TABLE), (bits.len(), BYTES * n), (list.len(), ROW * PORTS * n)])?;
     let claims = table::check(table)?;
     let settings = decode(table, &claims, bits)?;
-    let block = Block { w: w as usize, h: h as usize, settings, wires: wires(w, h) };
+    let block = Block { w: w as usize, h: h as usize, settings, wires: wires(w, h, east) };
     let sources = block.sources(table)?;
     let rows = block.rows(&sources);
     let order = order(&rows).map_err(|wire| no(7, wire as usize))?;

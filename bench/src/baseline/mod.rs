@@ -73,6 +73,15 @@ fn tiles(w: u32, h: u32) -> Result<usize, No> {
     }
 }
 
+/// The same for a call that rests on joins: `east` is 1 where the column to the east of the block is logic or RAM, else 0.
+fn joined_tiles(w: u32, h: u32, east: u32) -> Result<usize, No> {
+    if east < 2 {
+        tiles(w, h)
+    } else {
+        Err(no(1, 0))
+    }
+}
+
 /// Ground 2, from pairs of a length and what it must be.
 fn lengths(pairs: &[(usize, usize)]) -> Result<(), No> {
     if pairs.iter().all(|(a, b)| a == b) {

@@ -9,6 +9,7 @@ use super::*;
 pub struct Step<'a> {
     pub w: u32,
     pub h: u32,
+    pub east: u32,
     pub table: &'a [u16],
     pub settings: &'a [u16],
     pub list: &'a [u16],
@@ -128,13 +129,13 @@ fn clock_tile(settings: &[u16; SETTINGS], wires: &[u16; PORTS], values: &[u8], s
 }
 
 pub fn step(s: &Step, values: &mut [u8], next: &mut [u8]) -> Answer {
-    let n = tiles(s.w, s.h)?;
+    let n = joined_tiles(s.w, s.h, s.east)?;
     let ports = PORTS * n;
     lengths(&[(s.table.len(), TABLE), (s.settings.len(), SETTINGS * n), (s.list.len(), ROW * ports), (s.state.len(), CELLS * n)])?;
     lengths(&[(s.before.len(), ports), (s.after.len(), ports), (values.len(), ports), (next.len(), CELLS * n)])?;
     table::check(s.table)?;
     check_settings(s.table, s.settings)?;
-    let wires = wires(s.w, s.h);
+    let wires = wires(s.w, s.h, s.east);
     let rows = check_list(s.list, CELLS * n, &wires)?;
     check_bytes([s.state, s.before, s.after])?;
     let both = run(rows, s);

@@ -16,11 +16,11 @@ const SPAN4: Span = Span { names: 48, through: 36, shift: 12, h_l: 0, h_r: 48, v
 const SPAN12: Span = Span { names: 24, through: 22, shift: 2, h_l: 240, h_r: 264, v_t: 288, v_b: 312 };
 const SP4_R_V_B: usize = 192;
 
-/// The wires so far and the size of the block.
+/// The wires so far, the width of the block, and whether the column to its east is logic or RAM.
 struct Walk {
     wires: Vec<u16>,
     w: usize,
-    h: usize,
+    east: bool,
 }
 
 impl Walk {
@@ -57,32 +57,36 @@ impl Walk {
         }
     }
 
-    /// sp4_r_v_b: what the tile to the east has as sp4_v_b.
+    /// sp4_r_v_b: what the tile to the east has as sp4_v_b. That tile may be outside: its wires come from the row below, crossed.
     fn right(&mut self, at: usize, x: usize, y: usize) {
-        if x + 1 < self.w && y > 0 {
+        if y == 0 {
+            return;
+        }
+        if x + 1 < self.w {
             self.copy(at - PORTS * (self.w - 1) + SPAN4.v_t, at + SP4_R_V_B, 48);
+        } else if self.east {
+            let below = at - PORTS * self.w + SP4_R_V_B + SPAN4.shift;
+            for k in 0..SPAN4.through {
+                self.wires[at + SP4_R_V_B + k] = self.wires[below + (k ^ 1)];
+            }
         }
     }
 
-    /// The lowest port of output 0 of a tile: that of the tile furthest south and west that sees it.
-    fn output(&self, x: usize, y: usize) -> usize {
-        let (dx, dy) = (x.min(1), y.min(1));
-        let port = match (dx, dy) {
-            (0, 0) => OUT,
-            (1, 0) => NEIGH + 32,
-            (0, _) => NEIGH + 48,
-            _ => NEIGH + 56,
+    /// The lowest port of output 0 of a tile, be it outside: that of the tile of the block furthest south and west that sees it.
+    fn output(&self, x: i32, y: i32) -> usize {
+        let (from_x, from_y) = ((x - 1).max(0), (y - 1).max(0));
+        let port = match (x - from_x + 3 * (y - from_y) + 4) as usize {
+            4 => OUT,
+            d => NEIGH + 8 * (d - (d > 4) as usize), // the tile itself stands between its neighbours
         };
-        PORTS * ((y - dy) * self.w + x - dx) + port
+        PORTS * (from_y as usize * self.w + from_x as usize) + port
     }
 
     fn outputs(&mut self, at: usize, x: usize, y: usize) {
+        let (x, y) = (x as i32, y as i32);
         self.number(at + OUT, self.output(x, y), CELLS);
         for (d, (dx, dy)) in NEIGHBOURS.iter().enumerate() {
-            let (nx, ny) = ((x as i32 + dx) as usize, (y as i32 + dy) as usize);
-            if nx < self.w && ny < self.h {
-                self.number(at + NEIGH + 8 * d, self.output(nx, ny), CELLS);
-            }
+            self.number(at + NEIGH + 8 * d, self.output(x + dx, y + dy), CELLS);
         }
     }
 
@@ -110,9 +114,9 @@ impl Walk {
 }
 
 /// The lowest port of each port's wire.
-pub fn wires(w: u32, h: u32) -> Vec<u16> {
+pub fn wires(w: u32, h: u32, east: u32) -> Vec<u16> {
     let (w, h) = (w as usize, h as usize);
-    let mut walk = Walk { wires: (0..(PORTS * w * h) as u16).collect(), w, h };
+    let mut walk = Walk { wires: (0..(PORTS * w * h) as u16).collect(), w, east: east == 1 };
     for y in 0..h {
         for x in 0..w {
             walk.tile(x, y);

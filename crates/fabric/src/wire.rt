@@ -50,7 +50,7 @@ pub fn wire_at(b: Block, x: u32, y: u32, q: u32) -> u32
 }
 
 // The wire of port p of a block.
-// Rules out: a number that is another port of the same wire; a wire that a join through a tile outside the block makes.
+// Rules out: a number that is another port of the same wire; a wire that runs through a tile outside the block, but for what `Join` says.
 pub fn wire_of(b: Block, p: u32) -> u32
     requires { ⌜ Sized b × (p < ports b) ⌝ }
     ensures { λ r. ⌜ (r ≡ wireOf b p) × (r ≤ p) ⌝ }

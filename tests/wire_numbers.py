@@ -111,7 +111,7 @@ REFUSED = 6  # the last calls, all with ground 1 at place 0: a byte above 1, or 
 
 def answers():
     """What the library answers to the calls of DRIVER."""
-    subprocess.run(['rt', 'staticlib', 'capi'], cwd=ROOT, check=True, stdout=subprocess.DEVNULL)
+    subprocess.run(['rt', 'staticlib', 'capi'], cwd=ROOT, check=True, stdout=subprocess.DEVNULL, stderr=subprocess.DEVNULL)
     with tempfile.TemporaryDirectory() as folder:
         source, program = os.path.join(folder, 'all.c'), os.path.join(folder, 'all')
         with open(source, 'w') as f:

@@ -1,5 +1,5 @@
 -- What `build` answers and writes ("building [checks] 1 to 8 [..] in these orders").
-use Prim.Native.Nat.{ℕ}
+use Prim.Native.Nat.{ℕ, _*_}
 use mathlib.Core.Bool.{Bool}
 use mathlib.Core.List.{List}
 use lib.Dec.{leb}
@@ -14,7 +14,7 @@ use Rattle.loops.specs.Loops.{loopWire}
 use Rattle.routing.specs.LogicTile.{logicTile}
 use Rattle.routing.specs.TableCheck.{faultyPart, tableOk}
 use Rattle.codec.specs.Bits.{TileBits}
-use Rattle.config.specs.Blocks.{undecodableTile, decoded}
+use Rattle.config.specs.Blocks.{faultPlace, decoded}
 use Rattle.equations.specs.WireRows.{wireRows}
 use Rattle.equations.specs.Sources.{contendedWire, sourcesOf}
 use Rattle.drivers.specs.CarryReads.{carryReadWire}
@@ -48,7 +48,7 @@ listAnswer B t st =
 unfoldable pub bitsAnswer : Block → List ℕ → (ℕ → TileBits) → Built
 bitsAnswer B t tile =
     unless (tableOk logicTile t) (Refused (Table (faultyPart logicTile t)))
-    (unless (none (tiles B) (undecodableTile t tile (tiles B))) (Refused (Undecodable (undecodableTile t tile (tiles B))))
+    (unless (none (logicTile .positions * tiles B) (faultPlace t tile (tiles B))) (Refused (Undecodable (faultPlace t tile (tiles B))))
     (listAnswer B t (decoded t tile (tiles B))))
 
 -- grounds 1 to 8; `lengths` is whether every lent length is the exact one

@@ -137,9 +137,9 @@ pub fn list_bits(
     if part != parts {
         return Built::Refused(Refusal::Table(part as u32));
     }
-    let tile = config::blocks::read_block(table, &own, bits, settings, n);
-    if tile < n {
-        return Built::Refused(Refusal::Undecodable(tile as u32));
+    let place = config::blocks::read_block(table, &own, bits, settings, n);
+    if place < POSITIONS * n {
+        return Built::Refused(Refusal::Undecodable(place as u32));
     }
     list_settings(b, table, settings, list, wires, sources, rows, marks, queue)
 }

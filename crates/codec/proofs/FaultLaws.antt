@@ -1,4 +1,4 @@
--- A position at fault, by the slot that claims it and by the ownership map. Main laws: `fault-stray`, `-carry`, `-low`, `-inner`, `-group`;
+-- A position at fault, by the slot that claims it and by the ownership map. Main laws: `fault-stray`, `-carry`, `-low`, `-group`;
 -- the same by the map: `map-stray`, .. `map-group`. Assumes nothing.
 use mathlib.Core.Path.{_≡_, sym, _∙_, subst}
 use mathlib.Core.Logic.{_≢_, ⊎-elim}
@@ -6,7 +6,7 @@ use mathlib.Core.Bool.{true, false}
 use mathlib.Core.List.{List}
 use Prim.Native.Nat.{ℕ, _+_, _-_, _/_, _%_, _<_, _≤_}
 use native.Mathlib.Omega.{arith}
-use borrow.Author.Tests.{eq-eqb, ne-eqb, lt-ltb, le-ltb}
+use borrow.Author.Tests.{ne-eqb, lt-ltb, le-ltb}
 use lib.ListN.{getD}
 use Rattle.lists.proofs.CaseLaws.{lt-or-le}
 use Rattle.lists.proofs.SearchLaws.{first-le, first-true}
@@ -18,7 +18,7 @@ use Rattle.routing.proofs.OwnerLaws.{claims-used}
 use Rattle.routing.proofs.SlotLaws.{slot-cases}
 use Rattle.codec.specs.Bits.{isSetAt, bitAt, tileOf}
 use Rattle.codec.specs.Groups.{readGroup}
-use Rattle.codec.specs.Fault.{isUnlisted, carryPair, slotFault, faultAt}
+use Rattle.codec.specs.Fault.{pointsTo, carryPair, slotFault, faultAt}
 
 -- what the ownership map has for the CarryInSet field, and for the first position of group 0
 abbrev pub carryCode : ℕ
@@ -65,9 +65,9 @@ module _ (table bits : List ℕ) (p : ℕ) where
   fault-low n h = rw (ne-eqb mine (fieldSlots logicTile + carryInSet) n, lt-ltb mine (groupSlots logicTile) h)
 
   module _ (s : ℕ) (e : owner (slotsOf logicTile table) p ≡ groupSlots logicTile + s) (h : groupSlots logicTile + s < slotCount logicTile) where
-    pub fault-inner : s % maxPositions ≢ 0 → faultAt table (tileOf bits) p ≡ false
+    pub fault-group : faultAt table (tileOf bits) p ≡ pointsTo p (readGroup logicTile table (bitAt bits) (s / maxPositions))
     unfolding faultAt slotFault
-    fault-inner n =
+    fault-group =
         let q : groupSlots logicTile + s - groupSlots logicTile ≡ s = omega arith in
         rw (
           e,
@@ -75,20 +75,6 @@ module _ (table bits : List ℕ) (p : ℕ) where
           le-ltb (groupSlots logicTile + s) (groupSlots logicTile) (omega arith),
           lt-ltb (groupSlots logicTile + s) (slotCount logicTile) h,
           q,
-          ne-eqb (s % maxPositions) 0 n,
-        )
-
-    pub fault-group : s % maxPositions ≡ 0 → faultAt table (tileOf bits) p ≡ isUnlisted (readGroup logicTile table (bitAt bits) (s / maxPositions))
-    unfolding faultAt slotFault
-    fault-group n =
-        let q : groupSlots logicTile + s - groupSlots logicTile ≡ s = omega arith in
-        rw (
-          e,
-          ne-eqb (groupSlots logicTile + s) (fieldSlots logicTile + carryInSet) (λ z. omega arith),
-          le-ltb (groupSlots logicTile + s) (groupSlots logicTile) (omega arith),
-          lt-ltb (groupSlots logicTile + s) (slotCount logicTile) h,
-          q,
-          eq-eqb (s % maxPositions) 0 n,
         )
 
   -- ---- by the map, whose number is one more than the slot's
@@ -124,12 +110,8 @@ module _ (table bits : List ℕ) (p : ℕ) where
       map-low m l = fault-low (λ e. m (omega (arith, owner-some n .0))) (omega (arith, owner-some n .0))
 
       module _ (l : groupCode ≤ getD own p 0) where
-        pub map-inner : (getD own p 0 - groupCode) % maxPositions ≢ 0 → faultAt table (tileOf bits) p ≡ false
-        map-inner m = fault-inner (getD own p 0 - groupCode) (omega (arith, owner-some n .0)) (omega (arith, owner-some n .0, owner-some n .1)) m
-
-        pub map-group : (getD own p 0 - groupCode) % maxPositions ≡ 0 → faultAt table (tileOf bits) p ≡ isUnlisted
-            (readGroup logicTile table (bitAt bits) ((getD own p 0 - groupCode) / maxPositions))
-        map-group m = fault-group (getD own p 0 - groupCode) (omega (arith, owner-some n .0)) (omega (arith, owner-some n .0, owner-some n .1)) m
+        pub map-group : faultAt table (tileOf bits) p ≡ pointsTo p (readGroup logicTile table (bitAt bits) ((getD own p 0 - groupCode) / maxPositions))
+        map-group = fault-group (getD own p 0 - groupCode) (omega (arith, owner-some n .0)) (omega (arith, owner-some n .0, owner-some n .1))
 
         pub map-within : (getD own p 0 - groupCode) / maxPositions < groupCount logicTile table
         map-within =

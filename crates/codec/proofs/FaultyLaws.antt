@@ -1,10 +1,10 @@
 -- Ground 4 for one tile is what the paper says: the computed test of a position, and of a tile, against the sentences of specs/Reading.antt.
 -- Main laws: `fault-exact`; `tile-fault-exact`, `tile-fault-lowest`; `faulty-lt`. Assumes nothing.
-use mathlib.Core.Path.{_≡_, sym, ap, _∙_, subst}
+use mathlib.Core.Path.{_≡_, refl, sym, ap, _∙_, subst}
 use mathlib.Core.Logic.{_≢_, _↔_, ⊎-elim}
 use mathlib.Core.Bool.{true}
 use mathlib.Core.List.{List}
-use Prim.Native.Nat.{ℕ, _+_, _-_, _*_, _/_, _%_, _<_, _≤_}
+use Prim.Native.Nat.{ℕ, _+_, _-_, _*_, _/_, _<_, _≤_}
 use native.Mathlib.Omega.{arith}
 use borrow.Author.Tests.{eq-eqb, lt-ltb, eqb-true}
 use Rattle.lists.proofs.CaseLaws.{cases, clash, lt-or-le, eq-or-ne, and-left, and-right, and-true}
@@ -21,11 +21,11 @@ use Rattle.routing.proofs.TableOnceLaws.{table-once}
 use Rattle.routing.proofs.ClaimLaws.{claimed-exact}
 use Rattle.codec.specs.Bits.{isSetAt, bitAt, tileOf}
 use Rattle.codec.specs.Groups.{readGroup}
-use Rattle.codec.specs.Fault.{isUnlisted, carryPair, faultAt, tileFault}
+use Rattle.codec.specs.Fault.{pointsTo, carryPair, faultAt, tileFault}
 use Rattle.codec.specs.Reading.{Unclaimed, CarryPair, Faulty, unlisted, stray, carry-pair, Decodable}
-use Rattle.codec.proofs.FaultLaws.{used-group, fault-stray, fault-carry, fault-low, fault-inner, fault-group}
+use Rattle.codec.proofs.FaultLaws.{used-group, fault-stray, fault-carry, fault-low, fault-group}
 use Rattle.codec.proofs.TileRunLaws.{field-position-lt, group-position-lt}
-use Rattle.codec.proofs.ListedLaws.{unlisted-exact}
+use Rattle.codec.proofs.ListedLaws.{points-exact}
 
 -- ---- who owns a position
 
@@ -82,9 +82,10 @@ module _ (table bits : List ℕ) (T : TableRules logicTile table) where
   fault-of : (p : ℕ) → Faulty table (tileOf bits) p → faultAt table (tileOf bits) p ≡ true
   fault-of p (unlisted g h n m) =
       fault-group table bits (positionAt logicTile table g 0) (maxPositions * g) (group-owner table T g 0 h (T .groups g h .some-positions) ∙ omega arith)
-      (omega (arith, T .few-groups)) (omega arith)
-      ∙ ap (λ (x : ℕ). isUnlisted (readGroup logicTile table (bitAt bits) x)) (let e : maxPositions * g / maxPositions ≡ g = omega arith in e)
-      ∙ unlisted-exact table bits g (T .groups g h) .1 (n, m)
+      (omega (arith, T .few-groups))
+      ∙ ap (λ (x : ℕ). pointsTo (positionAt logicTile table g 0) (readGroup logicTile table (bitAt bits) x))
+      (let e : maxPositions * g / maxPositions ≡ g = omega arith in e)
+      ∙ points-exact table bits g (T .groups g h) (positionAt logicTile table g 0) .1 (n, m, refl)
   fault-of p (stray q h n e) = fault-stray table bits p (unclaimed-owner table T p n) ∙ eq-eqb _ 1 e
   fault-of p (carry-pair q) = fault-carry table bits (fieldAt table carryInSet) (field-owner table T carryInSet (omega arith)) ∙ carry-exact .1 q
 
@@ -119,19 +120,11 @@ module _ (table bits : List ℕ) (T : TableRules logicTile table) where
 
           high : groupSlots logicTile ≤ mine → Faulty table (tileOf bits) p
           high a =
-              ⊎-elim
-              (λ (e : (mine - groupSlots logicTile) % maxPositions ≡ 0).
               let g : ℕ = (mine - groupSlots logicTile) / maxPositions in
-              let h2 = used-group table mine a (claims-used (slotsOf logicTile table) p mine claim) .0 in
-              let n = unlisted-exact table bits g (T .groups g h2) .0
-              (sym (fault-group table bits p (mine - groupSlots logicTile) (omega arith) (omega arith) e) ∙ f) in
-              subst (Faulty table (tileOf bits))
-              (sym (slot-at-group logicTile table g 0 (omega arith)) ∙ ap (slotAt logicTile table)
-              (let q : groupSlot logicTile g + 0 ≡ mine = omega arith in q) ∙ at)
-              (unlisted g h2 (n .0) (n .1)))
-              (λ (n : (mine - groupSlots logicTile) % maxPositions ≢ 0).
-              clash f (fault-inner table bits p (mine - groupSlots logicTile) (omega arith) (omega arith) n))
-              (eq-or-ne ((mine - groupSlots logicTile) % maxPositions) 0)
+              let within = used-group table mine a (claims-used (slotsOf logicTile table) p mine claim) .0 in
+              let n = points-exact table bits g (T .groups g within) p .0
+              (sym (fault-group table bits p (mine - groupSlots logicTile) (omega arith) (omega arith)) ∙ f) in
+              subst (Faulty table (tileOf bits)) (n .2) (unlisted g within (n .0) (n .1))
 
   -- the computed test of a position is the paper's
   pub fault-exact : (p : ℕ) → p < 864 → (faultAt table (tileOf bits) p ≡ true) ↔ Faulty table (tileOf bits) p

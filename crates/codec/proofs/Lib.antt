@@ -11,7 +11,7 @@ pub mod CellLaws  -- put-cells-..: cells put into settings
 pub mod SettingAtLaws  -- setting-..: what is read to each setting, one law for each way
 pub mod DecodeLaws  -- decode-field, .. decode-flags: the decoding, kind by kind; setting-kinds; decode-filled
 pub mod FaultLaws  -- fault-..: a position at fault, by what claims it; map-..: by the ownership map
-pub mod ListedLaws  -- unlisted-exact: a group's pattern is zero, listed, or neither
+pub mod ListedLaws  -- unlisted-exact, points-exact: a group's pattern is zero, listed, or neither, and then its first position is at fault
 pub mod FaultyLaws  -- fault-exact, tile-fault-exact, tile-fault-lowest: ground 4 is what specs/Reading.antt says
 pub mod SettingsBack  -- settings-back: settings written and read back; encode-decodable
 pub mod BitsBack  -- bits-back: decodable bits read and written back

@@ -1,22 +1,23 @@
--- A group's pattern is zero, listed, or neither. Main laws: `unlisted-exact`: the computed test against the sentences of specs/Reading.antt;
--- `group-listed`. Assumes nothing.
+-- A group's pattern is zero, listed, or neither. Main laws: `unlisted-exact`, `points-exact`: the computed tests against the sentences of
+-- specs/Reading.antt; `group-listed`. Assumes nothing.
 use Rattle.codec.specs.Bits.{bitAt}
 use mathlib.Core.Path.{_≡_, refl, sym, ap, _∙_}
 use mathlib.Core.Logic.{_≢_, _↔_, _⊎_, inl, inr, ⊎-elim}
-use mathlib.Core.Bool.{true, false}
+use mathlib.Core.Bool.{true, false, _&&_}
 use mathlib.Core.List.{List}
 use Prim.Native.Nat.{ℕ, suc, _<_, _≤_}
 use native.Mathlib.Omega.{arith}
-use borrow.Author.Tests.{eqb-true}
-use Rattle.lists.proofs.CaseLaws.{cases, clash, lt-or-le, eq-or-ne}
+use borrow.Author.Tests.{eq-eqb, eqb-true}
+use lib.Dec.{eqb}
+use Rattle.lists.proofs.CaseLaws.{cases, clash, lt-or-le, eq-or-ne, and-left, and-right, and-true}
 use Rattle.lists.proofs.SearchLaws.{first-true}
 use Rattle.routing.specs.LogicTile.{logicTile}
-use Rattle.routing.specs.Table.{entryCount, patternAt, hasPattern, entryOf}
+use Rattle.routing.specs.Table.{positionAt, entryCount, patternAt, hasPattern, entryOf}
 use Rattle.routing.specs.Rules.{GroupRules}
 use Rattle.codec.specs.Groups.{groupPattern, settingOfPattern, readGroup}
-use Rattle.codec.specs.Fault.{isUnlisted}
+use Rattle.codec.specs.Fault.{isUnlisted, pointsTo}
 use Rattle.codec.specs.Reading.{Off, Listed}
-use Rattle.codec.proofs.GroupLaws.{setting-unlisted, setting-back}
+use Rattle.codec.proofs.GroupLaws.{setting-unlisted, points-is, setting-back}
 
 module _ (table bits : List ℕ) (g : ℕ) where
   -- a pattern that is not unlisted is zero or an entry's
@@ -58,3 +59,18 @@ module _ (table bits : List ℕ) (g : ℕ) where
     λ n. ⊎-elim (λ u. u) (λ u. ⊎-elim (λ z. absurd (n .0 z)) (λ q. absurd (n .1 (q .0) (q .1))) (group-listed u))
         (cases (isUnlisted (readGroup logicTile table (bitAt bits) g))),
   )
+
+  -- reading the group points to a position exactly if its pattern is neither zero nor an entry's, and the position is its first
+  pub points-exact : GroupRules logicTile table g → (p : ℕ)
+      → (pointsTo p (readGroup logicTile table (bitAt bits) g) ≡ true)
+      ↔ ((Off table (bitAt bits) g → ⊥) × ((e : ℕ) → Listed table (bitAt bits) g e → ⊥) × (positionAt logicTile table g 0 ≡ p))
+  points-exact R p =
+      let unlisted = isUnlisted (readGroup logicTile table (bitAt bits) g) in
+      let points : pointsTo p (readGroup logicTile table (bitAt bits) g) ≡ (unlisted && eqb (positionAt logicTile table g 0) p) =
+      points-is logicTile table g p (groupPattern logicTile table (bitAt bits) g) in (
+        λ u.
+            let both = sym points ∙ u in
+            let n = unlisted-exact R .0 (and-left unlisted _ both) in
+            (n .0, n .1, eqb-true _ p (and-right unlisted _ both)),
+        λ n. points ∙ and-true (unlisted-exact R .1 (n .0, n .1)) (eq-eqb _ p (n .2)),
+      )

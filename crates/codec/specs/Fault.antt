@@ -1,5 +1,5 @@
 -- Ground 4 for one tile, computed: the lowest position at fault.
-use Prim.Native.Nat.{ℕ, _+_, _-_, _/_, _%_}
+use Prim.Native.Nat.{ℕ, _+_, _-_, _/_}
 use mathlib.Core.Bool.{Bool, true, false, cond, _&&_}
 use mathlib.Core.List.{List}
 use lib.Dec.{eqb, ltb}
@@ -15,20 +15,24 @@ use Rattle.codec.specs.declared.groups.GroupRead.the-variants.{Setting, 
 
 abbrev pub isUnlisted : GroupRead → Bool
 isUnlisted (Setting s) = false
-isUnlisted Unlisted = true
+isUnlisted (Unlisted first) = true
+
+-- reading a group says that position p is at fault
+abbrev pub pointsTo : ℕ → GroupRead → Bool
+pointsTo p (Setting s) = false
+pointsTo p (Unlisted first) = eqb first p
 
 unfoldable pub carryPair : List ℕ → (ℕ → ℕ) → Bool
 carryPair table bit = isSetAt bit (fieldAt table carryInSet) && isSetAt bit (fieldAt table carryChain)
 
 module _ (table : List ℕ) (tile : TileBits) where
-  -- position p is at fault, where slot s claims it: the CarryInSet field, if the chain switch is set too; the first position of a group, if its
-  -- pattern is neither zero nor listed; no other claimed position; and one that nothing claims, if it is set
+  -- position p is at fault, where slot s claims it: the CarryInSet field, if the chain switch is set too; a group's position, if reading the group
+  -- says so; no other claimed position; and one that nothing claims, if it is set
   unfoldable pub slotFault : ℕ → ℕ → Bool
   slotFault p s =
       cond (eqb s (fieldSlots logicTile + carryInSet)) (carryPair table (tile .bit))
       (cond (ltb s (groupSlots logicTile)) false
-      (cond (ltb s (slotCount logicTile))
-      (cond (eqb ((s - groupSlots logicTile) % maxPositions) 0) (isUnlisted (readGroup logicTile table (tile .bit) ((s - groupSlots logicTile) / maxPositions))) false)
+      (cond (ltb s (slotCount logicTile)) (pointsTo p (readGroup logicTile table (tile .bit) ((s - groupSlots logicTile) / maxPositions)))
       (isSetAt (tile .bit) p)))
 
   unfoldable pub faultAt : ℕ → Bool

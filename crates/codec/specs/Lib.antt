@@ -1,7 +1,7 @@
 -- A tile's bits and its settings.
 pub mod Bits  -- believed. bitAt: the bit at a position; bitCount. setBit: a bit written
 pub mod Settings  -- believed. The layout of a tile's settings
-pub mod Groups  -- believed: groupPattern; the rest is computed: unlisted-exact. readGroup: the setting that a group's bits give
+pub mod Groups  -- believed: groupPattern; the rest is computed: points-exact. readGroup: the setting that a group's bits give, or the position at fault
 pub mod Cells  -- computed: decode-reads, bits-back. The eight cells, by value
 pub mod Reading  -- believed. Decodable, ReadsTo: reading, sentence by sentence; HasBits
 pub mod Decode  -- computed: decode-reads, reads-unique. decode: reading

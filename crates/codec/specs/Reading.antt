@@ -49,7 +49,7 @@ module _ (table : List ℕ) (bit : ℕ → ℕ) where
 module _ (table : List ℕ) (tile : TileBits) where
   -- "Any other is undecodable, and so is a set bit that nothing claims, and CarryInSet together with the chain switch."
   -- A position at fault: "the group's first position for an unlisted pattern, the set bit itself for an unclaimed one, the CarryInSet
-  -- position for the carry pair" (document 02, W5; here it is what decides the lowest tile).
+  -- position for the carry pair" (document 02, W5).
   pub data Faulty : ℕ → Type 0 where
     unlisted : (g : ℕ) → g < groupCount logicTile table → (Off table (tile .bit) g → ⊥) → ((e : ℕ) → Listed table (tile .bit) g e → ⊥) → Faulty (positionAt logicTile table g 0)
     stray : (p : ℕ) → p < logicTile .positions → Unclaimed table p → tile .bit p ≡ 1 → Faulty p

@@ -8,7 +8,7 @@ ghost use Rattle.routing.specs.Slots.{Owned, slotsOf, slotCount};
 ghost use Rattle.ports.specs.Lengths.{tileNumbers};
 ghost use Rattle.codec.specs.Bits.{bitAt, tileOf};
 ghost use Rattle.codec.specs.Groups.{GroupLent, readGroup};
-ghost use Rattle.codec.specs.Fault.{isUnlisted, carryPair, faultAt};
+ghost use Rattle.codec.specs.Fault.{pointsTo, carryPair, faultAt};
 use crate::bits::read_bit;
 use crate::groups::GroupRead;
 use crate::groups::read_group;
@@ -23,15 +23,15 @@ const SET_FIELD: usize = FIELD_SLOTS + CARRY_IN_SET + 1;
 
 const GROUPS: usize = GROUP_SLOTS + 1;
 
-// Whether a group's pattern is neither zero nor listed.
-pub fn is_unlisted(table: &[u16], g: usize, bits: &[u8]) -> bool
+// Whether reading a group says that position p is at fault.
+pub fn is_group_fault(table: &[u16], g: usize, bits: &[u8], p: usize) -> bool
     requires { ⌜ GroupLent (now table) g (now bits) ⌝ }
-    ensures { λ r. ⌜ r ≡ isUnlisted (readGroup logicTile (now (table .entry)) (bitAt (now (bits .entry))) g) ⌝ }
+    ensures { λ r. ⌜ r ≡ pointsTo p (readGroup logicTile (now (table .entry)) (bitAt (now (bits .entry))) g) ⌝ }
 {
     let r = read_group(table, g, bits);
     match r {
         GroupRead::Setting(_) => false,
-        GroupRead::Unlisted => true,
+        GroupRead::Unlisted(first) => first == p,
     }
 }
 
@@ -65,9 +65,6 @@ pub fn is_fault_at(table: &[u16], own: &[u16], bits: &[u8], p: usize) -> bool
     if code < GROUPS {
         return false;
     }
-    let s = code - GROUPS;
-    if s % MAX_POSITIONS == 0 {
-        return is_unlisted(table, s / MAX_POSITIONS, bits);
-    }
-    false
+    let g = (code - GROUPS) / MAX_POSITIONS;
+    is_group_fault(table, g, bits, p)
 }

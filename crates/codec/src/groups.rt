@@ -9,10 +9,10 @@ ghost use Rattle.codec.specs.Groups.{GroupLent, groupBit, groupPattern, 
 use crate::bits::read_bit;
 use crate::bits::write_clear_bit;
 
-// What reading a group gives: 0 for off, an entry from 1, or a pattern that the table does not list.
+// What reading a group gives: 0 for off, an entry from 1, or, for a pattern that the table does not list, the position at fault.
 pub enum GroupRead {
     Setting(u16),
-    Unlisted,
+    Unlisted(usize),
 }
 
 // The pattern that a group's bits have, the first position with weight 1.
@@ -45,7 +45,8 @@ pub fn setting_of(table: &[u16], g: usize, pattern: u16) -> GroupRead
     if e < n {
         return GroupRead::Setting(e as u16 + 1);
     }
-    GroupRead::Unlisted
+    let first = routing::table::position(table, g, 0);
+    GroupRead::Unlisted(first)
 }
 
 // The setting that a group's bits give.

@@ -33,7 +33,7 @@ pub fn group_setting(table: &[u16], g: usize, bits: &[u8]) -> u16
     let r = read_group(table, g, bits);
     match r {
         GroupRead::Setting(s) => s,
-        GroupRead::Unlisted => 0,
+        GroupRead::Unlisted(_) => 0,
     }
 }
 

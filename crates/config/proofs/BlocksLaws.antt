@@ -1,17 +1,17 @@
 -- The tiles of a block that was decoded or encoded, and what the tests of a tile say of it. Main laws: `decoded-at`, `decoded-reads`,
--- `undecodable-lowest`; `encoded-at`, `encoded-reads`, `bitless-lowest`, `none-bitless`. Assumes nothing.
+-- `encoded-at`, `encoded-reads`, `bitless-lowest`, `none-bitless`. Assumes nothing.
 use mathlib.Core.Path.{_≡_, sym, subst}
-use mathlib.Core.Bool.{true, false}
+use mathlib.Core.Bool.{true}
 use mathlib.Core.Logic.{⊎-elim}
 use mathlib.Core.List.{List, _++_}
 use Prim.Native.Nat.{ℕ, zero, suc, _+_, _-_, _*_, _^_, _<_, _≤_}
 use native.Mathlib.Omega.{arith}
-use borrow.Author.Tests.{ltb-true, ltb-false, le-ltb, not-true, not-false}
+use borrow.Author.Tests.{not-true, not-false}
 use lib.ListN.{length, take, getD, List·getD-append}
 use lib.Seq.{length-take-le, getD-append-add}
 use Rattle.lists.specs.Parts.{joined}
 use Rattle.lists.proofs.CaseLaws.{clash, lt-or-le}
-use Rattle.lists.proofs.SearchLaws.{first-le, first-true, first-before}
+use Rattle.lists.proofs.SearchLaws.{first-true, first-before}
 use Rattle.lists.proofs.PartLaws.{part-length, joined-length, part-joined}
 use Rattle.routing.specs.LogicTile.{logicTile}
 use Rattle.routing.specs.Rules.{TableRules}
@@ -21,17 +21,15 @@ use Rattle.codec.specs.Bits.{unit, bitAt, tileOf, Bytes}
 use Rattle.codec.specs.Reading.{Decodable, ReadsTo, HasBits}
 use Rattle.codec.specs.Decode.{decode}
 use Rattle.codec.specs.Encode.{encode, slotValue}
-use Rattle.codec.specs.Fault.{faultAt, tileFault}
 use Rattle.codec.specs.Limits.{settingsFit}
 use Rattle.codec.specs.Writing.{Writable}
 use Rattle.codec.proofs.DecodeLaws.{decode-length}
 use Rattle.codec.proofs.EncodeLaws.{encode-length, encode-bytes}
 use Rattle.codec.proofs.TileRunLaws.{slot-value-lt}
-use Rattle.codec.proofs.FaultyLaws.{tile-fault-exact, tile-fault-lowest}
 use Rattle.codec.proofs.ReadingLaws.{decode-reads, settings-fit-exact}
 use Rattle.codec.proofs.SettingsBack.{settings-back, encode-decodable}
-use Rattle.config.specs.Blocks.{bitsAt, settingsAt, roomLength, undecodableAt, undecodableTile, decodedAt, decoded, bitlessAt, bitlessTile, encodedAt, encoded, tilesOf}
-use Rattle.config.specs.Facts.{LowestUndecodable, LowestBitless, TilesRead}
+use Rattle.config.specs.Blocks.{bitsAt, settingsAt, roomLength, decodedAt, decoded, bitlessAt, bitlessTile, encodedAt, encoded, tilesOf}
+use Rattle.config.specs.Facts.{LowestBitless, TilesRead}
 
 -- the bits, and the settings, of a tile have a tile's length
 pub bits-at-length : (bits : List ℕ) (n t : ℕ) → length bits ≡ tileNumbers * n → t < n → length (bitsAt bits t) ≡ tileNumbers
@@ -60,32 +58,10 @@ module _ (table bits : List ℕ) (n : ℕ) where
   decoded-at t h = part-joined settingsLength (decodedAt table (tilesOf bits)) n t h decoded-tile
 
   module _ (T : TableRules logicTile table) where
-    -- a tile that is not undecodable can be decoded, and the other way
-    pub clean-decodable : (t : ℕ) → undecodableAt table (tilesOf bits) t ≡ false → Decodable table (tileOf (bitsAt bits t))
-    unfolding undecodableAt
-    clean-decodable t e =
-        tile-fault-exact table (bitsAt bits t) T .0
-        (omega (arith, ltb-false (tileFault table (tileOf (bitsAt bits t))) (logicTile .positions) e, first-le (faultAt table (tileOf (bitsAt bits t))) 0 864))
-
-    pub decodable-clean : (t : ℕ) → Decodable table (tileOf (bitsAt bits t)) → undecodableAt table (tilesOf bits) t ≡ false
-    unfolding undecodableAt
-    decodable-clean t D = le-ltb (tileFault table (tileOf (bitsAt bits t))) (logicTile .positions) (omega (arith, tile-fault-exact table (bitsAt bits t) T .1 D))
-
-    pub undecodable-lowest : undecodableTile table (tilesOf bits) n < n → LowestUndecodable table (tilesOf bits) n (undecodableTile table (tilesOf bits) n)
-    unfolding undecodableAt
-    undecodable-lowest h = record {
-      within = h;
-      position = tileFault table (tileOf (bitsAt bits (undecodableTile table (tilesOf bits) n)));
-      faulty = tile-fault-lowest table (bitsAt bits (undecodableTile table (tilesOf bits) n)) T
-          (ltb-true (tileFault table (tileOf (bitsAt bits (undecodableTile table (tilesOf bits) n)))) (logicTile .positions) (first-true (undecodableAt table (tilesOf bits)) 0 n (omega arith)))
-          .0;
-      lower = λ s l. clean-decodable s (first-before (undecodableAt table (tilesOf bits)) 0 n s (omega arith) l);
-    }
-
     -- what is decoded is what the bits read to
-    pub decoded-reads : ((t : ℕ) → t < n → undecodableAt table (tilesOf bits) t ≡ false) → TilesRead table (tilesOf bits) (decoded table (tilesOf bits) n) n
+    pub decoded-reads : ((t : ℕ) → t < n → Decodable table (tilesOf bits t)) → TilesRead table (tilesOf bits) (decoded table (tilesOf bits) n) n
     decoded-reads clean = record {
-      decodable = λ t l. clean-decodable t (clean t l);
+      decodable = clean;
       reads = λ t l. subst (ReadsTo table (bitAt (bitsAt bits t))) (sym (decoded-at t l)) (decode-reads table (bitsAt bits t) T);
     }
 

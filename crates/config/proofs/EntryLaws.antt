@@ -17,7 +17,7 @@ use Rattle.routing.specs.LogicTile.{logicTile}
 use Rattle.ports.specs.Lengths.{tableLength, bitsLength, settingsTotal}
 use Rattle.routing.specs.TableCheck.{faultyPart, partCount, tableOk}
 use Rattle.routing.proofs.TableCheckLaws.{table-exact}
-use Rattle.config.specs.Blocks.{undecodableTile, bitlessTile, tilesOf}
+use Rattle.config.specs.Blocks.{faultPlace, bitlessTile, tilesOf}
 use Rattle.config.specs.Entry.{lengthsOk, readAnswer, writeAnswer}
 use Rattle.config.specs.Facts.{ExactLengths, Checked}
 
@@ -59,8 +59,8 @@ module _ (S : Size) (table bits : List ℕ) (settings : ℕ) where
     read-table l p e n =
         rw (allowed-true S s, lengths-true S (length table) (length bits) settings l, ← e, ne-eqb p (partCount logicTile table) n)
 
-  module _ (C : Checked S table (length bits) settings) (t : ℕ) (e : t ≡ undecodableTile table (tilesOf bits) (tileCount S)) where
-    pub read-undecodable : t < tileCount S → Refused (Undecodable t) ≡ readAnswer S table bits settings
+  module _ (C : Checked S table (length bits) settings) (k : ℕ) (e : k ≡ faultPlace table (tilesOf bits) (tileCount S)) where
+    pub read-undecodable : k < logicTile .positions * tileCount S → Refused (Undecodable k) ≡ readAnswer S table bits settings
     unfolding readAnswer
     read-undecodable l =
         rw (
@@ -68,10 +68,10 @@ module _ (S : Size) (table bits : List ℕ) (settings : ℕ) where
           lengths-true S (length table) (length bits) settings (C .lengths),
           table-true S table (length bits) settings C,
           ← e,
-          lt-leb (tileCount S) t l,
+          lt-leb (logicTile .positions * tileCount S) k l,
         )
 
-    pub read-done : tileCount S ≤ t → Done ≡ readAnswer S table bits settings
+    pub read-done : logicTile .positions * tileCount S ≤ k → Done ≡ readAnswer S table bits settings
     unfolding readAnswer
     read-done l =
         rw (
@@ -79,7 +79,7 @@ module _ (S : Size) (table bits : List ℕ) (settings : ℕ) where
           lengths-true S (length table) (length bits) settings (C .lengths),
           table-true S table (length bits) settings C,
           ← e,
-          le-leb (tileCount S) t l,
+          le-leb (logicTile .positions * tileCount S) k l,
         )
 
 -- ---- writing, ground by ground

@@ -2,7 +2,7 @@
 use mathlib.Core.Path.{_≡_, refl, sym, subst}
 use mathlib.Core.Bool.{true, false}
 use mathlib.Core.List.{List}
-use Prim.Native.Nat.{ℕ}
+use Prim.Native.Nat.{ℕ, _*_}
 use native.Mathlib.Omega.{arith}
 use borrow.Author.Tests.{leb-true, leb-false, not-false}
 use lib.Dec.{leb}
@@ -19,15 +19,16 @@ use Rattle.ports.proofs.BlockLaws.{allowed-exact, allowed-true}
 use Rattle.routing.specs.LogicTile.{logicTile}
 use Rattle.routing.specs.TableCheck.{faultyPart, tableOk}
 use Rattle.routing.proofs.TableCheckLaws.{table-broken}
-use Rattle.config.specs.Blocks.{undecodableAt, undecodableTile, decoded, bitlessAt, bitlessTile, encoded, tilesOf}
+use Rattle.config.specs.Blocks.{faultPlace, decoded, bitlessAt, bitlessTile, encoded, tilesOf}
 use Rattle.config.specs.Entry.{lengthsOk, readAnswer, writeAnswer}
 use Rattle.config.specs.Facts.{NoSize, NoLength, NoTable}
 use Rattle.config.specs.Meaning.{ReadSays, wrong-size, wrong-length, broken, undecodable}
 use Rattle.config.specs.WriteMeaning.{WriteSays}
 use Rattle.config.specs.WriteMeaning as writing
 use Rattle.config.proofs.EntryLaws.{lengths-exact, lengths-true}
+use Rattle.config.proofs.FaultPlaceLaws.{fault-place-lowest, no-fault-decodable}
 use Rattle.config.proofs.PassedLaws.{checks-cases, checked-of}
-use Rattle.config.proofs.BlocksLaws.{decoded-length, decoded-reads, undecodable-lowest, encoded-length, encoded-reads, bitless-lowest}
+use Rattle.config.proofs.BlocksLaws.{decoded-length, decoded-reads, encoded-length, encoded-reads, bitless-lowest}
 
 -- ---- the grounds that reading and writing share
 
@@ -52,15 +53,15 @@ module _ (S : Size) (table bits : List ℕ) where
   unfolding readAnswer
   read-means settings =
       checks-cases (allowed S) (lengthsOk S (length table) (length bits) (length settings)) (tableOk logicTile table)
-      (leb (tileCount S) (undecodableTile table (tilesOf bits) (tileCount S))) (faultyPart logicTile table)
-      (Undecodable (undecodableTile table (tilesOf bits) (tileCount S)))
+      (leb (logicTile .positions * tileCount S) (faultPlace table (tilesOf bits) (tileCount S))) (faultyPart logicTile table)
+      (Undecodable (faultPlace table (tilesOf bits) (tileCount S)))
       (λ (a : Answer). ReadSays S table bits settings (output (answerNumber a) settings (decoded table (tilesOf bits) (tileCount S))) a)
       (λ s. (refl, wrong-size (no-size S table (length bits) (length settings) s)))
       (λ s l. (refl, wrong-length (no-length S table (length bits) (length settings) s l)))
       (λ s l t. (refl, broken _ (no-table S table (length bits) (length settings) s l t)))
       (λ s l t c.
       let C = checked-of S table (length bits) (length settings) s l t in
-      (refl, undecodable _ C (undecodable-lowest table bits (tileCount S) (C .rules) (leb-false (tileCount S) _ c))))
+      (refl, undecodable _ C (fault-place-lowest table bits (C .rules) (tileCount S) (leb-false _ _ c))))
       (λ s l t c.
       let C = checked-of S table (length bits) (length settings) s l t in (
         record {
@@ -72,8 +73,7 @@ module _ (S : Size) (table bits : List ℕ) where
           };
           rules = C .rules;
         },
-        decoded-reads table bits (tileCount S) (C .rules) (λ i z. first-before (undecodableAt table (tilesOf bits)) 0 (tileCount S) i (omega arith)
-            (omega (arith, leb-true (tileCount S) (undecodableTile table (tilesOf bits) (tileCount S)) c))),
+        decoded-reads table bits (tileCount S) (C .rules) (no-fault-decodable table bits (C .rules) (tileCount S) (leb-true _ _ c)),
       ))
 
   -- the same over what `read` promises of its answer and of the lent settings

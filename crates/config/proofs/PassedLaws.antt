@@ -3,7 +3,7 @@
 use mathlib.Core.Path.{_≡_, refl}
 use mathlib.Core.Bool.{Bool, true, false}
 use mathlib.Core.List.{List}
-use Prim.Native.Nat.{ℕ, _<_}
+use Prim.Native.Nat.{ℕ, _*_, _<_}
 use native.Mathlib.Omega.{arith}
 use borrow.Author.Tests.{leb-true, not-false}
 use lib.Dec.{leb}
@@ -21,10 +21,12 @@ use Rattle.routing.specs.LogicTile.{logicTile}
 use Rattle.routing.specs.TableCheck.{faultyPart, tableOk}
 use Rattle.routing.proofs.TableCheckLaws.{table-exact}
 use Rattle.codec.specs.Limits.{settingsFit}
-use Rattle.config.specs.Blocks.{settingsAt, undecodableAt, undecodableTile, bitlessAt, bitlessTile, tilesOf}
+use Rattle.codec.specs.Reading.{Decodable}
+use Rattle.config.specs.Blocks.{settingsAt, faultPlace, bitlessAt, bitlessTile, tilesOf}
 use Rattle.config.specs.Entry.{lengthsOk, readAnswer, writeAnswer}
 use Rattle.config.specs.Facts.{Checked}
 use Rattle.config.proofs.EntryLaws.{lengths-exact}
+use Rattle.config.proofs.FaultPlaceLaws.{no-fault-decodable}
 
 -- grounds 1, 2, 3 and that of the tiles, from their tests
 abbrev pub checks : Bool → Bool → Bool → Bool → ℕ → Refusal → Answer
@@ -75,18 +77,16 @@ checked-of S table bits settings s l t =
 
 module _ (S : Size) (table bits : List ℕ) (settings : ℕ) (done : readAnswer S table bits settings ≡ Done) where
   read-pass : AllPass (allowed S) (lengthsOk S (length table) (length bits) settings) (tableOk logicTile table)
-      (leb (tileCount S) (undecodableTile table (tilesOf bits) (tileCount S)))
+      (leb (logicTile .positions * tileCount S) (faultPlace table (tilesOf bits) (tileCount S)))
   unfolding readAnswer
-  read-pass = checks-done _ _ _ _ (faultyPart logicTile table) (Undecodable (undecodableTile table (tilesOf bits) (tileCount S))) done
+  read-pass = checks-done _ _ _ _ (faultyPart logicTile table) (Undecodable (faultPlace table (tilesOf bits) (tileCount S))) done
 
   pub read-passed : Checked S table (length bits) settings
   read-passed = checked-of S table (length bits) settings (read-pass .size-pass) (read-pass .lengths-pass) (read-pass .table-pass)
 
   -- no tile has a position at fault
-  pub read-clean : (t : ℕ) → t < tileCount S → undecodableAt table (tilesOf bits) t ≡ false
-  read-clean t l =
-      first-before (undecodableAt table (tilesOf bits)) 0 (tileCount S) t (omega arith)
-      (omega (arith, leb-true (tileCount S) (undecodableTile table (tilesOf bits) (tileCount S)) (read-pass .clean-pass)))
+  pub read-clean : (t : ℕ) → t < tileCount S → Decodable table (tilesOf bits t)
+  read-clean = no-fault-decodable table bits (read-passed .rules) (tileCount S) (leb-true _ _ (read-pass .clean-pass))
 
 module _ (S : Size) (table settings : List ℕ) (bits : ℕ) (done : writeAnswer S table settings bits ≡ Done) where
   write-pass : AllPass (allowed S) (lengthsOk S (length table) bits (length settings)) (tableOk logicTile table)

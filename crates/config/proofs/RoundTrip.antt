@@ -17,15 +17,17 @@ use Rattle.ports.specs.Lengths.{tileNumbers, settingsLength}
 use Rattle.codec.specs.Decode.{decode}
 use Rattle.codec.specs.Encode.{encode}
 use Rattle.codec.specs.Limits.{settingsFit}
+use Rattle.codec.specs.Reading.{Decodable}
 use Rattle.codec.proofs.ReadingLaws.{decode-fits}
 use Rattle.codec.proofs.SettingsBack.{settings-back}
 use Rattle.codec.proofs.BitsBack.{bits-back}
-use Rattle.config.specs.Blocks.{bitsAt, settingsAt, undecodableAt, decodedAt, decoded, bitlessAt, encodedAt, encoded, tilesOf}
+use Rattle.config.specs.Blocks.{bitsAt, settingsAt, decodedAt, decoded, bitlessAt, encodedAt, encoded, tilesOf}
 use Rattle.config.specs.Entry.{readAnswer, writeAnswer}
 use Rattle.config.specs.Facts.{Checked}
 use Rattle.config.proofs.EntryLaws.{read-done, write-done}
+use Rattle.config.proofs.FaultPlaceLaws.{decodable-no-fault}
 use Rattle.config.proofs.PassedLaws.{read-passed, read-clean, write-passed, write-fit}
-use Rattle.config.proofs.BlocksLaws.{bits-at-length, decoded-length, decoded-at, clean-decodable, decodable-clean, encoded-length, encoded-at, encoded-reads, fit-writable}
+use Rattle.config.proofs.BlocksLaws.{bits-at-length, decoded-length, decoded-at, encoded-length, encoded-at, encoded-reads, fit-writable}
 
 -- "Writing settings gives bits that read back the same"
 module _ (S : Size) (table settings : List ℕ) (bits : ℕ) (done : writeAnswer S table settings bits ≡ Done) where
@@ -35,10 +37,8 @@ module _ (S : Size) (table settings : List ℕ) (bits : ℕ) (done : writeAnswer
   abbrev written : List ℕ
   written = encoded table settings (tileCount S)
 
-  written-clean : (t : ℕ) → t < tileCount S → undecodableAt table (tilesOf written) t ≡ false
-  written-clean t l =
-      decodable-clean table written (tileCount S) (W .rules) t
-      (encoded-reads table settings (tileCount S) (W .rules) (W .lengths .settings-long) (write-fit S table settings bits done) .decodable t l)
+  written-clean : (t : ℕ) → t < tileCount S → Decodable table (tilesOf written t)
+  written-clean = encoded-reads table settings (tileCount S) (W .rules) (W .lengths .settings-long) (write-fit S table settings bits done) .decodable
 
   written-back : (t : ℕ) → t < tileCount S → decodedAt table (tilesOf written) t ≡ settingsAt settings t
   unfolding decodedAt
@@ -59,7 +59,7 @@ module _ (S : Size) (table settings : List ℕ) (bits : ℕ) (done : writeAnswer
       };
       rules = W .rules;
     })
-        (tileCount S) (sym (first-none (undecodableAt table (tilesOf written)) (tileCount S) written-clean)) (omega arith)),
+        _ (decodable-no-fault table written (W .rules) (tileCount S) written-clean) (omega arith)),
     joined-is settingsLength (tileCount S) (decodedAt table (tilesOf written)) settings (W .lengths .settings-long) written-back,
   )
 
@@ -75,14 +75,14 @@ module _ (S : Size) (table bits : List ℕ) (settings : ℕ) (by : Bytes bits) (
   unfolding bitlessAt
   taken-fits t l =
       ap not (ap (settingsFit table) (decoded-at table bits (tileCount S) t l)
-      ∙ decode-fits table (bitsAt bits t) (R .rules) (clean-decodable table bits (tileCount S) (R .rules) t (read-clean S table bits settings done t l)))
+      ∙ decode-fits table (bitsAt bits t) (R .rules) (read-clean S table bits settings done t l))
 
   taken-back : (t : ℕ) → t < tileCount S → encodedAt table taken t ≡ bitsAt bits t
   unfolding encodedAt
   taken-back t l =
       ap (encode table) (decoded-at table bits (tileCount S) t l)
       ∙ bits-back table (bitsAt bits t) (R .rules)
-      (clean-decodable table bits (tileCount S) (R .rules) t (read-clean S table bits settings done t l))
+      (read-clean S table bits settings done t l)
       (bits-at-length bits (tileCount S) t (R .lengths .bits-long) l)
       (part-each (λ (x : ℕ). x < 2 ^ unit) (omega arith) tileNumbers t bits by)
 

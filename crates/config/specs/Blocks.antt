@@ -1,8 +1,7 @@
 -- A block's bits and settings: those of its tiles, one after another, by the tiles' index.
-use Prim.Native.Nat.{ℕ, _*_}
+use Prim.Native.Nat.{ℕ, _*_, _/_, _%_}
 use mathlib.Core.Bool.{Bool, not}
 use mathlib.Core.List.{List}
-use lib.Dec.{ltb}
 use Rattle.lists.specs.Search.{first}
 use Rattle.lists.specs.Parts.{part, joined}
 use Rattle.routing.specs.LogicTile.{logicTile}
@@ -10,7 +9,7 @@ use Rattle.ports.specs.Lengths.{tileNumbers, settingsLength}
 use Rattle.codec.specs.Bits.{TileBits, tileOf}
 use Rattle.codec.specs.Decode.{decode}
 use Rattle.codec.specs.Encode.{encode}
-use Rattle.codec.specs.Fault.{tileFault}
+use Rattle.codec.specs.Fault.{faultAt}
 use Rattle.codec.specs.Limits.{settingsFit}
 
 -- the bits, and the settings, of tile t
@@ -29,13 +28,13 @@ abbrev pub roomLength : ℕ
 roomLength = settingsLength * 64
 
 module _ (table : List ℕ) where
-  -- tile t cannot be decoded
-  unfoldable pub undecodableAt : (ℕ → TileBits) → ℕ → Bool
-  undecodableAt tile t = ltb (tileFault table (tile t)) (logicTile .positions)
+  -- position k % 864 of tile k / 864 is at fault
+  unfoldable pub faultyPlace : (ℕ → TileBits) → ℕ → Bool
+  faultyPlace tile k = faultAt table (tile (k / logicTile .positions)) (k % logicTile .positions)
 
-  -- "4: undecodable: lowest tile"; n where all of the n tiles can be decoded
-  abbrev pub undecodableTile : (ℕ → TileBits) → ℕ → ℕ
-  undecodableTile tile n = first (undecodableAt tile) 0 n
+  -- the place of ground 4: the lowest such k; 864n where all of the n tiles can be decoded
+  abbrev pub faultPlace : (ℕ → TileBits) → ℕ → ℕ
+  faultPlace tile n = first (faultyPlace tile) 0 (logicTile .positions * n)
 
   unfoldable pub decodedAt : (ℕ → TileBits) → ℕ → List ℕ
   decodedAt tile t = decode table (tile t .bit)

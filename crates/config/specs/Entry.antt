@@ -1,6 +1,6 @@
 -- What `read`, `write` and `bit_count` answer: the grounds in the paper's orders, one line each ("Reading bits checks 1 to 4, [..]
 -- writing bits 1, 2, 3, 9, [..] a bit count 1, 2, 20").
-use Prim.Native.Nat.{ℕ}
+use Prim.Native.Nat.{ℕ, _*_}
 use mathlib.Core.Bool.{Bool, _&&_}
 use mathlib.Core.List.{List}
 use lib.Dec.{eqb, ltb, leb}
@@ -15,7 +15,7 @@ use Rattle.routing.specs.LogicTile.{logicTile}
 use Rattle.ports.specs.Lengths.{tableLength, bitsLength, settingsTotal}
 use Rattle.routing.specs.TableCheck.{faultyPart, tableOk}
 use Rattle.codec.specs.Bits.{bitCount, bitAt}
-use Rattle.config.specs.Blocks.{bitsAt, undecodableTile, bitlessTile, tilesOf}
+use Rattle.config.specs.Blocks.{bitsAt, faultPlace, bitlessTile, tilesOf}
 use Rattle.config.specs.declared.BitCount.{BitCount}
 use Rattle.config.specs.declared.BitCount.the-variants as counted
 
@@ -29,7 +29,8 @@ readAnswer S table bits settings =
     unless (allowed S) (Refused WrongSize)
     (unless (lengthsOk S (length table) (length bits) settings) (Refused WrongLength)
     (unless (tableOk logicTile table) (Refused (Table (faultyPart logicTile table)))
-    (unless (leb (tileCount S) (undecodableTile table (tilesOf bits) (tileCount S))) (Refused (Undecodable (undecodableTile table (tilesOf bits) (tileCount S))))
+    (unless (leb (logicTile .positions * tileCount S) (faultPlace table (tilesOf bits) (tileCount S)))
+    (Refused (Undecodable (faultPlace table (tilesOf bits) (tileCount S))))
     Done)))
 
 -- writing: the bits are an output

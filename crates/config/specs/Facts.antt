@@ -1,6 +1,6 @@
 -- What the grounds of `read` and `write` say, and what a yes says, sentence by sentence (document 01, 'Grounds for a no'). `LowestBitless`, ground 9,
 -- serves `follow` and `step` too.
-use Prim.Native.Nat.{ℕ, _*_, _<_}
+use Prim.Native.Nat.{ℕ, _+_, _*_, _<_}
 use mathlib.Core.Path.{_≡_}
 use mathlib.Core.List.{List}
 use lib.ListN.{length}
@@ -39,12 +39,16 @@ module _ (S : Size) (table : List ℕ) (bits settings : ℕ) where
     pub lengths : ExactLengths S (length table) bits settings
     pub rules : TableRules logicTile table
 
--- "4: undecodable: lowest tile": tile t of n has a position at fault, and no lower tile has one
-pub record LowestUndecodable (table : List ℕ) (tile : ℕ → TileBits) (n t : ℕ) : Type 0 where
-  pub within : t < n
+-- "4: undecodable: lowest tile"; "Refusal 4 then has as its place 864 times the tile plus the lowest such position in that tile" (document 02, W5): tile
+-- `faulty-tile` of n has a position at fault, no lower tile has one, and no lower position of that tile is at fault
+pub record LowestFault (table : List ℕ) (tile : ℕ → TileBits) (n place : ℕ) : Type 0 where
+  pub faulty-tile : ℕ
   pub position : ℕ
-  pub faulty : Faulty table (tile t) position
-  pub lower : (s : ℕ) → s < t → Decodable table (tile s)
+  pub is-place : place ≡ logicTile .positions * faulty-tile + position
+  pub within : faulty-tile < n
+  pub faulty : Faulty table (tile faulty-tile) position
+  pub lower-tile : (t : ℕ) → t < faulty-tile → Decodable table (tile t)
+  pub lower-position : (p : ℕ) → p < position → Faulty table (tile faulty-tile) p → ⊥
 
 -- "9: settings that no bits have: lowest tile"
 pub record LowestBitless (table settings : List ℕ) (n t : ℕ) : Type 0 where

@@ -11,15 +11,15 @@ use Rattle.refusal.specs.declared.Answer.the-variants.{Done, Refused}
 use Rattle.ports.specs.declared.size.Size.{Size}
 use Rattle.ports.specs.Block.{tileCount}
 use Rattle.config.specs.Blocks.{tilesOf}
-use Rattle.config.specs.Facts.{NoSize, NoLength, NoTable, Checked, LowestUndecodable, TilesRead}
+use Rattle.config.specs.Facts.{NoSize, NoLength, NoTable, Checked, LowestFault, TilesRead}
 
 -- "Reading bits checks 1 to 4": what each no of a read says. `settings` is the length lent. There is no other no.
 pub data ReadNo (S : Size) (table bits : List ℕ) (settings : ℕ) : Refusal → Type 0 where
   wrong-size : NoSize S table (length bits) settings → ReadNo S table bits settings WrongSize
   wrong-length : NoLength S table (length bits) settings → ReadNo S table bits settings WrongLength
   broken : (part : ℕ) → NoTable S table (length bits) settings part → ReadNo S table bits settings (Table part)
-  undecodable : (tile : ℕ) → Checked S table (length bits) settings → LowestUndecodable table (tilesOf bits) (tileCount S) tile
-      → ReadNo S table bits settings (Undecodable tile)
+  undecodable : (place : ℕ) → Checked S table (length bits) settings → LowestFault table (tilesOf bits) (tileCount S) place
+      → ReadNo S table bits settings (Undecodable place)
 
 -- what an answer of `read` says, `before` and `after` being the lent settings; "On a refusal the outputs keep their old contents"
 abbrev pub ReadSays : Size → List ℕ → List ℕ → List ℕ → List ℕ → Answer → Type 0

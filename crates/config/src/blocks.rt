@@ -10,18 +10,20 @@ ghost use Rattle.routing.specs.Slots.{slotCount};
 ghost use Rattle.routing.specs.Claiming.{TableOwned};
 ghost use Rattle.ports.specs.Lengths.{tileNumbers, settingsLength};
 ghost use Rattle.codec.specs.Limits.{settingsFit};
-ghost use Rattle.config.specs.Blocks.{settingsAt, undecodableTile, decoded, bitlessTile, encoded, tilesOf};
+ghost use Rattle.config.specs.Blocks.{settingsAt, faultPlace, decoded, bitlessTile, encoded, tilesOf};
 use ports::lengths::SETTINGS_LENGTH;
 use ports::lengths::TILE_NUMBERS;
 use routing::table::POSITIONS;
 
-// The lowest tile that cannot be decoded, with cleared settings; where all n can, n with their settings.
+// The lowest position at fault of the lowest tile that cannot be decoded, as 864 times the tile plus the position, with cleared settings; where all n can,
+// 864n with their settings. A position at fault is looked for in one tile only, and after a no of it.
+// Rules out: a place that names the tile alone; another place for building than for reading, for both call this.
 pub fn read_block(table: &[u16], own: &[u16], bits: &[u8], settings: &mut [u16], n: usize) -> usize
     requires { ⌜ (n ≤ 64) × TableRules logicTile (now table) × TableOwned logicTile (now table) (slotCount logicTile) (now own) ×
         (length (now bits) ≡ tileNumbers * n) × (length (now settings) ≡ settingsLength * n) ⌝ }
-    ensures tile { λ r. ⌜ r ≡ undecodableTile (now (table .entry)) (tilesOf (now (bits .entry))) n ⌝ }
-    ensures settings { λ r. ⌜ (r ≡ n → now (settings .exit) ≡ decoded (now (table .entry)) (tilesOf (now (bits .entry))) n) ⌝ }
-    ensures cleared { λ r. ⌜ (r < n → now (settings .exit) ≡ zeros (settingsLength * n)) ⌝ }
+    ensures place { λ r. ⌜ r ≡ faultPlace (now (table .entry)) (tilesOf (now (bits .entry))) n ⌝ }
+    ensures settings { λ r. ⌜ (r ≡ logicTile .positions * n → now (settings .exit) ≡ decoded (now (table .entry)) (tilesOf (now (bits .entry))) n) ⌝ }
+    ensures cleared { λ r. ⌜ (r < logicTile .positions * n → now (settings .exit) ≡ zeros (settingsLength * n)) ⌝ }
 {
     let mut t = 0;
     while t < n {
@@ -32,11 +34,11 @@ pub fn read_block(table: &[u16], own: &[u16], bits: &[u8], settings: &mut [u16],
         let fault = tile::read_tile(table, own, &bits[from..to], &mut settings[start..end]);
         if fault < POSITIONS {
             lists::clear(settings);
-            return t;
+            return POSITIONS * t + fault;
         }
         t += 1;
     }
-    t
+    POSITIONS * t
 }
 
 // The settings of n tiles that can be decoded.

@@ -47,9 +47,9 @@ pub fn read_checks(s: Size, table: &[u16], bits: &[u8], settings: usize, room: &
     if part != parts {
         return Answer::Refused(Refusal::Table(part as u32));
     }
-    let t = crate::blocks::read_block(table, &own, bits, &mut room[..settings], n);
-    if t < n {
-        return Answer::Refused(Refusal::Undecodable(t as u32));
+    let place = crate::blocks::read_block(table, &own, bits, &mut room[..settings], n);
+    if place < POSITIONS * n {
+        return Answer::Refused(Refusal::Undecodable(place as u32));
     }
     Answer::Done
 }

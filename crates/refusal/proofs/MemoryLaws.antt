@@ -15,7 +15,7 @@ module _ (old new : List ℕ) where
   output-refused WrongSize = refl
   output-refused WrongLength = refl
   output-refused (Table part) = refl
-  output-refused (Undecodable tile) = refl
+  output-refused (Undecodable position) = refl
   output-refused (Contention wire) = refl
   output-refused (DisabledCarry wire) = refl
   output-refused (Loop wire) = refl

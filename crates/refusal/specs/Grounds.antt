@@ -12,7 +12,7 @@ abbrev pub numberOf : Refusal → ℕ
 numberOf WrongSize = 1
 numberOf WrongLength = 2
 numberOf (Table part) = 3
-numberOf (Undecodable tile) = 4
+numberOf (Undecodable position) = 4
 numberOf (Contention wire) = 5
 numberOf (DisabledCarry wire) = 6
 numberOf (Loop wire) = 7
@@ -32,7 +32,7 @@ abbrev pub placeOf : Refusal → ℕ
 placeOf WrongSize = 0
 placeOf WrongLength = 0
 placeOf (Table part) = part
-placeOf (Undecodable tile) = tile
+placeOf (Undecodable position) = position
 placeOf (Contention wire) = wire
 placeOf (DisabledCarry wire) = wire
 placeOf (Loop wire) = wire

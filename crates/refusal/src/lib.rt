@@ -12,7 +12,7 @@ pub enum Refusal {
     WrongLength,
     // The part of the routing table that breaks a rule: 0 the fields, 1 the passive list, 2 + g group g, 514 a group too many.
     Table(u32),
-    // The tile that cannot be decoded.
+    // The position at fault in a tile that cannot be decoded: 864 times the tile plus the position.
     Undecodable(u32),
     // The wire that two enabled switches end on (document 01: fight).
     Contention(u32),

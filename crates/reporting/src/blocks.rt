@@ -7,7 +7,7 @@ ghost use Rattle.ports.specs.Block.{size, block, sizeOf, tiles, Sized};
 ghost use Rattle.ports.specs.Lengths.{ports, portsPerTile, tableLength, bitsLength, settingsLength, settingsTotal, listLength, tileNumbers};
 ghost use Rattle.routing.specs.LogicTile.{logicTile};
 ghost use Rattle.routing.specs.Rules.{TableRules};
-ghost use Rattle.config.specs.Blocks.{undecodableTile, decoded, tilesOf};
+ghost use Rattle.config.specs.Blocks.{faultPlace, decoded, tilesOf};
 ghost use Rattle.texts.specs.Pieces.{placed};
 ghost use Rattle.lines.specs.Lines.{answerLine};
 ghost use Rattle.block.specs.Lengths.{roomLent, buildLent, BuildLong};
@@ -82,7 +82,7 @@ fn put_accepted(
     out: &mut [u8],
 ) -> usize
     requires { ⌜ Sized b × (tiles b ≤ 9) × TableRules logicTile (now table) ×
-        (tiles b ≤ undecodableTile (now table) (tilesOf (now bits)) (tiles b)) ⌝ }
+        (logicTile .positions * tiles b ≤ faultPlace (now table) (tilesOf (now bits)) (tiles b)) ⌝ }
     requires { ⌜ (length (now bits) ≡ tileNumbers * tiles b) × (length (now settings) ≡ settingsLength * tiles b) ×
         (length (now wires) ≡ ports b) × (length (now sources) ≡ ports b) × (length (now out) ≡ outLength) ⌝ }
     ensures next { λ r. ⌜ r ≡ 0 + length

@@ -50,7 +50,7 @@ module _ (B : Block) (t bits settings : List ℕ) (room : RoomLent) where
     bits-no s L refusal (wrong-size n) = absurd (n s)
     bits-no s L refusal (wrong-length _ n) = absurd (n L)
     bits-no s L refusal (broken part _ _ f) = inl (no-broken t part f, refl, f)
-    bits-no s L refusal (undecodable T _ _ rules low) = inr (rules, inl (λ d. d T (low .within) (low .position) (low .faulty), refl, low))
+    bits-no s L refusal (undecodable place _ _ rules low) = inr (rules, inl (λ d. d (low .faulty-tile) (low .within) (low .position) (low .faulty), refl, low))
     bits-no s L refusal (unlisted r R n) = inr (R .rules, inr (R .tiles-read .decodable, list-no r n))
 
     pub bits-yes : Readable B t bits lent → Accepted B t st → (value : ℕ) → says value → BitsGrounds B t bits st says 0 value
@@ -76,7 +76,7 @@ module _ (B : Block) (t bits settings : List ℕ) (room : RoomLent) where
   build-no refusal (wrong-size n) = inl (n, refl, refl)
   build-no refusal (wrong-length s n) = inr (s, inl (n, refl, refl))
   build-no refusal (broken part s L f) = behind s L refusal (broken part s L f)
-  build-no refusal (undecodable T s L rules low) = behind s L refusal (undecodable T s L rules low)
+  build-no refusal (undecodable place s L rules low) = behind s L refusal (undecodable place s L rules low)
   build-no refusal (unlisted r R n) = behind (R .size) (R .lengths) refusal (unlisted r R n)
 
   pub build-order : BuildOrder (built B t bits settings room)

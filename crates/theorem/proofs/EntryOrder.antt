@@ -98,8 +98,8 @@ module _ (S : Size) (table bits settings : List ℕ) where
   read-no refusal (wrong-size n) = inl (n, refl, refl)
   read-no refusal (wrong-length n) = inr (n .0, inl (n .1, refl, refl))
   read-no refusal (broken part n) = inr (n .0, inr (n .1, inl (no-broken table part (n .2), refl, n .2)))
-  read-no refusal (undecodable tile C low) =
-      inr (C .size, inr (C .lengths, inr (C .rules, inl (λ d. d tile (low .within) (low .position) (low .faulty), refl, low))))
+  read-no refusal (undecodable place C low) =
+      inr (C .size, inr (C .lengths, inr (C .rules, inl (λ d. d (low .faulty-tile) (low .within) (low .position) (low .faulty), refl, low))))
 
   pub read-order : ReadOrder (readAnswer S table bits (length settings))
   read-order = go (readAnswer S table bits (length settings)) refl

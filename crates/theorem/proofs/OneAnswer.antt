@@ -12,7 +12,8 @@ use Rattle.ports.specs.Block.{tiles}
 use Rattle.routing.specs.LogicTile.{logicTile}
 use Rattle.routing.specs.Rules.{FirstBroken}
 use Rattle.config.specs.Blocks.{tilesOf}
-use Rattle.config.specs.Facts.{LowestUndecodable}
+use Rattle.config.specs.Facts.{LowestFault}
+use Rattle.config.proofs.FaultPlaceLaws.{fault-unique}
 use Rattle.theorem.specs.Order.{Check, Yes}
 use Rattle.theorem.specs.BlockGrounds.{ListGrounds, BitsGrounds}
 
@@ -48,8 +49,8 @@ one-place k v u a b = a ∙ sym b
 one-broken : (t : List ℕ) → One (FirstBroken logicTile t)
 one-broken t v u a b = one-of v u (λ l. a .broken (b .earlier v l)) (λ l. b .broken (a .earlier u l))
 
-one-undecodable : (B : Block) (t bits : List ℕ) → One (LowestUndecodable t (tilesOf bits) (tiles B))
-one-undecodable B t bits v u a b = one-of v u (λ l. b .lower v l (a .position) (a .faulty)) (λ l. a .lower u l (b .position) (b .faulty))
+one-fault : (B : Block) (t bits : List ℕ) → One (LowestFault t (tilesOf bits) (tiles B))
+one-fault B t bits = fault-unique t (tilesOf bits) (tiles B)
 
 -- ---- grounds 3 to 8
 
@@ -66,4 +67,4 @@ module _ (B : Block) (t bits st : List ℕ) {C : Type 0} {says says′ : ℕ →
   pub bits-agrees : Agrees C (BitsGrounds B t bits st says) (BitsGrounds B t bits st says′)
   bits-agrees =
       check-agrees 3 (λ z. absurd (omega arith)) (one-broken t)
-      (check-agrees 4 (λ z. absurd (omega arith)) (one-undecodable B t bits) list-agrees)
+      (check-agrees 4 (λ z. absurd (omega arith)) (one-fault B t bits) list-agrees)

@@ -65,7 +65,7 @@ module _ (B : Block) (t bits settings : List ℕ) (room : RoomLent) where
       refused refusal (wrong-size n) l = absurd (omega arith)
       refused refusal (wrong-length s n) l = absurd (omega arith)
       refused refusal (broken part s L f) l = absurd (omega arith)
-      refused refusal (undecodable T s L rules low) l = absurd (omega arith)
+      refused refusal (undecodable place s L rules low) l = absurd (omega arith)
       refused refusal (unlisted r R n) l = four-of-readable R
 
       back : (a : Built) → BuildSays B t bits (buildLent t bits settings room) a → Beyond 4 a → PassesFour B t bits settings room
@@ -95,7 +95,7 @@ module _ (B : Block) (t bits settings : List ℕ) (room : RoomLent) where
       refused refusal (wrong-size n) l = absurd (omega arith)
       refused refusal (wrong-length s n) l = absurd (omega arith)
       refused refusal (broken part s L f) l = absurd (omega arith)
-      refused refusal (undecodable T s L rules low) l = absurd (omega arith)
+      refused refusal (undecodable place s L rules low) l = absurd (omega arith)
       refused refusal (unlisted r R n) l = listed r R n l
 
       back : (a : Built) → BuildSays B t bits (buildLent t bits settings room) a → Beyond 6 a → PassesSix B t bits settings room

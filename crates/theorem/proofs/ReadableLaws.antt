@@ -1,11 +1,10 @@
 -- What checks 1 to 4 show, over the answers of `read` and `build`. Main laws: `readable-of-four`, `readable-built`, `readable-routed`.
 -- Assumes nothing.
-use Prim.Native.Nat.{ℕ, _≤_, _<_}
+use Prim.Native.Nat.{ℕ, _*_, _≤_, _<_}
 use mathlib.Core.Path.{_≡_, sym, subst, _∙_}
 use mathlib.Core.Bool.{true}
 use mathlib.Core.List.{List}
 use native.Mathlib.Omega.{arith}
-use Rattle.lists.proofs.SearchLaws.{first-none}
 use lib.ListN.{length}
 use Rattle.ports.specs.declared.size.Block.{Block}
 use Rattle.ports.specs.Block.{sizeOf, tiles}
@@ -14,9 +13,10 @@ use Rattle.routing.specs.LogicTile.{logicTile}
 use Rattle.routing.proofs.TableCheckLaws.{table-exact}
 use Rattle.codec.specs.Limits.{settingsFit}
 use Rattle.codec.proofs.ReadingLaws.{decode-fits}
-use Rattle.config.specs.Blocks.{bitsAt, settingsAt, undecodableAt, undecodableTile, tilesOf}
+use Rattle.config.specs.Blocks.{bitsAt, settingsAt, faultPlace, tilesOf}
 use Rattle.config.proofs.PassedLaws.{read-passed, read-clean}
-use Rattle.config.proofs.BlocksLaws.{decoded-length, decoded-at, decoded-reads, decodable-clean}
+use Rattle.config.proofs.BlocksLaws.{decoded-length, decoded-at, decoded-reads}
+use Rattle.config.proofs.FaultPlaceLaws.{decodable-no-fault}
 use Rattle.equations.specs.Routed.{Routed}
 use Rattle.block.specs.declared.lengths.RoomLent.{RoomLent}
 use Rattle.block.specs.declared.lengths.BuildLent.{BuildLent}
@@ -59,13 +59,11 @@ module _ (B : Block) (t bits settings : List ℕ) (room : RoomLent) where
     pub readable-routed : Routed B t (settingsRead B t bits)
     readable-routed = routed-fits B t st (R .size) (R .rules) (decoded-length t bits (tiles B)) settings-fit
 
-    none-undecodable : tiles B ≤ undecodableTile t (tilesOf bits) (tiles B)
-    none-undecodable =
-        let e = first-none (undecodableAt t (tilesOf bits)) (tiles B) (λ T l. decodable-clean t bits (tiles B) (R .rules) T (R .tiles-read .decodable T l)) in
-        omega arith
+    no-fault : logicTile .positions * tiles B ≤ faultPlace t (tilesOf bits) (tiles B)
+    no-fault = let e = decodable-no-fault t bits (R .rules) (tiles B) (R .tiles-read .decodable) in omega arith
 
     -- what is left are grounds 5 to 8
     pub readable-built : built B t bits settings room ≡ listAnswer B t (settingsRead B t bits)
     readable-built =
-        sym (bits-list B t bits (table-exact logicTile t (R .lengths .table-long) .1 (R .rules)) none-undecodable
+        sym (bits-list B t bits (table-exact logicTile t (R .lengths .table-long) .1 (R .rules)) no-fault
         ∙ build-bits B t bits (buildExact B lent) (sized-true B (R .size)) (build-long-exact B lent .1 (R .lengths)))

@@ -6,7 +6,6 @@ use mathlib.Core.Logic.{_↔_}
 use mathlib.Core.List.{List}
 use native.Mathlib.Omega.{arith}
 use lib.ListN.{length}
-use Rattle.lists.proofs.SearchLaws.{first-none}
 use Rattle.lists.proofs.PartLaws.{joined-is}
 use Rattle.refusal.specs.declared.Answer.the-variants.{Done}
 use Rattle.ports.specs.declared.size.Size.{Size}
@@ -14,12 +13,12 @@ use Rattle.ports.specs.Block.{tileCount}
 use Rattle.ports.specs.Lengths.{settingsLength, settingsTotal}
 use Rattle.codec.specs.Reading.{Decodable, ReadsTo}
 use Rattle.codec.proofs.ReadingLaws.{decode-reads, reads-unique}
-use Rattle.config.specs.Blocks.{bitsAt, settingsAt, tilesOf, undecodableAt, decodedAt, decoded}
+use Rattle.config.specs.Blocks.{bitsAt, settingsAt, tilesOf, decodedAt, decoded}
 use Rattle.config.specs.Entry.{readAnswer}
 use Rattle.config.specs.Facts.{Checked}
 use Rattle.config.proofs.EntryLaws.{read-done}
 use Rattle.config.proofs.PassedLaws.{read-passed, read-clean}
-use Rattle.config.proofs.BlocksLaws.{clean-decodable, decodable-clean}
+use Rattle.config.proofs.FaultPlaceLaws.{decodable-no-fault}
 
 module _ (S : Size) (table bits : List ℕ) (settings : ℕ) where
   pub reads-exactly : (readAnswer S table bits settings ≡ Done)
@@ -27,10 +26,8 @@ module _ (S : Size) (table bits : List ℕ) (settings : ℕ) where
   reads-exactly = (
     λ done.
         let C = read-passed S table bits settings done in
-        (C, λ T l. clean-decodable table bits (tileCount S) (C .rules) T (read-clean S table bits settings done T l)),
-    λ c. sym (read-done S table bits settings (c .0) (tileCount S)
-        (sym (first-none (undecodableAt table (tilesOf bits)) (tileCount S) (λ T l. decodable-clean table bits (tileCount S) (c .0 .rules) T (c .1 T l))))
-        (omega arith)),
+        (C, read-clean S table bits settings done),
+    λ c. sym (read-done S table bits settings (c .0) _ (decodable-no-fault table bits (c .0 .rules) (tileCount S) (c .1)) (omega arith)),
   )
 
   pub reads-one : readAnswer S table bits settings ≡ Done → (st : List ℕ) → length st ≡ settingsTotal S
@@ -39,5 +36,5 @@ module _ (S : Size) (table bits : List ℕ) (settings : ℕ) where
   reads-one done st long to =
       let C = read-passed S table bits settings done in
       joined-is settingsLength (tileCount S) (decodedAt table (tilesOf bits)) st long
-      (λ T l. reads-unique table (bitsAt bits T) (C .rules) (clean-decodable table bits (tileCount S) (C .rules) T (read-clean S table bits settings done T l))
+      (λ T l. reads-unique table (bitsAt bits T) (C .rules) (read-clean S table bits settings done T l)
       _ _ (decode-reads table (bitsAt bits T) (C .rules)) (to T l))

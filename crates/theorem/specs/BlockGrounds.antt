@@ -9,7 +9,7 @@ use Rattle.fabric.specs.Count.{wires}
 use Rattle.routing.specs.LogicTile.{logicTile}
 use Rattle.routing.specs.Rules.{TableRules, FirstBroken}
 use Rattle.config.specs.Blocks.{tilesOf}
-use Rattle.config.specs.Facts.{LowestUndecodable, LowestBitless}
+use Rattle.config.specs.Facts.{LowestFault, LowestBitless}
 use Rattle.netlist.specs.Running.{Bits}
 use Rattle.netlist.specs.Checking.{FirstBad}
 use Rattle.equations.specs.Switches.{NoContention, LowestContention}
@@ -43,7 +43,7 @@ ListGrounds B t st says =
 abbrev pub BitsGrounds : Block → (table bits settings : List ℕ) → (says : ℕ → Type 0) → ℕ → ℕ → Type 0
 BitsGrounds B t bits settings says =
     Check 3 (TableRules logicTile t) (FirstBroken logicTile t)
-    (Check 4 (AllDecodable t bits (tiles B)) (LowestUndecodable t (tilesOf bits) (tiles B))
+    (Check 4 (AllDecodable t bits (tiles B)) (LowestFault t (tilesOf bits) (tiles B))
     (ListGrounds B t settings says))
 
 -- "building 1 to 8"; a yes has the number of wires

@@ -15,7 +15,7 @@ use Rattle.routing.specs.Rules.{TableRules, FirstBroken}
 use Rattle.codec.specs.Bits.{bitCount, bitAt}
 use Rattle.codec.specs.Reading.{Decodable, HasBits}
 use Rattle.config.specs.Blocks.{bitsAt, settingsAt, tilesOf}
-use Rattle.config.specs.Facts.{ExactLengths, LowestUndecodable, LowestBitless}
+use Rattle.config.specs.Facts.{ExactLengths, LowestFault, LowestBitless}
 use Rattle.theorem.specs.Order.{Check, Yes, at, at0}
 
 -- each of n tiles can be decoded; some bits have the settings of each
@@ -53,7 +53,7 @@ ReadGrounds S table bits settings =
     Check 1 (Allowed S) at0
     (Check 2 (ExactLengths S (length table) (length bits) (length settings)) at0
     (Check 3 (TableRules logicTile table) (FirstBroken logicTile table)
-    (Check 4 (AllDecodable table bits (tileCount S)) (LowestUndecodable table (tilesOf bits) (tileCount S))
+    (Check 4 (AllDecodable table bits (tileCount S)) (LowestFault table (tilesOf bits) (tileCount S))
     (Yes at0))))
 
 -- "writing bits 1, 2, 3, 9"

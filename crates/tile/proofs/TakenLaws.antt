@@ -42,7 +42,7 @@ use Rattle.codec.proofs.FaultyLaws.{unclaimed-owner, field-owner, passive-owner
 -- an unlisted pattern has no setting
 unlisted-zero : (r : GroupRead) → isUnlisted r ≡ true → settingNumber r ≡ 0
 unlisted-zero (Setting s) e = clash e refl
-unlisted-zero Unlisted e = refl
+unlisted-zero (Unlisted first) e = refl
 
 -- the carry pair is read to both settings
 pair-both : (table bits : List ℕ) → CarryPair table (bitAt bits) → bothCarries (decode table (bitAt bits)) ≡ true

@@ -4,7 +4,7 @@ use Prim.Native.Nat.{ℕ}
 use native.Mathlib.Omega.{arith}
 use borrow.Author.Needs.{needs}
 use lib.Dec.{eqb}
-use Rattle.codec.proofs.FaultLaws.{map-stray, map-carry, map-low, map-inner, map-group, map-within}
+use Rattle.codec.proofs.FaultLaws.{map-stray, map-carry, map-low, map-group, map-within}
 use Rattle.codec.proofs.fault.is_fault_at.Statement.{statement}
 use Rattle.codec.proofs.fault.is_fault_at.Tie as tie
 
@@ -42,30 +42,22 @@ returns-3 c =
     sym (map-low (at-start .args .table .now) (at-start .args .bits .now) (at-start .args .p) (at-start .args .own .now) (at-start .pre .1)
     (at-start .pre .3) (at-test .if1 .left) (c .before .if2 .left) (c .if3 .taken))
 
-is-unlisted-requires : tie.Need-is-unlisted-requires
-is-unlisted-requires c κs =
-    let at-start = c .before .before .before .before .before .before .before .before in
-    let at-test = c .before .before .before in (
+is-group-fault-requires : tie.Need-is-group-fault-requires
+is-group-fault-requires c κs =
+    let at-start = c .before .before .before .before .before .before .before in
+    let at-test = c .before .before in (
       at-start .pre .0,
       map-within (at-start .args .table .now) (at-start .args .bits .now) (at-start .args .p) (at-start .args .own .now)
-          (at-start .pre .1) (at-start .pre .3) (at-test .if1 .left) (c .before .if3 .left),
+          (at-start .pre .1) (at-start .pre .3) (at-test .if1 .left) (c .if3 .left),
       at-start .pre .2,
     )
 
 returns-4 : tie.Need-returns-4
 returns-4 c =
-    let at-start = c .before .before .before .before .before .before .before .before .before in
-    let at-test = c .before .before .before .before in
-    let at-test3 = c .before .before in
-    c .is-unlisted .ensures ∙ sym (map-group (at-start .args .table .now) (at-start .args .bits .now) (at-start .args .p) (at-start .args .own .now)
-    (at-start .pre .1) (at-start .pre .3) (at-test .if1 .left) (at-test3 .if3 .left) (c .before .if4 .taken))
-
-returns-5 : tie.Need-returns-5
-returns-5 c =
     let at-start = c .before .before .before .before .before .before .before .before in
     let at-test = c .before .before .before in
-    sym (map-inner (at-start .args .table .now) (at-start .args .bits .now) (at-start .args .p) (at-start .args .own .now) (at-start .pre .1)
-    (at-start .pre .3) (at-test .if1 .left) (c .before .if3 .left) (c .if4 .left))
+    c .is-group-fault .ensures ∙ sym (map-group (at-start .args .table .now) (at-start .args .bits .now) (at-start .args .p) (at-start .args .own .now)
+    (at-start .pre .1) (at-start .pre .3) (at-test .if1 .left) (c .before .if3 .left))
 
 pub is-fault-at-spec : {M : Type 1} → statement M
 is-fault-at-spec =
@@ -79,6 +71,5 @@ is-fault-at-spec =
     is-carry-pair-requires
     returns-2
     returns-3
-    is-unlisted-requires
-    returns-4
-    returns-5)
+    is-group-fault-requires
+    returns-4)

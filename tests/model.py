@@ -87,13 +87,15 @@ def groups_of(table):
 
 
 def decode(table, tile):
-    """A tile's settings, or None where it cannot be decoded."""
+    """A tile's settings, or where it cannot be decoded the set of positions at fault: for an unlisted pattern the first position that the table
+    lists for the group, for a set bit that nothing claims its own, for the carry pair that of CarryInSet (document 02, W5)."""
     settings = [0] * SETTINGS
+    faults = set()
     claimed = set(ALL_CELL_BITS) | set(table[0:3]) | set(table[4:4 + table[3]])
     for f in range(3):
         settings[f] = bit(tile, table[f])
     if settings[1] and settings[2]:
-        return None
+        faults.add(table[1])
     for j in range(table[3]):
         settings[3 + j] = bit(tile, table[4 + j])
     for g, group in enumerate(groups_of(table)):
@@ -101,11 +103,13 @@ def decode(table, tile):
         pattern = sum(bit(tile, p) << k for k, p in enumerate(group.positions))
         if pattern:
             entry = [e for e, (listed, _) in enumerate(group.entries) if listed == pattern]
-            if not entry:
-                return None
-            settings[67 + g] = entry[0] + 1
-    if any(bit(tile, p) for p in range(864) if p not in claimed):
-        return None
+            if entry:
+                settings[67 + g] = entry[0] + 1
+            else:
+                faults.add(group.positions[0])
+    faults |= {p for p in range(864) if p not in claimed and bit(tile, p)}
+    if faults:
+        return faults
     for i in range(8):
         settings[579 + 2 * i] = sum(bit(tile, p) << j for j, p in enumerate(CELL_BITS[i][:16]))
         settings[580 + 2 * i] = sum(bit(tile, p) << j for j, p in enumerate(CELL_BITS[i][16:]))
@@ -161,8 +165,8 @@ def read(w, h, table, bits):
     settings = []
     for t in range(w * h):
         tile = decode(table, bits[BYTES * t:BYTES * t + BYTES])
-        if tile is None:
-            return 4, t
+        if isinstance(tile, set):
+            return 4, 864 * t + min(tile)
         settings += tile
     return settings
 

@@ -1,5 +1,5 @@
 //! Bits and settings of tiles: reading, writing, and grounds 4 and 9.
-use super::table::{self, Claims, CELL_BITS};
+use super::table::{self, Claims, Group, CELL_BITS, POSITIONS};
 use super::*;
 
 /// A tile's bits as words; two words more than needed, so that an index of four bits is never out of range.
@@ -23,6 +23,15 @@ fn put(words: &mut Words, p: u16, value: u16) {
     words[(p >> 6) as usize & 15] |= (value as u64) << (p & 63);
 }
 
+/// The pattern that a group's bits have.
+fn pattern(words: &Words, group: &Group) -> u16 {
+    let mut pattern = 0;
+    for (k, &p) in table::positions(group).iter().enumerate() {
+        pattern |= bit(words, p) << k;
+    }
+    pattern
+}
+
 /// Reads a tile to settings that are all zero; whether it can be decoded.
 fn decode_tile(table: &[u16], claims: &Claims, tile: &[u8], settings: &mut [u16]) -> bool {
     let words = words(tile);
@@ -39,10 +48,7 @@ fn decode_tile(table: &[u16], claims: &Claims, tile: &[u8], settings: &mut [u16]
         *setting = bit(&words, p);
     }
     for (setting, group) in settings[GROUPS_FROM..].iter_mut().zip(table::groups(table)) {
-        let mut pattern = 0;
-        for (k, &p) in table::positions(group).iter().enumerate() {
-            pattern |= bit(&words, p) << k;
-        }
+        let pattern = pattern(&words, group);
         if pattern != 0 {
             match table::entries(group).iter().position(|entry| entry[0] == pattern) {
                 Some(e) => *setting = e as u16 + 1,
@@ -61,13 +67,27 @@ fn decode_tile(table: &[u16], claims: &Claims, tile: &[u8], settings: &mut [u16]
     true
 }
 
-/// The settings of a block's bits, or ground 4.
+/// The lowest position at fault in a tile, 864 where there is none: a group's first for an unlisted pattern, a set bit that nothing claims,
+/// CarryInSet's for the carry pair.
+fn fault(table: &[u16], claims: &Claims, tile: &[u8]) -> u16 {
+    let words = words(tile);
+    let stray = (0..POSITIONS).filter(|&p| bit(&words, p) == 1 && claims[p as usize / 64] >> (p % 64) & 1 == 0);
+    let unlisted = table::groups(table).iter().filter(|group| {
+        let pattern = pattern(&words, group);
+        pattern != 0 && table::entries(group).iter().all(|entry| entry[0] != pattern)
+    });
+    let fields = table::fields(table);
+    let pair = (bit(&words, fields[1]) & bit(&words, fields[2]) == 1).then_some(fields[1]);
+    stray.chain(unlisted.map(|group| table::positions(group)[0])).chain(pair).min().unwrap_or(POSITIONS)
+}
+
+/// The settings of a block's bits, or ground 4. The position at fault is looked for after a no.
 pub fn decode(table: &[u16], claims: &Claims, bits: &[u8]) -> Result<Vec<u16>, No> {
     let mut settings = vec![0; bits.len() / BYTES * SETTINGS];
     let tiles = settings.chunks_exact_mut(SETTINGS).zip(bits.chunks_exact(BYTES));
     for (t, (settings, bits)) in tiles.enumerate() {
         if !decode_tile(table, claims, bits, settings) {
-            return Err(no(4, t));
+            return Err(no(4, POSITIONS as usize * t + fault(table, claims, bits) as usize));
         }
     }
     Ok(settings)

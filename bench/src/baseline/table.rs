@@ -4,7 +4,7 @@ use super::{no, No, CELLS};
 pub type Claims = [u64; 14];
 pub type Group = [u16; 75];
 
-const POSITIONS: u16 = 864;
+pub const POSITIONS: u16 = 864;
 const LC_BITS: [u16; 20] = [4, 14, 15, 5, 6, 16, 17, 7, 3, 13, 12, 2, 1, 11, 10, 0, 8, 9, 18, 19];
 
 /// The positions of each cell's 20 bits: its table, then its flags.

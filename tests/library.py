@@ -9,6 +9,7 @@ It prints a line for each group of cases and ends with the number of differences
 """
 import ctypes
 import glob
+import json
 import os
 import random
 import subprocess
@@ -21,6 +22,8 @@ import model  # noqa: E402
 
 ROOT = os.path.dirname(os.path.dirname(os.path.abspath(__file__)))
 DATA = os.path.join(ROOT, 'tests', 'data')
+VECTORS = os.path.join(os.path.dirname(ROOT), 'shared', 'vectors-02', 'w5-read.jsonl')
+USED = 'uart_tx_3x3'  # a block, of which each bit of one tile is flipped
 U16, U8 = ctypes.c_uint16, ctypes.c_uint8
 
 
@@ -140,10 +143,43 @@ def real(lib):
     return wrong + count.done()
 
 
+def each_bit(lib):
+    """Every single bit of the fullest tile of a real block flipped in turn: the position at fault, or the settings."""
+    count = Count('each bit of a used tile flipped')
+    w, h, _, table, bits = blocks()[USED]
+    t = max(range(w * h), key=lambda t: sum(bin(b).count('1') for b in bits[108 * t:108 * t + 108]))
+    for p in range(864 * t, 864 * t + 864):
+        flipped = bytearray(bits)
+        flipped[p // 8] ^= 1 << p % 8
+        check_read(lib, count, w, h, table, bytes(flipped), p)
+    return count.done()
+
+
+def vector_settings(tile):
+    """The settings of a tile as they are lent, from a vector's."""
+    cells = [half for value in tile['cells'] for half in (value & 0xffff, value >> 16)]
+    return tile['fields'] + (tile['passive'] + [0] * 64)[:64] + (tile['groups'] + [0] * 512)[:512] + cells
+
+
+def vectors(lib):
+    """The users' vectors of reading, where they are there."""
+    count = Count("the users' vectors of reading")
+    for line in open(VECTORS) if os.path.exists(VECTORS) else ():
+        case = json.loads(line)
+        given, answer = case['args'], case['answer']
+        w, h, bits = given['block']['w'], given['block']['h'], bytes.fromhex(given['block']['numbers'])
+        table = model.parse('\n'.join(given['table']))[3]
+        old = [random.randrange(65536) for _ in range(model.SETTINGS * w * h)]
+        expected = (tuple(answer['no']), old) if 'no' in answer else ((0, 0), [n for tile in answer['tiles'] for n in vector_settings(tile)])
+        got, after = lib.call('ice40_read', w, h, (U16, table), (U8, bits), (U16, old))
+        count.same((got, after[2]), expected, answer.get('no'))
+    return count.done()
+
+
 def damaged(lib, rounds):
     """Bits flipped, settings changed, tables changed in every slot that is read."""
     whole = [(w, h, table, bits) for w, h, _, table, bits in blocks().values()]
-    count = Count('bits flipped: the lowest undecodable tile')
+    count = Count('bits flipped: the lowest position at fault')
     for _ in range(rounds):
         w, h, table, bits = random.choice(whole)
         bits = bytearray(bits)
@@ -214,7 +250,7 @@ def lookups(lib):
 
 def main():
     lib = Library()
-    return run([(real, lib), (damaged, lib, rounds_asked(2000)), (bad_input, lib), (lookups, lib)], 1)
+    return run([(real, lib), (vectors, lib), (each_bit, lib), (damaged, lib, rounds_asked(2000)), (bad_input, lib), (lookups, lib)], 1)
 
 
 if __name__ == '__main__':

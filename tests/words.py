@@ -19,7 +19,7 @@ import report  # noqa: E402
 import wire_numbers  # noqa: E402
 from library import Count, blocks, rounds_asked  # noqa: E402
 from library import run as run_all  # noqa: E402
-from tools import CUTS, FLAGS, claims, contents, data, run  # noqa: E402
+from tools import CUTS, FLAGS, contents, data, run  # noqa: E402
 
 import explain  # noqa: E402
 import frames  # noqa: E402
@@ -248,7 +248,7 @@ def check_lengths():
 
 # a report's line 08 for a block of 2 by 2, and what explain says of its place
 NOES = [('08010000', 'W or H is not 1 to 8'), ('08030000', 'the fields, line 1'), ('08030001', 'the passive list, line 2'),
-        ('08030002', 'group 0, line 3'), ('08040003', 'tile 3, (6,7)'), ('080501BC', 'wire 444 [(5,6) neigh_op_rgt_0, (6,6) lutff_0/out, '),
+        ('08030002', 'group 0, line 3'), ('08040AAE', 'B2[34] of tile (6,7), position 142 of tile 3'), ('080501BC', 'wire 444 [(5,6) neigh_op_rgt_0, (6,6) lutff_0/out, '),
         ('080601EA', 'wire 490 [(5,6) lutff_1/cout]'), ('08070162', 'wire 354 [(5,6) local_g2_2]'), ('08080001', 'tile 1, (6,6)'),
         ('080B0203', 'line 515'), ('08020000', 'a lent length'), ('08090001', 'tile 1, (6,6)'), ('080A0005', 'at index 5 '), ('080C0007', 'row 7,'),
         ('080D0003', 'line 3'), ('080E0000', 'sizes'), ('080F0009', 'needed: 9'), ('08100004', 'line 4'), ('081401FA', 'the number is 506')]
@@ -301,12 +301,22 @@ def faulty(w, h, table, bits):
     return b''.join(tiles)
 
 
-def fault_count(table, tile):
-    """How many things in a tile are undecodable, by the model's reading of the table."""
-    claimed = set(claims(table))
-    patterns = [(group, sum(model.bit(tile, p) << k for k, p in enumerate(group.positions))) for group in model.groups_of(table)]
-    unlisted = sum(pattern != 0 and pattern not in dict(group.entries) for group, pattern in patterns)
-    return unlisted + sum(model.bit(tile, p) for p in range(864) if p not in claimed) + (model.bit(tile, table[1]) & model.bit(tile, table[2]))
+def is_faults(table, tile, place, lines):
+    """Whether the words for a no of ground 4 name the bits at fault that the model finds in the tile, the place's first, and what claims them."""
+    shown = [ice40.position_at(line.split(':')[0]) for line in lines[1:]]
+    if shown != sorted(model.decode(table, tile)) or shown[0] != place % 864:
+        return False
+    for p, line in zip(shown, lines[1:]):
+        group = next((g for g, group in enumerate(model.groups_of(table)) if p == group.positions[0]), None)
+        if group is None:
+            words = 'CarryInSet' if p == table[1] else 'set, and nothing claims it'
+        else:
+            found = model.group_at(table, group)
+            pattern = sum(model.bit(tile, q) << k for k, q in enumerate(found.positions))
+            words = 'group %d, line %d of the input, destination %s: it does not list pattern %02X' % (group, group + 3, ice40.NAMES[found.destination], pattern)
+        if words not in line:
+            return False
+    return True
 
 
 def carry_reader_count(block, wire):
@@ -407,7 +417,8 @@ def check_trails(rounds):
         status, lines = in_words(model.report_of(given.encode()), given)
         counts[ground].same(status, NO, lines)
         if ground == 4:
-            counts[ground].same(len(lines) - 3, fault_count(lent, bits[108 * place:108 * place + 108]))
+            at = 108 * (place // 864)
+            counts[ground].same(is_faults(lent, bits[at:at + 108], place, [line.strip() for line in lines[2:]]), True, (place, lines))
             continue
         block = model.Block(w, h, east, lent, model.read(w, h, lent, bits))
         right = is_loop(block, w, place, lines[2:]) if ground == 7 else is_trail(block, place, ground, lines[2:])

@@ -12,7 +12,7 @@ import argparse
 import functools
 
 from frames import Cursor, Input, lines_of
-from ice40 import CELLS, FLAGS, PROGRAM_LIMIT, Block
+from ice40 import CELLS, FLAGS, POSITIONS, PROGRAM_LIMIT, Block, position_name
 from rules import broken_rules, undecodable
 from tool import Mistake, add_east, counted, file_name, number, run, start_of, text_of
 from trail import Trail, verdict
@@ -24,7 +24,7 @@ GROUNDS = {
     2: ('a lent length differs from the exact one', None),
     3: ('the routing table breaks a rule', 'part'),
     4: ("a tile cannot be decoded: a group's bits are a pattern that the table does not list, a bit is set that nothing claims, "
-        'or CarryInSet is set together with the switch from carry_in', 'tile'),
+        'or CarryInSet is set together with the switch from carry_in', 'position'),
     5: ('a fight: two enabled switches end on one wire', 'wire'),
     6: ('a disabled carry output is read: by an enabled switch, by the chain or by the next enabled carry', 'wire'),
     7: ('a loop: a wire depends on itself', 'wire'),
@@ -160,6 +160,9 @@ def place_words(what, place, scene):
         return 'it is ' + part_words(place)
     if what == 'tile':
         return 'the lowest such tile is tile %d, %s' % (place, scene.block.tile_name(place))
+    if what == 'position':
+        tile, position = divmod(place, POSITIONS)
+        return 'the lowest such bit is %s of tile %s, position %d of tile %d' % (position_name(position), scene.block.tile_name(tile), position, tile)
     if what == 'wire':
         return 'the lowest such wire is ' + scene.block.wire_name(place)
     return PLACES[what] % place
@@ -170,13 +173,18 @@ def loop_words(place, scene):
     return ['each of these reads the next:'] + ['  ' + wire for wire in way] + ['cells on it:'] * bool(cells) + ['  ' + cell for cell in cells] + [words]
 
 
+def fault_words(place, scene):
+    """The bits at fault in a tile, with what claims them; the first is the report's."""
+    return ['%s: %s' % (position_name(p), words) for p, words in undecodable(scene.input.table, scene.input.tiles[place // POSITIONS])]
+
+
 def trail_words(ground, place, scene):
     """What leads to a no, where the input shows any of it."""
     if ground == 7:
         return loop_words(place, scene)
     head, lines = {
         3: ('it breaks these rules:', lambda: [words for part, words in broken_rules(scene.input.table) if part == place]),
-        4: ('in that tile:', lambda: list(undecodable(scene.input.table, scene.input.tiles[place]))),
+        4: ('in that tile:', lambda: fault_words(place, scene)),
         5: ('it is driven by:', lambda: scene.trail.fight(place)),
         6: ('it is read by:', lambda: scene.trail.carry_readers(place)),
         8: ('from switch to switch, back to the cell:', lambda: scene.trail.clocks(place)),

@@ -1,5 +1,5 @@
 """Grounds 3 and 4, in words: the rules of a routing table that it breaks, and the bits of a tile that it cannot decode (document 01, 'The
-routing table').
+routing table', and 02, W5).
 """
 from frames import CARRY_IN_SET, port_name
 from ice40 import CELL_BITS, CELLS, NAMES, PORT, POSITIONS, cell_position, position_name
@@ -65,16 +65,22 @@ def pattern_of(group, tile):
     return sum((tile >> p & 1) << k for k, p in enumerate(group.positions))
 
 
-def undecodable(table, tile):
-    """What of a tile's bits cannot be decoded, in words."""
+def faults(table, tile):
+    """The positions at fault in a tile, each with what claims it and what is wrong, in no order."""
     claimed = CELL_POSITIONS.union(table.fields, table.passive)
-    for group in table.groups:
+    for g, group in enumerate(table.groups):
         claimed.update(group.positions)
         pattern = pattern_of(group, tile)
         if pattern and pattern not in dict(group.entries):
-            yield 'no switch to %s has just %s set' % (port_name(group.destination), set_names(tile, group.positions))
+            yield group.positions[0], 'the first position of group %d, line %d of the input, destination %s: it does not list pattern %02X (%s set)' % (
+                g, g + 3, port_name(group.destination), pattern, set_names(tile, group.positions))
     for p in range(POSITIONS):
         if tile >> p & 1 and p not in claimed:
-            yield '%s is set and nothing claims it' % position_name(p)
+            yield p, 'set, and nothing claims it'
     if all(tile >> p & 1 for p in table.fields[CARRY_IN_SET:]):
-        yield 'CarryInSet and the switch from carry_in are both set: ' + set_names(tile, table.fields[CARRY_IN_SET:])
+        yield table.fields[CARRY_IN_SET], 'CarryInSet, set together with %s, the switch from carry_in' % position_name(table.fields[CARRY_IN_SET + 1])
+
+
+def undecodable(table, tile):
+    """The positions at fault in a tile, rising, with their words."""
+    return sorted(faults(table, tile))

@@ -7,7 +7,7 @@ import re
 from collections import Counter
 
 from frames import CHAIN, FIELDS
-from ice40 import CELLS, FLAG_BITS, LUT_INIT, NAMES, PORT, cell_position
+from ice40 import CELLS, FLAG_BITS, LUT_INIT, NAMES, PORT, POSITIONS, cell_position
 from rules import broken_rules, pattern_of, set_names, undecodable
 
 CARRY, FLIP_FLOP, _, ASYNCHRONOUS = FLAG_BITS
@@ -229,8 +229,8 @@ def verdict(block, table, tiles):
     for part, _ in broken_rules(table):
         return 3, part
     for t, tile in enumerate(tiles):
-        if any(undecodable(table, tile)):
-            return 4, t
+        for position, _ in undecodable(table, tile):
+            return 4, POSITIONS * t + position
     trail = Trail(block, table, tiles)
     for ground, places in ((5, trail.fights), (6, trail.disabled_carries), (7, trail.loops), (8, trail.cell_clocks)):
         found = places()

@@ -75,7 +75,7 @@ COMPUTED = [
     ('codec/Limits.settingsFit', ['codec/Reading.HasBits'], ['codec/settings-fit-exact']),
     ('codec/Encode.encode', ['codec/Reading.ReadsTo', 'codec/Reading.Decodable'],
      ['codec/encode-decodable', 'codec/settings-back', 'codec/bits-back']),
-    ('config/Blocks.undecodableTile', ['config/Facts.LowestUndecodable'], ['config/undecodable-lowest']),
+    ('config/Blocks.faultPlace', ['config/Facts.LowestFault'], ['config/fault-place-exact']),
     ('config/Blocks.bitlessTile', ['config/Facts.LowestBitless'], ['config/bitless-lowest']),
     ('config/Blocks.decoded', ['config/Facts.TilesRead'], ['config/decoded-at', 'codec/decode-reads', 'codec/reads-unique']),
     ('config/Blocks.encoded', ['config/Facts.TilesRead'], ['config/encoded-reads', 'codec/bits-back']),

@@ -9,3 +9,6 @@ pub mod TableLaws  -- tabulate-at, tabulate-is; Filled with its start, step and 
 pub mod PartLaws  -- part-joined; joined-step, joined-end: a slice filled part by part
 pub mod Clearing  -- cleared-start, -step, -end: a slice set to zeros
 pub mod Copying  -- Copied: a slice filled with what stands in a list
+pub mod RowLaws  -- rows-at, row-reached: where the row of a number that passes stands; rows-hit, -skip, -more, -gap and the same for the count: turns of the loops
+pub mod Storing  -- StoredRows with stored-start, -hit, -skip, -room, -more, -part, -gap: rows stored one by one, and some at a time
+pub mod ListingLaws  -- rows-listed: an enumeration's rows are a listing; listed-once, listed-unique, count-unique, listed-empty; filled-stored, filled-rest

@@ -1,5 +1,5 @@
 // Slices of numbers: clearing and copying them. The theory that every crate's loops cite is in specs/ and proofs/: searches by a test,
-// counts, lists given by a function, lists in equal parts. Nothing here knows of tiles.
+// counts, lists given by a function, lists in equal parts, listings. Nothing here knows of tiles.
 ghost use mathlib.Core.Path.{_≡_};
 ghost use lib.ListN.{length};
 ghost use Rattle.lists.specs.Tables.{zeros};
@@ -18,6 +18,17 @@ pub fn clear(room: &mut [u16])
 
 // The same for bytes.
 pub fn clear_bytes(room: &mut [u8])
+    ensures { λ r. ⌜ now (room .exit) ≡ zeros (length (now (room .entry))) ⌝ }
+{
+    let mut i = 0;
+    while i < room.len() {
+        room[i] = 0;
+        i += 1;
+    }
+}
+
+// The same for numbers of 32 bits.
+pub fn clear_numbers(room: &mut [u32])
     ensures { λ r. ⌜ now (room .exit) ≡ zeros (length (now (room .entry))) ⌝ }
 {
     let mut i = 0;

@@ -301,17 +301,19 @@ def judged_blocks():
     for place, groups, fields, passive in faulty_tables():
         yield 3, place, lines_of(groups, [[]], fields=fields, passive=passive)
         yield 3, place, lines_of(groups, [[B], [A, D]], 2, 1, fields, passive)
-    yield 4, 0, lines_of([PLAIN], [[B]])
-    yield 4, 0, lines_of([PLAIN], [[CHAIN, CARRY_SET]])
-    yield 4, 0, lines_of([(LOCAL, [A, B], [(3, OUT)])], [[A]])
-    yield 4, 2, lines_of([PLAIN], [[A], [], [B], [B]], 2, 2)
-    yield 4, 8, lines_of([PLAIN], [[]] * 8 + [[B]], 3, 3)
+    yield 4, B, lines_of([PLAIN], [[B]])
+    yield 4, CARRY_SET, lines_of([PLAIN], [[CHAIN, CARRY_SET]])
+    yield 4, A, lines_of([(LOCAL, [A, B], [(3, OUT)])], [[A]])
+    yield 4, B, lines_of([(LOCAL, [B, A], [(3, OUT)])], [[A]])  # the first that the table lists, not the lowest, and not set
+    yield 4, C, lines_of([(LOCAL, [D, A], [(3, OUT)])], [[A, C]])  # a stray bit below it
+    yield 4, 2 * 864 + B, lines_of([PLAIN], [[A], [], [B], [B]], 2, 2)
+    yield 4, 8 * 864 + B, lines_of([PLAIN], [[]] * 8 + [[B]], 3, 3)
     fight = [PLAIN, (LOCAL, [B], [(1, OUT)])]
     yield 5, LOCAL, lines_of(fight, [[A, B]])
     yield 5, LOCAL, lines_of(fight, [[A, B, flag(0, 0), flag(2, 0)]])
     yield 5, 506 + LOCAL, lines_of(fight, [[], [A, B]], 2, 1)
     yield 5, 48, lines_of([(48, [A], [(1, OUT)]), (0, [B], [(1, OUT)])], [[A], [B]], 2, 1)  # sp4_h_r_0 is the next tile's sp4_h_l_0
-    yield 4, 0, lines_of(fight, [[A, B, C]])
+    yield 4, C, lines_of(fight, [[A, B, C]])
     carry = [(LOCAL, [A], [(1, COUT)]), (LOCAL + 1, [B], [(1, LOCAL + 1)])]
     yield 6, COUT + 1, lines_of([PLAIN], [[flag(0, 0), flag(2, 0)]])
     yield 6, COUT, lines_of(carry, [[A]])

@@ -206,6 +206,18 @@ uint64_t ice40_write(uint32_t w, uint32_t h, const uint16_t *table, size_t table
 /* How many of a tile's bits are set. Grounds 1, 2, 20. */
 uint64_t ice40_bit_count(uint32_t w, uint32_t h, const uint8_t *bits, size_t bits_length, uint32_t tile);
 
+/* Every difference between two blocks of one size under one table; the value is the number of rows. Grounds 1, 14, 2, 3, 4, 15, each for the first block
+ * before the second. A row is five numbers: tile, 1 for a field, 2 a group, 3 a cell or 4 a passive bit, its index, old and new setting; a cell's is its
+ * table plus 65,536 times its flags. The output is list, of any length, with zeros behind the rows; before and after are work room, each as long as the
+ * settings of a block. */
+uint64_t ice40_compare(uint32_t w1, uint32_t h1, uint32_t w2, uint32_t h2, const uint16_t *table, size_t table_length, const uint8_t *first,
+                       size_t first_length, const uint8_t *second, size_t second_length, uint32_t *list, size_t list_length, uint16_t *before,
+                       size_t before_length, uint16_t *after, size_t after_length);
+
+/* Where tile's numbers begin in one of two blocks of one size: which is 0 for the first, any other number for the second. Grounds 1, 14, 2, 20. */
+uint64_t ice40_tile_part(uint32_t w1, uint32_t h1, uint32_t w2, uint32_t h2, const uint8_t *first, size_t first_length, const uint8_t *second,
+                         size_t second_length, uint32_t which, uint32_t tile);
+
 /* The list of a block's rows, in order; the value is the row count. Grounds 1 to 8. The output is list; the work room follows it: settings,
  * then wires, sources, rows (a list), marks and queue, which but for rows have a number for each port. */
 uint64_t ice40_build(uint32_t w, uint32_t h, uint32_t east, const uint16_t *table, size_t table_length, const uint8_t *bits,

@@ -103,6 +103,12 @@ extern "C" {
     pub fn ice40_write(w: u32, h: u32, table: *const u16, table_length: usize, settings: *const u16, settings_length: usize,
                        bits: *mut u8, bits_length: usize) -> u64;
     pub fn ice40_bit_count(w: u32, h: u32, bits: *const u8, bits_length: usize, tile: u32) -> u64;
+    pub fn ice40_compare(w1: u32, h1: u32, w2: u32, h2: u32, table: *const u16, table_length: usize,
+                         first: *const u8, first_length: usize, second: *const u8, second_length: usize,
+                         list: *mut u32, list_length: usize, before: *mut u16, before_length: usize,
+                         after: *mut u16, after_length: usize) -> u64;
+    pub fn ice40_tile_part(w1: u32, h1: u32, w2: u32, h2: u32, first: *const u8, first_length: usize,
+                           second: *const u8, second_length: usize, which: u32, tile: u32) -> u64;
     pub fn ice40_build(w: u32, h: u32, east: u32, table: *const u16, table_length: usize, bits: *const u8, bits_length: usize,
                        list: *mut u16, list_length: usize, settings: *mut u16, settings_length: usize,
                        wires: *mut u16, wires_length: usize, sources: *mut u16, sources_length: usize,

@@ -196,6 +196,68 @@ def depends(reads, start):
     return False
 
 
+# ---- two blocks compared (document 02, W4)
+
+FIRST_GROUP, FIRST_CELL = 67, 579
+
+
+def settings_of_kinds(tile):
+    """A tile's settings as a row's numbers: (kind, index, setting), fields 1, groups 2, cells 3, passive bits 4."""
+    rows = [(1, f, tile[f]) for f in range(3)]
+    rows += [(2, g, tile[FIRST_GROUP + g]) for g in range(512)]
+    rows += [(3, i, tile[FIRST_CELL + 2 * i] + 65536 * tile[FIRST_CELL + 2 * i + 1]) for i in range(8)]
+    return rows + [(4, j, tile[3 + j]) for j in range(64)]
+
+
+def differences(old, new):
+    """The rows of two lists of settings."""
+    rows = []
+    for t in range(len(old) // SETTINGS):
+        for (kind, index, a), (_, _, b) in zip(settings_of_kinds(old[SETTINGS * t:SETTINGS * (t + 1)]), settings_of_kinds(new[SETTINGS * t:SETTINGS * (t + 1)])):
+            if a != b:
+                rows.append((t, kind, index, a, b))
+    return rows
+
+
+def size_wrong(w, h):
+    return not (1 <= w <= 8 and 1 <= h <= 8)
+
+
+def compare(one, other, table, first, second, length, before, after):
+    """The rows, or a no. `one` and `other` are (w, h); `length`, `before` and `after` are how long the list and the work room are."""
+    if size_wrong(*one) or size_wrong(*other):
+        return 1, 0
+    if one != other:
+        return 14, 0
+    n = one[0] * one[1]
+    if (len(table), len(first), len(second), before, after) != (TABLE, BYTES * n, BYTES * n, SETTINGS * n, SETTINGS * n):
+        return 2, 0
+    settings = []
+    for bits in (first, second):
+        read_to = read(*one, table, bits)
+        if isinstance(read_to, tuple):
+            return read_to
+        settings.append(read_to)
+    rows = differences(*settings)
+    if length < 5 * len(rows):
+        return 15, len(rows)
+    return rows
+
+
+def part(one, other, first, second, tile):
+    """The index of the tile's first byte, or a no: grounds 1, 14, 2, 20."""
+    if size_wrong(*one) or size_wrong(*other):
+        return 1, 0
+    if one != other:
+        return 14, 0
+    n = one[0] * one[1]
+    if (first, second) != (BYTES * n, BYTES * n):
+        return 2, 0
+    if tile >= n:
+        return 20, tile
+    return BYTES * tile
+
+
 class Block:
     """The equations of a block with settings: what each wire is, by document 01's sentences."""
 

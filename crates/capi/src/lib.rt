@@ -14,6 +14,7 @@ use ports::size::Block;
 
 pub mod blocks;
 pub mod circuits;
+pub mod comparing;
 pub mod files;
 pub mod pack;
 

@@ -1,6 +1,7 @@
 -- The theorems of the three demands, and what they rest on.
 pub mod Demand1Laws  -- demand1: demand 1, closed
 pub mod EntryOrder  -- the grounds of wire_number, lookup, bit_count, read and write in their orders
+pub mod CompareOrder  -- compare-order, part-order: the grounds of compare and of asking for a tile's part
 pub mod FileOrder  -- those of reading, measuring and writing an ASCII file
 pub mod BlockOrder  -- those of build and follow
 pub mod StepOrder  -- those of step

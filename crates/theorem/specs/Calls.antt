@@ -1,6 +1,6 @@
 -- What the calls answer and write, over what is lent to them: the clauses of their contracts, with a name each.
 --   built == what `build` answers        settingsRead == what a yes of `read` writes      listBuilt == what a yes of `build` writes
---   followed == what `follow` answers    stepped == what `step` answers
+--   followed == what `follow` answers    stepped == what `step` answers                    compared == what `compare` answers
 --   valuesStepped, stateStepped == what a yes of `step` writes
 --   fileOf == the file of settings that are written to bits, and these to it
 --   PassesFour, PassesNine == checks 1 to 4 of `build`, and 1, 2, 3 and 9 of `follow`, pass
@@ -18,6 +18,9 @@ use Rattle.ports.specs.Block.{sizeOf, tileCount, tiles}
 use Rattle.ports.specs.Lengths.{bitsLength, ports}
 use Rattle.config.specs.Blocks.{decoded, encoded, tilesOf}
 use Rattle.config.specs.Entry.{readAnswer, writeAnswer}
+use Rattle.compare.specs.declared.Compared.{Compared}
+use Rattle.compare.specs.Lengths.{compareLent, compareExact}
+use Rattle.compare.specs.Entry.{compareAnswer}
 use Rattle.asc.specs.Area.{areaAt}
 use Rattle.asc.specs.Content.{written}
 use Rattle.equations.specs.Settling.{blockList}
@@ -48,6 +51,11 @@ pub record PassesFour (B : Block) (table bits settings : List ℕ) (room : RoomL
   pub read-done : readAnswer (sizeOf B) table bits (length settings) ≡ Done
   pub east-known : B .east < 2
   pub room-long : RoomLong B room
+
+-- `before` and `after` are the work room of `compare`
+abbrev pub compared : (A B : Size) → (table first second list before after : List ℕ) → Compared
+compared A B table first second list before after =
+    compareAnswer A B table (tilesOf first) (tilesOf second) (compareExact A (compareLent table first second before after)) (length list)
 
 abbrev pub settingsRead : Block → (table bits : List ℕ) → List ℕ
 settingsRead B table bits = decoded table (tilesOf bits) (tiles B)

@@ -12,9 +12,13 @@ use Rattle.refusal.specs.Grounds.{numberOf, answerNumber, answerValue}
 use Rattle.refusal.specs.Memory.{output, workRoom}
 use Rattle.ports.specs.declared.size.Size.{Size}
 use Rattle.ports.specs.declared.size.Block.{Block}
+use Rattle.ports.specs.Block.{tileCount}
 use Rattle.fabric.specs.WireNumber.{wireNumber, wireAnswerNumber, wireAnswerValue}
 use Rattle.cell.specs.Lookup.{lookedUp, lookedNumber, lookedValue}
 use Rattle.config.specs.Entry.{readAnswer, writeAnswer, bitCountAnswer, bitCountNumber, bitCountValue}
+use Rattle.config.specs.Blocks.{decoded, tilesOf}
+use Rattle.compare.specs.Lengths.{compareLent}
+use Rattle.compare.specs.Entry.{comparedNumber, comparedValue, partAnswer}
 use Rattle.block.specs.declared.lengths.RoomLent.{RoomLent}
 use Rattle.block.specs.Lengths.{buildLent, followLent}
 use Rattle.block.specs.Building.{builtNumber, builtValue}
@@ -25,8 +29,9 @@ use Rattle.asc.specs.Area.{areaAt}
 use Rattle.asc.specs.Answers as files
 use Rattle.frames.specs.Input.{parsed, parsedNumber, parsedPlace}
 use Rattle.reporting.specs.Report.{reportOf}
-use Rattle.theorem.specs.Calls.{built, followed, stepped, settingsRead}
+use Rattle.theorem.specs.Calls.{built, followed, stepped, settingsRead, compared}
 use Rattle.theorem.specs.EntryGrounds.{WireGrounds, LookupGrounds, CountGrounds, ReadGrounds, WriteGrounds}
+use Rattle.theorem.specs.CompareGrounds.{CompareGrounds, PartGrounds}
 use Rattle.theorem.specs.FileGrounds.{FileReadGrounds, FileLengthGrounds, FileWriteGrounds}
 use Rattle.theorem.specs.BlockGrounds.{BuildGrounds, FollowGrounds, StepGrounds}
 use Rattle.theorem.specs.ReportGrounds.{ParseGrounds, ReportSays}
@@ -43,6 +48,13 @@ pub record Demand1 : Type 0 where
   pub write : (S : Size) (table settings bits : List ℕ)
       → WriteGrounds S table settings bits (answerNumber (writeAnswer S table settings (length bits)))
       (answerValue (writeAnswer S table settings (length bits)))
+  pub compare : (A B : Size) (table first second list before after : List ℕ)
+      → CompareGrounds A B table first second (decoded table (tilesOf first) (tileCount A)) (decoded table (tilesOf second) (tileCount A))
+      (compareLent table first second before after) list (comparedNumber (compared A B table first second list before after))
+      (comparedValue (compared A B table first second list before after))
+  pub tile-part : (A B : Size) (first second : List ℕ) (tile : ℕ)
+      → PartGrounds A B first second tile (answerNumber (partAnswer A B (length first) (length second) tile))
+      (answerValue (partAnswer A B (length first) (length second) tile))
   pub file-read : (S : Size) (x y : ℕ) (text bits : List ℕ)
       → FileReadGrounds (areaAt S x y) text bits (answerNumber (files.readAnswer (areaAt S x y) text (length bits)))
       (answerValue (files.readAnswer (areaAt S x y) text (length bits)))

@@ -4,6 +4,7 @@ pub mod Choice  -- OnlyChoice: the one choice of values that the equations allow
 pub mod Listing  -- Listing: one row for each wire, in document 01's order
 pub mod Order  -- Check, Yes: a chain of checks in front of an answer, with number, ground and place
 pub mod EntryGrounds  -- the grounds of wire_number, lookup, bit_count, read and write in their orders
+pub mod CompareGrounds  -- those of compare and of asking for a tile's part
 pub mod FileGrounds  -- those of reading, measuring and writing an ASCII file
 pub mod BlockGrounds  -- those of build, follow and step
 pub mod ReportGrounds  -- those of the report program: parse and report

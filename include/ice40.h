@@ -23,7 +23,8 @@
  * Threads. The library has no variables: nothing is kept from one call to the next. Calls that share no memory which one of them writes may
  * run at the same time.
  *
- * Stack. ICE40_STACK_BYTES is enough for any call. Measured: ice40_read takes 82 kB, ice40_asc_read 56 kB, every other call less than 8 kB.
+ * Stack. ICE40_STACK_BYTES is enough for any call. Measured: ice40_read and ice40_contentions take 82 kB, ice40_asc_read 56 kB, every
+ * other call less than 8 kB.
  *
  * No call takes memory from the heap, opens a file, prints, or calls back. */
 #ifndef ICE40_H
@@ -95,6 +96,7 @@ static inline const char *ice40_place_words(uint32_t ground) {
 #define ICE40_PORTS_LENGTH(n) (506 * (size_t)(n))            /* a number for each port: lent values, work room */
 #define ICE40_LIST_LENGTH(n) (3542 * (size_t)(n))            /* uint16_t */
 #define ICE40_STATE_LENGTH(n) (8 * (size_t)(n))              /* uint8_t: cell i of tile t at 8 t + i */
+#define ICE40_SWITCHES_LENGTH(n) (512 * (size_t)(n))         /* uint16_t: a number for each group of each tile, work room */
 
 /* ---- a routing table. ICE40_TABLE_GROUP(g) is the first number of group g, and ICE40_GROUP_.. count from there */
 #define ICE40_TABLE_NEG_CLK 0
@@ -141,6 +143,12 @@ static inline const char *ice40_place_words(uint32_t ground) {
 #define ICE40_KIND_COPY 5
 #define ICE40_KIND_LOOKUP 6                                  /* in_0 first */
 #define ICE40_KIND_MAJORITY 7                                /* in_1, in_2, carry-in */
+
+/* ---- a list of contentions: row r at ICE40_CONTENTION_LENGTH * r. Rows rise by wire, tile and group, and zeros follow them */
+#define ICE40_CONTENTION_LENGTH 3
+#define ICE40_CONTENTION_WIRE 0
+#define ICE40_CONTENTION_TILE 1
+#define ICE40_CONTENTION_GROUP 2
 
 /* ---- the ports of a tile, IceStorm's names: port q of tile t is number 506 t + q */
 #define ICE40_CELLS 8                                        /* of a tile */
@@ -230,6 +238,15 @@ uint64_t ice40_build(uint32_t w, uint32_t h, uint32_t east, const uint16_t *tabl
 uint64_t ice40_follow(uint32_t w, uint32_t h, uint32_t east, const uint16_t *table, size_t table_length, const uint16_t *settings,
                       size_t settings_length, uint32_t tile, uint32_t port, uint16_t *wires, size_t wires_length, uint16_t *sources,
                       size_t sources_length, uint16_t *marks, size_t marks_length);
+
+/* Every contention of a block (document 02: fight): a row of wire, tile and group for each enabled switch on a wire on which two or more
+ * end; the value is the number of rows. Grounds 1 to 4, then 15, whose place is the number of rows needed. The output is list, of any length;
+ * no block needs more than ICE40_CONTENTION_LENGTH * ICE40_SWITCHES_LENGTH(n). The work room follows it: settings, wires and heads, which have
+ * a number for each port, and nexts, one for each group of each tile. */
+uint64_t ice40_contentions(uint32_t w, uint32_t h, uint32_t east, const uint16_t *table, size_t table_length, const uint8_t *bits,
+                           size_t bits_length, uint16_t *list, size_t list_length, uint16_t *settings, size_t settings_length,
+                           uint16_t *wires, size_t wires_length, uint16_t *heads, size_t heads_length, uint16_t *nexts,
+                           size_t nexts_length);
 
 /* One step from the values before to those after: writes every port's value before, and the next state. Grounds 1, 2, 3, 9, 12, 10. The
  * outputs are values and next; the work room is wires, own, marks, first and second. */

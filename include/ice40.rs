@@ -26,6 +26,7 @@ pub const SETTINGS_LENGTH: usize = 595;
 pub const PORTS_LENGTH: usize = 506;
 pub const LIST_LENGTH: usize = 3542;
 pub const STATE_LENGTH: usize = 8;
+pub const SWITCHES_LENGTH: usize = 512;
 
 // A routing table: where its parts stand, and within a group from `table_group`.
 pub const TABLE_NEG_CLK: usize = 0;
@@ -117,6 +118,10 @@ extern "C" {
     pub fn ice40_follow(w: u32, h: u32, east: u32, table: *const u16, table_length: usize, settings: *const u16, settings_length: usize,
                         tile: u32, port: u32, wires: *mut u16, wires_length: usize, sources: *mut u16, sources_length: usize,
                         marks: *mut u16, marks_length: usize) -> u64;
+    pub fn ice40_contentions(w: u32, h: u32, east: u32, table: *const u16, table_length: usize, bits: *const u8, bits_length: usize,
+                             list: *mut u16, list_length: usize, settings: *mut u16, settings_length: usize,
+                             wires: *mut u16, wires_length: usize, heads: *mut u16, heads_length: usize,
+                             nexts: *mut u16, nexts_length: usize) -> u64;
     pub fn ice40_step(w: u32, h: u32, east: u32, table: *const u16, table_length: usize, settings: *const u16, settings_length: usize,
                       list: *const u16, list_length: usize, state: *const u8, state_length: usize,
                       before: *const u8, before_length: usize, after: *const u8, after_length: usize,

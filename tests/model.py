@@ -5,15 +5,17 @@ bytes a tile, rows of seven numbers; at its end, on the lines of the report prog
 asked for. `east` is the byte that says whether the column to the east of the block is logic or RAM; calls whose answer rests on no join do
 not take it.
 """
+import functools
 import heapq
 import os
 import re
 import sys
 
 sys.path.insert(0, os.path.dirname(os.path.abspath(__file__)))
-from wire_numbers import BASE, PORTS, wires as union_find  # noqa: E402
+from wire_numbers import BASE, PORTS, wires  # noqa: E402
 
 TABLE, SETTINGS, BYTES = 38469, 595, 108
+union_find = functools.lru_cache(maxsize=None)(wires)  # nobody writes to what it gives
 LUT_INIT = [4, 14, 15, 5, 6, 16, 17, 7, 3, 13, 12, 2, 1, 11, 10, 0]
 FLAG_BITS = [8, 9, 18, 19]  # carry, flip-flop, set, asynchronous
 
@@ -397,6 +399,25 @@ def build_settings(w, h, east, table, settings):
         return 7, block.lowest_loop(left, rows)
     tile = block.clocked_tile()
     return listed if tile is None else (8, tile)
+
+
+# ---- contentions
+
+def contentions(w, h, east, table, bits, room):
+    """A row (wire, tile, group) for each enabled switch on a wire on which two or more end, rising, or a no. `room` is the length of the
+    lent list, in numbers."""
+    settings = read(w, h, table, bits) if east < 2 else (1, 0)
+    if isinstance(settings, tuple):
+        return settings
+    ends = {}
+    for driven, _, t, g in Block(w, h, east, table, settings).switches:
+        ends.setdefault(driven, []).append((driven, t, g))
+    return in_room(sorted(row for switches in ends.values() if len(switches) > 1 for row in switches), room)
+
+
+def in_room(rows, room):
+    """Rows of three numbers in a list of so many, or ground 15."""
+    return rows if 3 * len(rows) <= room else (15, len(rows))
 
 
 # ---- a step

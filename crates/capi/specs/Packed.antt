@@ -14,6 +14,8 @@ use Rattle.block.specs.declared.Followed.{Followed}
 use Rattle.block.specs.declared.Followed.the-variants.{Driven, Refused}
 use Rattle.block.specs.Building.{builtNumber, builtValue}
 use Rattle.block.specs.Drivers.{followedNumber, followedValue, driverKind, driverWire}
+use Rattle.contention.specs.declared.ContentionList.{ContentionList}
+use Rattle.contention.specs.Entry.{contentionsNumber, contentionsValue}
 
 -- number and value as one
 abbrev pub packed : ℕ → ℕ → ℕ
@@ -34,6 +36,10 @@ packedAnswer answer = packed (answerNumber answer) (answerValue answer)
 -- the value of building is the row count
 abbrev pub packedBuilt : Built → ℕ
 packedBuilt answer = packed (builtNumber answer) (builtValue answer)
+
+-- the value of the listing of contentions is the number of rows
+abbrev pub packedContentions : ContentionList → ℕ
+packedContentions answer = packed (contentionsNumber answer) (contentionsValue answer)
 
 -- the value of following is 65,536 times 1 open, 2 zero, 3 one, 4 cell, 5 ring, plus the wire
 abbrev pub driverCode : Driver → ℕ

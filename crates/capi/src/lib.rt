@@ -15,6 +15,7 @@ use ports::size::Block;
 pub mod blocks;
 pub mod circuits;
 pub mod comparing;
+pub mod contentions;
 pub mod files;
 pub mod pack;
 

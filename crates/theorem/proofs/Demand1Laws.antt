@@ -15,6 +15,7 @@ use Rattle.theorem.proofs.CompareOrder.{compare-order, part-order}
 use Rattle.theorem.proofs.FileOrder.{file-read-order, file-length-order, file-write-order}
 use Rattle.theorem.proofs.BlockOrder.{build-order, follow-order}
 use Rattle.theorem.proofs.StepOrder.{step-order}
+use Rattle.theorem.proofs.ContentionOrder.{contentions-order}
 use Rattle.theorem.proofs.ParseOrder.{parse-order}
 use Rattle.theorem.proofs.ReportOrder.{report-order}
 
@@ -40,6 +41,7 @@ demand1 = record {
   build = build-order;
   follow = follow-order;
   step = step-order;
+  contentions = contentions-order;
   parse = parse-order;
   report = report-order;
   outputs-kept = λ refusal old new. output-refused old new refusal;

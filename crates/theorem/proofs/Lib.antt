@@ -5,6 +5,7 @@ pub mod CompareOrder  -- compare-order, part-order: the grounds of compare and o
 pub mod FileOrder  -- those of reading, measuring and writing an ASCII file
 pub mod BlockOrder  -- those of build and follow
 pub mod StepOrder  -- those of step
+pub mod ContentionOrder  -- those of contentions
 pub mod ParseOrder  -- those of reading frames
 pub mod ReportOrder  -- those of a report, with the line that says them
 pub mod OneAnswer  -- check-agrees, bits-agrees: a table of grounds fits one number and place only

@@ -1,6 +1,7 @@
 -- What the calls answer and write, over what is lent to them: the clauses of their contracts, with a name each.
 --   built == what `build` answers        settingsRead == what a yes of `read` writes      listBuilt == what a yes of `build` writes
 --   followed == what `follow` answers    stepped == what `step` answers                    compared == what `compare` answers
+--   contended == what `contentions` answers
 --   valuesStepped, stateStepped == what a yes of `step` writes
 --   fileOf == the file of settings that are written to bits, and these to it
 --   PassesFour, PassesNine == checks 1 to 4 of `build`, and 1, 2, 3 and 9 of `follow`, pass
@@ -31,6 +32,9 @@ use Rattle.block.specs.declared.lengths.RoomLent.{RoomLent}
 use Rattle.block.specs.Lengths.{RoomLong, buildLent, buildExact, followLent, followExact}
 use Rattle.block.specs.Building.{buildAnswer}
 use Rattle.block.specs.Drivers.{followAnswer}
+use Rattle.contention.specs.declared.ContentionList.{ContentionList}
+use Rattle.contention.specs.Lengths.{contentionLent, contentionExact}
+use Rattle.contention.specs.Entry.{contentionsAnswer}
 use Rattle.stepper.specs.Settling.{settledBy, portValues}
 use Rattle.stepper.specs.Clocking.{nextStates}
 use Rattle.sim.specs.declared.lengths.StepRoomLent.{StepRoomLent}
@@ -66,6 +70,11 @@ fileOf S x y table settings = written (areaAt S x y) (encoded table settings (ti
 
 abbrev pub listBuilt : Block → (table bits : List ℕ) → List ℕ
 listBuilt B table bits = blockList B table (settingsRead B table bits)
+
+-- `settings`, `wires`, `heads` and `nexts` are the work room of `contentions`
+abbrev pub contended : Block → (table bits list settings wires heads nexts : List ℕ) → ContentionList
+contended B table bits list settings wires heads nexts =
+    contentionsAnswer B table bits (contentionExact B (contentionLent table bits settings wires heads nexts)) (length list)
 
 -- `wires`, `sources` and `marks` are the work room of `follow`
 abbrev pub followed : Block → (table settings : List ℕ) → (tile port : ℕ) → (wires sources marks : List ℕ) → Followed

@@ -23,17 +23,20 @@ use Rattle.block.specs.declared.lengths.RoomLent.{RoomLent}
 use Rattle.block.specs.Lengths.{buildLent, followLent}
 use Rattle.block.specs.Building.{builtNumber, builtValue}
 use Rattle.block.specs.Drivers.{followedNumber, followedValue}
+use Rattle.contention.specs.Lengths.{contentionLent}
+use Rattle.contention.specs.Entry.{contentionsNumber, contentionsValue}
 use Rattle.sim.specs.declared.lengths.StepRoomLent.{StepRoomLent}
 use Rattle.sim.specs.Lengths.{inputsLent, stepLent}
 use Rattle.asc.specs.Area.{areaAt}
 use Rattle.asc.specs.Answers as files
 use Rattle.frames.specs.Input.{parsed, parsedNumber, parsedPlace}
 use Rattle.reporting.specs.Report.{reportOf}
-use Rattle.theorem.specs.Calls.{built, followed, stepped, settingsRead, compared}
+use Rattle.theorem.specs.Calls.{built, followed, stepped, contended, settingsRead, compared}
 use Rattle.theorem.specs.EntryGrounds.{WireGrounds, LookupGrounds, CountGrounds, ReadGrounds, WriteGrounds}
 use Rattle.theorem.specs.CompareGrounds.{CompareGrounds, PartGrounds}
 use Rattle.theorem.specs.FileGrounds.{FileReadGrounds, FileLengthGrounds, FileWriteGrounds}
 use Rattle.theorem.specs.BlockGrounds.{BuildGrounds, FollowGrounds, StepGrounds}
+use Rattle.theorem.specs.ContentionGrounds.{ContentionGrounds}
 use Rattle.theorem.specs.ReportGrounds.{ParseGrounds, ReportSays}
 
 pub record Demand1 : Type 0 where
@@ -72,6 +75,9 @@ pub record Demand1 : Type 0 where
   pub step : (B : Block) (table settings list state before after : List ℕ) (room : StepRoomLent)
       → StepGrounds B table settings list state before after (stepLent (inputsLent table settings list state before after) room)
       (answerNumber (stepped B table settings list state before after room)) (answerValue (stepped B table settings list state before after room))
+  pub contentions : (B : Block) (table bits list settings wires heads nexts : List ℕ)
+      → ContentionGrounds B table bits (settingsRead B table bits) (contentionLent table bits settings wires heads nexts) (length list)
+      (contentionsNumber (contended B table bits list settings wires heads nexts)) (contentionsValue (contended B table bits list settings wires heads nexts))
   -- the same of the report program: of reading its frames, and of its report, whose last line has the number and the place
   pub parse : (input : List ℕ) → ParseGrounds input (parsed input) (parsedNumber (parsed input)) (parsedPlace (parsed input))
   pub report : (input : List ℕ) → ReportSays input (reportOf input)

@@ -7,6 +7,7 @@ pub mod EntryGrounds  -- the grounds of wire_number, lookup, bit_count, read and
 pub mod CompareGrounds  -- those of compare and of asking for a tile's part
 pub mod FileGrounds  -- those of reading, measuring and writing an ASCII file
 pub mod BlockGrounds  -- those of build, follow and step
+pub mod ContentionGrounds  -- those of contentions
 pub mod ReportGrounds  -- those of the report program: parse and report
 pub mod Demand1  -- Demand1
 pub mod Demand2  -- Demand2

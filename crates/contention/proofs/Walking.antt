@@ -1,0 +1,189 @@
+-- A wire's chain, walked: the switches that end on it, one by one. Main laws: `walk-start`, `-inside`, `-turn`, `-done`; `counted-..`, `filed-..`: with
+-- their number, with their rows. Assumes nothing.
+use Prim.Native.Nat.{ℕ, zero, suc, _+_, _-_, _*_, _<_, _≤_}
+use mathlib.Core.Path.{_≡_, refl, sym, ap, ap₂, subst, _∙_}
+use mathlib.Core.Bool.{Bool, true, false, cond}
+use mathlib.Core.Logic.{⊎-elim, _≢_}
+use mathlib.Core.List.{List, [], _∷_}
+use native.Mathlib.Omega.{arith}
+use native.Mathlib.Numerals.{add-one}
+use borrow.Author.Tests.{eqb-true, lt-ltb, le-ltb}
+use lib.Dec.{eqb}
+use lib.ListN.{length, getD, set}
+use lib.Seq.{sets}
+use Rattle.lists.specs.Search.{first, countBelow}
+use Rattle.lists.proofs.CaseLaws.{and-left, and-right, lt-or-le}
+use Rattle.lists.proofs.SearchLaws.{first-true, first-before}
+use Rattle.lists.proofs.CountLaws.{count-le}
+use Rattle.lists.proofs.RowLaws.{count-hit, count-gap, count-none-yet}
+use Rattle.lists.proofs.Storing.{StoredRows, stored-start, stored-hit, stored-room, stored-gap}
+use Rattle.ports.specs.declared.size.Block.{Block}
+use Rattle.equations.specs.Switches.{tileOf, groupIn, switches, enabled, target}
+use Rattle.equations.specs.WireRows.{endsOn}
+use Rattle.contention.specs.Contentions.{rowLength, switchRow}
+use Rattle.contention.specs.Chains.{nextOn, linkFrom, Chained}
+use Rattle.contention.proofs.ContentionLaws.{switch-row-length}
+
+-- a search ends no earlier than it began
+first-later : (p : ℕ → Bool) (i m : ℕ) → i ≤ first p i m
+unfolding first
+first-later p i zero = omega arith
+first-later p i (suc m) = go (p i) (first-later p (suc i) m)
+  where
+    go : (b : Bool) → suc i ≤ first p (suc i) m → i ≤ cond b i (first p (suc i) m)
+    go true h = omega arith
+    go false h = omega arith
+
+-- a row as the code stores it
+pub three-row : (l : List ℕ) (at a b c : ℕ) → set (set (set l at a) (at + 1) b) (at + 2) c ≡ sets l at (a ∷ b ∷ c ∷ [])
+three-row l at a b c =
+    let p : at + 1 ≡ suc at = omega arith in
+    let q : at + 2 ≡ suc (suc at) = omega arith in
+    rw (p, q)
+
+module _ (B : Block) (t st : List ℕ) where
+  -- ---- the walk
+
+  -- the link leads to the first switch from `past` on that ends on wire w
+  pub record Walk (w past link : ℕ) : Type 0 where
+    pub upto : past ≤ switches B
+    pub leads : link ≡ linkFrom B t st w past
+
+  -- where it leads
+  pub record Met (w past link : ℕ) : Type 0 where
+    pub switch : ℕ
+    pub is : link ≡ suc switch
+    pub later : past ≤ switch
+    pub within : switch < switches B
+    pub ends : endsOn B t st w switch ≡ true
+    pub none : (k : ℕ) → past ≤ k → k < switch → endsOn B t st w k ≡ false
+
+  walk-start : (w link : ℕ) → link ≡ linkFrom B t st w 0 → Walk w 0 link
+  walk-start w link e = record { upto = omega arith; leads = e }
+
+  module _ (w past link : ℕ) (W : Walk w past link) where
+    abbrev reached : ℕ
+    reached = nextOn B t st w past
+
+    -- a search that finds one, or none
+    found : reached < switches B → link ≡ suc reached
+    found l = W .leads ∙ ap (λ (b : Bool). cond {A = ℕ} b (suc reached) 0) (lt-ltb reached (switches B) l)
+
+    ended : switches B ≤ reached → link ≡ 0
+    ended l = W .leads ∙ ap (λ (b : Bool). cond {A = ℕ} b (suc reached) 0) (le-ltb reached (switches B) l)
+
+    pub walk-met : link ≢ 0 → Met w past link
+    walk-met n =
+        let l : reached < switches B = ⊎-elim (λ z. z) (λ (z : switches B ≤ reached). absurd (n (ended z))) (lt-or-le reached (switches B)) in
+        let u = W .upto in
+        record {
+          switch = reached;
+          is = found l;
+          later = first-later (endsOn B t st w) past (switches B - past);
+          within = l;
+          ends = first-true (endsOn B t st w) past (switches B - past) (let z : reached < past + (switches B - past) = omega arith in z);
+          none = λ k a b. first-before (endsOn B t st w) past (switches B - past) k a b;
+        }
+
+    pub walk-done : link ≡ 0 → (k : ℕ) → past ≤ k → k < switches B → endsOn B t st w k ≡ false
+    walk-done e k a b =
+        first-before (endsOn B t st w) past (switches B - past) k a
+        (⊎-elim (λ (z : reached < switches B). absurd (let q : suc reached ≡ 0 = sym (found z) ∙ e in omega arith))
+        (λ (z : switches B ≤ reached). let y : k < reached = omega arith in y) (lt-or-le reached (switches B)))
+
+    module _ (heads nexts : List ℕ) (C : Chained B t st 0 heads nexts) (n : link ≢ 0) where
+      abbrev met : Met w past link
+      met = walk-met n
+
+      pub walk-inside : link - 1 < length nexts
+      walk-inside = let e = met .is in let l = met .within in omega (arith, C .nexts-long)
+
+      -- the next link
+      pub walk-turn : (next : ℕ) → next ≡ getD nexts (link - 1) 0 → Walk w (suc (walk-met n .switch)) next
+      unfolding endsOn
+      walk-turn next e =
+          let i : link - 1 ≡ met .switch = (let q = met .is in omega arith) in
+          let on = and-left (enabled B t st (met .switch)) (eqb (target B t (met .switch)) w) (met .ends) in
+          let onto = eqb-true (target B t (met .switch)) w (and-right (enabled B t st (met .switch)) (eqb (target B t (met .switch)) w) (met .ends)) in
+          record {
+            upto = met .within;
+            leads = e ∙ ap (λ (x : ℕ). getD nexts x 0) i ∙ C .next (met .switch) (omega arith) (met .within) on
+                ∙ ap (λ (x : ℕ). linkFrom B t st x (suc (met .switch))) onto;
+          }
+
+  -- ---- with the number of switches met
+
+  pub record Counted (w n link : ℕ) : Type 0 where
+    pub past : ℕ
+    pub walk : Walk w past link
+    pub met : n ≡ countBelow (endsOn B t st w) past
+
+  pub counted-start : (w link : ℕ) → link ≡ linkFrom B t st w 0 → Counted w 0 link
+  counted-start w link e = record { past = 0; walk = walk-start w link e; met = count-none-yet (endsOn B t st w) }
+
+  module _ (w n link : ℕ) (K : Counted w n link) where
+    pub counted-end : link ≡ 0 → n ≡ countBelow (endsOn B t st w) (switches B)
+    counted-end e =
+        K .met ∙ count-gap (endsOn B t st w) (K .past) (switches B) (K .walk .upto) (walk-done w (K .past) link (K .walk) e)
+
+    module _ (heads nexts : List ℕ) (C : Chained B t st 0 heads nexts) (ne : link ≢ 0) where
+      abbrev meets : Met w (K .past) link
+      meets = walk-met w (K .past) link (K .walk) ne
+
+      more : n + 1 ≡ countBelow (endsOn B t st w) (suc (meets .switch))
+      more =
+          count-hit (endsOn B t st w) (meets .switch) n
+          (K .met ∙ count-gap (endsOn B t st w) (K .past) (meets .switch) (meets .later) (meets .none)) (meets .ends)
+          ∙ ap (countBelow (endsOn B t st w)) (add-one (meets .switch))
+
+      pub counted-inside : link - 1 < length nexts
+      counted-inside = walk-inside w (K .past) link (K .walk) heads nexts C ne
+
+      pub counted-few : n < switches B
+      counted-few = let a = more in let l = meets .within in omega (arith, count-le (endsOn B t st w) (suc (meets .switch)))
+
+      pub counted-turn : (next : ℕ) → next ≡ getD nexts (link - 1) 0 → Counted w (n + 1) next
+      counted-turn next e = record { past = suc (meets .switch); walk = walk-turn w (K .past) link (K .walk) heads nexts C ne next e; met = more }
+
+  -- ---- with their rows
+
+  pub record Filed (w from : ℕ) (old : List ℕ) (at link : ℕ) (list : List ℕ) : Type 0 where
+    pub past : ℕ
+    pub walk : Walk w past link
+    pub file : StoredRows (endsOn B t st w) (switchRow w) rowLength from old past at list
+
+  pub filed-start : (w from : ℕ) (old : List ℕ) (link : ℕ) → link ≡ linkFrom B t st w 0 → Filed w from old from link old
+  filed-start w from old link e =
+      record { past = 0; walk = walk-start w link e; file = stored-start (endsOn B t st w) (switchRow w) rowLength from old }
+
+  module _ (w from : ℕ) (old : List ℕ) (at link : ℕ) (list : List ℕ) (K : Filed w from old at link list) where
+    pub filed-end : link ≡ 0 → StoredRows (endsOn B t st w) (switchRow w) rowLength from old (switches B) at list
+    filed-end e = stored-gap (endsOn B t st w) (K .past) (switches B) (K .walk .upto) (walk-done w (K .past) link (K .walk) e) (K .file)
+
+    module _ (heads nexts : List ℕ) (C : Chained B t st 0 heads nexts) (ne : link ≢ 0) where
+      abbrev filed : Met w (K .past) link
+      filed = walk-met w (K .past) link (K .walk) ne
+
+      upto-it : StoredRows (endsOn B t st w) (switchRow w) rowLength from old (filed .switch) at list
+      upto-it = stored-gap (endsOn B t st w) (K .past) (filed .switch) (filed .later) (filed .none) (K .file)
+
+      pub filed-inside : link - 1 < length nexts
+      filed-inside = walk-inside w (K .past) link (K .walk) heads nexts C ne
+
+      pub filed-within : link - 1 < switches B
+      filed-within = let e = filed .is in let l = filed .within in omega arith
+
+      pub filed-room : from + rowLength * countBelow (endsOn B t st w) (switches B) ≤ length old → at + rowLength ≤ length list
+      filed-room fits = stored-room upto-it (switch-row-length w) (switches B) (filed .within) (filed .ends) fits
+
+      pub filed-turn : (next : ℕ) (new : List ℕ) (then x : ℕ) → next ≡ getD nexts (link - 1) 0 → x ≡ w
+          → new ≡ sets list at (x ∷ tileOf (link - 1) ∷ groupIn (link - 1) ∷ []) → then ≡ at + rowLength → Filed w from old then next new
+      unfolding switchRow
+      filed-turn next new then x e q g h =
+          let i : link - 1 ≡ filed .switch = (let z = filed .is in omega arith) in
+          record {
+            past = suc (filed .switch);
+            walk = walk-turn w (K .past) link (K .walk) heads nexts C ne next e;
+            file = subst (λ (y : ℕ). StoredRows (endsOn B t st w) (switchRow w) rowLength from old y then new) (add-one (filed .switch))
+                (stored-hit upto-it (switch-row-length w) new then (g ∙ ap₂ (λ (a b : ℕ). sets list at (a ∷ tileOf b ∷ groupIn b ∷ [])) q i) h (filed .ends));
+          }

@@ -1,0 +1,101 @@
+-- `chains::chain_switch` meets its contract: a group that is off is skipped, a switch goes in front of its wire's chain. Assumes nothing.
+use Rattle.contention.proofs.Chaining.{switch-few, group-skipped, ends-port, ends-lt, group-chained}
+use native.Mathlib.Omega.{arith}
+use mathlib.Core.Path.{refl, sym, _∙_}
+use borrow.Author.Needs.{needs}
+use Rattle.contention.proofs.chains.chain_switch.Statement.{statement}
+use Rattle.contention.proofs.chains.chain_switch.Tie as tie
+
+group-at-requires : tie.Need-group-at-requires
+group-at-requires c κs = search needs
+
+returns : tie.Need-returns
+returns c =
+    let at-start = c .before .before .before .before .before .before .before in
+    let a = at-start .args in
+    let r = at-start .pre .0 in
+    group-skipped (a .b) (a .table .now) (a .st .now) (r .0) (a .tile) (a .g) (r .2) (r .3) _ _ (at-start .pre .1) (sym (c .before .group-at .ensures) ∙ c .if1 .taken)
+
+destination-requires : tie.Need-destination-requires
+destination-requires c κs = search needs
+
+cast-tile-wire : tie.Need-cast-tile-wire
+cast-tile-wire c = search needs
+
+tile-wire-requires : tie.Need-tile-wire-requires
+tile-wire-requires c κs =
+    let at-start = c .before .before .before .before .before .before .before .before in
+    let a = at-start .args in
+    let r = at-start .pre .0 in
+    (r .1, ends-port (a .b) (a .table .now) (a .st .now) (r .0) (a .tile) (a .g) (r .2) (r .3) (λ z. c .before .if1 .left (c .before .before .group-at .ensures ∙ z)) _ (c .destination .ensures))
+
+wide-requires : tie.Need-wide-requires
+wide-requires c κs = search needs
+
+mul-s : tie.Need-mul-s
+mul-s c = search needs
+
+add-s : tie.Need-add-s
+add-s c = search needs
+
+mul-nexts : tie.Need-mul-nexts
+mul-nexts c = search needs
+
+slice-read-nexts : tie.Need-slice-read-nexts
+slice-read-nexts c =
+    let at-start = c .before .before .before .before .before .before .before .before .before .before .before in
+    let a = at-start .args in
+    let r = at-start .pre .0 in
+    let l = ends-lt (a .b) (a .table .now) (a .st .now) (r .0) (a .tile) (a .g) (r .2) (r .3) (λ z. c .before .before .before .before .if1 .left (c .before .before .before .before .before .group-at .ensures ∙ z)) _ _ (c .before .wide .ensures ∙ c .before .before .tile-wire .ensures) (c .before .before .before .destination .ensures) in
+    omega (arith, at-start .pre .1 .heads-long)
+
+mul-nexts-2 : tie.Need-mul-nexts-2
+mul-nexts-2 c = search needs
+
+slice-write-nexts : tie.Need-slice-write-nexts
+slice-write-nexts c = search needs
+
+cast-heads : tie.Need-cast-heads
+cast-heads c =
+    let at-start = c .before .before .before .before .before .before .before .before .before .before .before in
+    let a = at-start .args in
+    let r = at-start .pre .0 in
+    let few = switch-few (a .b) (a .table .now) (a .st .now) (r .0) (a .tile) (a .g) (r .2) (r .3) in
+    omega arith
+
+add-heads : tie.Need-add-heads
+add-heads c =
+    let at-start = c .before .before .before .before .before .before .before .before .before .before .before in
+    let a = at-start .args in
+    let r = at-start .pre .0 in
+    let few = switch-few (a .b) (a .table .now) (a .st .now) (r .0) (a .tile) (a .g) (r .2) (r .3) in
+    omega arith
+
+mul-heads : tie.Need-mul-heads
+mul-heads c = search needs
+
+slice-write-heads : tie.Need-slice-write-heads
+slice-write-heads c =
+    let at-start = c .before .before .before .before .before .before .before .before .before .before .before in
+    let a = at-start .args in
+    let r = at-start .pre .0 in
+    let l = ends-lt (a .b) (a .table .now) (a .st .now) (r .0) (a .tile) (a .g) (r .2) (r .3) (λ z. c .before .before .before .before .if1 .left (c .before .before .before .before .before .group-at .ensures ∙ z)) _ _ (c .before .wide .ensures ∙ c .before .before .tile-wire .ensures) (c .before .before .before .destination .ensures) in
+    omega (arith, at-start .pre .1 .heads-long)
+
+same-length : tie.Need-same-length
+same-length c = search needs
+
+same-length-2 : tie.Need-same-length-2
+same-length-2 c = search needs
+
+-- a switch that is on
+returns-2 : tie.Need-returns-2
+returns-2 c =
+    let at-start = c .before .before .before .before .before .before .before .before .before .before .before in
+    let a = at-start .args in
+    let r = at-start .pre .0 in
+    group-chained (a .b) (a .table .now) (a .st .now) (r .0) (a .tile) (a .g) (r .2) (r .3) (λ z. c .before .before .before .before .if1 .left (c .before .before .before .before .before .group-at .ensures ∙ z)) _ _
+    (c .before .wide .ensures ∙ c .before .before .tile-wire .ensures) (c .before .before .before .destination .ensures) _ _ (at-start .pre .1) _ refl
+
+pub chain-switch-spec : {M : Type 1} → statement M
+chain-switch-spec = tie.close (tie.spec group-at-requires returns destination-requires cast-tile-wire tile-wire-requires wide-requires mul-s add-s mul-nexts slice-read-nexts mul-nexts-2 slice-write-nexts cast-heads add-heads mul-heads slice-write-heads same-length same-length-2 returns-2)

@@ -14,7 +14,7 @@ use Rattle.refusal.specs.Grounds.{unless, answerNumber, answerValue}
 use Rattle.refusal.specs.declared.Answer.{Answer}
 use Rattle.ports.specs.declared.size.Size.{Size}
 use Rattle.ports.specs.Block.{Allowed, tileCount, allowed}
-use Rattle.ports.specs.Lengths.{tableLength}
+use Rattle.ports.specs.Lengths.{tableLength, bitsLength}
 use Rattle.ports.proofs.BlockLaws.{allowed-exact, allowed-true}
 use Rattle.routing.specs.LogicTile.{logicTile}
 use Rattle.routing.specs.Rules.{TableRules, FirstBroken}
@@ -28,21 +28,21 @@ use Rattle.compare.specs.declared.Compared.{Compared}
 use Rattle.compare.specs.declared.lengths.CompareLent.{CompareLent}
 use Rattle.compare.specs.Places.{rowLength}
 use Rattle.compare.specs.Rows.{differenceCount, differences}
-use Rattle.compare.specs.Lengths.{sameSize, partExact, compareLent, compareExact}
+use Rattle.compare.specs.Lengths.{SameSize, CompareLong, sameSize, partExact, compareLent, compareExact}
 use Rattle.compare.specs.Entry.{comparedNumber, comparedValue, rowsAnswer, bitsAnswer, compareAnswer, comparedList, partAnswer}
 use Rattle.compare.proofs.LengthLaws.{same-size-exact, part-long-exact, compare-long-exact}
 use Rattle.compare.proofs.DifferenceLaws.{differences-listed}
-use Rattle.theorem.specs.Order.{Check, Yes}
+use Rattle.theorem.specs.Order.{Check, Yes, at, at0}
 use Rattle.theorem.specs.EntryGrounds.{AllDecodable}
 use Rattle.theorem.specs.CompareGrounds.{RowsNeeded, CompareGrounds, PartGrounds}
 use Rattle.theorem.proofs.EntryOrder.{no-broken}
 
 -- one check of a chain, in front of an answer of any kind
-check-order : {A : Type 0} (number value : A → ℕ) (b : Bool) (refused later : A) (ground : ℕ) {passes : Type 0} {place : ℕ → Type 0} {G : ℕ → ℕ → Type 0}
+check-order : {A : Type 0} (number value : A → ℕ) (b : Bool) (refused later : A) (ground : ℕ) {passes : Type 0} (place : ℕ → Type 0) (G : ℕ → ℕ → Type 0)
     → (b ≡ false → (passes → ⊥) × (number refused ≡ ground) × place (value refused)) → (b ≡ true → passes × G (number later) (value later))
     → Check ground passes place G (number (unless b refused later)) (value (unless b refused later))
-check-order number value true refused later ground f g = inr (g refl)
-check-order number value false refused later ground f g = inl (f refl)
+check-order number value true refused later ground place G f g = inr (g refl)
+check-order number value false refused later ground place G f g = inl (f refl)
 
 module _ (A B : Size) (table first second list before after : List ℕ) where
   abbrev lent : CompareLent
@@ -85,7 +85,7 @@ module _ (A B : Size) (table first second list before after : List ℕ) where
       → RowsGrounds (comparedNumber (rowsAnswer old new n (length list))) (comparedValue (rowsAnswer old new n (length list)))
   unfolding rowsAnswer
   rows-order rows =
-      check-order comparedNumber comparedValue (leb (rowLength * differenceCount old new n) (length list)) _ _ 15
+      check-order comparedNumber comparedValue (leb (rowLength * differenceCount old new n) (length list)) _ _ 15 (RowsNeeded table old new n) (Yes (RowsNeeded table old new n))
       (λ e. let k = leb-false (rowLength * differenceCount old new n) (length list) e in
       ((λ fits. let q = fits (differenceCount old new n) rows in omega arith), refl, rows))
       (λ e. let k = leb-true (rowLength * differenceCount old new n) (length list) e in
@@ -93,27 +93,29 @@ module _ (A B : Size) (table first second list before after : List ℕ) where
 
   -- ---- 3 and 4
 
+  abbrev SecondGrounds : ℕ → ℕ → Type 0
+  SecondGrounds = Check 4 (AllDecodable table second n) (LowestFault table (tilesOf second) n) RowsGrounds
+
+  abbrev FirstGrounds : ℕ → ℕ → Type 0
+  FirstGrounds = Check 4 (AllDecodable table first n) (LowestFault table (tilesOf first) n) SecondGrounds
+
   abbrev BitsGrounds : ℕ → ℕ → Type 0
-  BitsGrounds =
-      Check 3 (TableRules logicTile table) (FirstBroken logicTile table)
-      (Check 4 (AllDecodable table first n) (LowestFault table (tilesOf first) n)
-      (Check 4 (AllDecodable table second n) (LowestFault table (tilesOf second) n)
-      RowsGrounds))
+  BitsGrounds = Check 3 (TableRules logicTile table) (FirstBroken logicTile table) FirstGrounds
 
   bits-order : length table ≡ tableLength
       → BitsGrounds (comparedNumber (bitsAnswer A table (tilesOf first) (tilesOf second) (length list)))
       (comparedValue (bitsAnswer A table (tilesOf first) (tilesOf second) (length list)))
   unfolding bitsAnswer
   bits-order long =
-      check-order comparedNumber comparedValue (tableOk logicTile table) _ _ 3
+      check-order comparedNumber comparedValue (tableOk logicTile table) _ _ 3 (FirstBroken logicTile table) FirstGrounds
       (λ e. (no-broken table _ (table-broken logicTile table e), refl, table-broken logicTile table e))
       (λ p. let rules = table-exact logicTile table long .0 p in (
         rules,
-        check-order comparedNumber comparedValue (leb (logicTile .positions * n) (faultPlace table (tilesOf first) n)) _ _ 4
+        check-order comparedNumber comparedValue (leb (logicTile .positions * n) (faultPlace table (tilesOf first) n)) _ _ 4 (LowestFault table (tilesOf first) n) SecondGrounds
             (λ e. let low = fault-place-lowest table first rules n (leb-false _ _ e) in (faulted first low, refl, low))
             (λ e. let d = clean-all first rules e in (
               d,
-              check-order comparedNumber comparedValue (leb (logicTile .positions * n) (faultPlace table (tilesOf second) n)) _ _ 4
+              check-order comparedNumber comparedValue (leb (logicTile .positions * n) (faultPlace table (tilesOf second) n)) _ _ 4 (LowestFault table (tilesOf second) n) RowsGrounds
                   (λ f. let low = fault-place-lowest table second rules n (leb-false _ _ f) in (faulted second low, refl, low))
                   (λ f. let d' = clean-all second rules f in (d', rows-order (needed rules d d'))),
             )),
@@ -121,19 +123,28 @@ module _ (A B : Size) (table first second list before after : List ℕ) where
 
   -- ---- 1, 14 and 2
 
+  abbrev LengthGrounds : ℕ → ℕ → Type 0
+  LengthGrounds = Check 2 (CompareLong A lent) at0 BitsGrounds
+
+  abbrev SameGrounds : ℕ → ℕ → Type 0
+  SameGrounds = Check 14 (SameSize A B) at0 LengthGrounds
+
+  abbrev OtherGrounds : ℕ → ℕ → Type 0
+  OtherGrounds = Check 1 (Allowed B) at0 SameGrounds
+
   pub compare-order : Order (compareAnswer A B table (tilesOf first) (tilesOf second) (compareExact A lent) (length list))
   unfolding compareAnswer
   compare-order =
-      check-order comparedNumber comparedValue (allowed A) _ _ 1 (λ e. ((λ s. clash (allowed-true A s) e), refl, refl))
+      check-order comparedNumber comparedValue (allowed A) _ _ 1 at0 OtherGrounds (λ e. ((λ s. clash (allowed-true A s) e), refl, refl))
       (λ a. (
         allowed-exact A .0 a,
-        check-order comparedNumber comparedValue (allowed B) _ _ 1 (λ e. ((λ s. clash (allowed-true B s) e), refl, refl))
+        check-order comparedNumber comparedValue (allowed B) _ _ 1 at0 SameGrounds (λ e. ((λ s. clash (allowed-true B s) e), refl, refl))
             (λ b. (
               allowed-exact B .0 b,
-              check-order comparedNumber comparedValue (sameSize A B) _ _ 14 (λ e. ((λ s. clash (same-size-exact A B .1 s) e), refl, refl))
+              check-order comparedNumber comparedValue (sameSize A B) _ _ 14 at0 LengthGrounds (λ e. ((λ s. clash (same-size-exact A B .1 s) e), refl, refl))
                   (λ s. (
                     same-size-exact A B .0 s,
-                    check-order comparedNumber comparedValue (compareExact A lent) _ _ 2 (λ e. ((λ l. clash (compare-long-exact A lent .1 l) e), refl, refl))
+                    check-order comparedNumber comparedValue (compareExact A lent) _ _ 2 at0 BitsGrounds (λ e. ((λ l. clash (compare-long-exact A lent .1 l) e), refl, refl))
                         (λ l. let long = compare-long-exact A lent .0 l in (long, bits-order (long .table-long))),
                   )),
             )),
@@ -143,23 +154,35 @@ module _ (A B : Size) (first second : List ℕ) (tile : ℕ) where
   abbrev PartOrder : Answer → Type 0
   PartOrder r = PartGrounds A B first second tile (answerNumber r) (answerValue r)
 
+  abbrev TileGrounds : ℕ → ℕ → Type 0
+  TileGrounds = Check 20 (tile < tileCount A) (at tile) (Yes at0)
+
+  abbrev PartLengthGrounds : ℕ → ℕ → Type 0
+  PartLengthGrounds = Check 2 ((length first ≡ bitsLength A) × (length second ≡ bitsLength A)) at0 TileGrounds
+
+  abbrev PartSameGrounds : ℕ → ℕ → Type 0
+  PartSameGrounds = Check 14 (SameSize A B) at0 PartLengthGrounds
+
+  abbrev PartOtherGrounds : ℕ → ℕ → Type 0
+  PartOtherGrounds = Check 1 (Allowed B) at0 PartSameGrounds
+
   pub part-order : PartOrder (partAnswer A B (length first) (length second) tile)
   unfolding partAnswer
   part-order =
-      check-order answerNumber answerValue (allowed A) _ _ 1 (λ e. ((λ s. clash (allowed-true A s) e), refl, refl))
+      check-order answerNumber answerValue (allowed A) _ _ 1 at0 PartOtherGrounds (λ e. ((λ s. clash (allowed-true A s) e), refl, refl))
       (λ a. (
         allowed-exact A .0 a,
-        check-order answerNumber answerValue (allowed B) _ _ 1 (λ e. ((λ s. clash (allowed-true B s) e), refl, refl))
+        check-order answerNumber answerValue (allowed B) _ _ 1 at0 PartSameGrounds (λ e. ((λ s. clash (allowed-true B s) e), refl, refl))
             (λ b. (
               allowed-exact B .0 b,
-              check-order answerNumber answerValue (sameSize A B) _ _ 14 (λ e. ((λ s. clash (same-size-exact A B .1 s) e), refl, refl))
+              check-order answerNumber answerValue (sameSize A B) _ _ 14 at0 PartLengthGrounds (λ e. ((λ s. clash (same-size-exact A B .1 s) e), refl, refl))
                   (λ s. (
                     same-size-exact A B .0 s,
-                    check-order answerNumber answerValue (partExact A (length first) (length second)) _ _ 2
+                    check-order answerNumber answerValue (partExact A (length first) (length second)) _ _ 2 at0 TileGrounds
                         (λ e. ((λ l. clash (part-long-exact A (length first) (length second) .1 l) e), refl, refl))
                         (λ l. (
                           part-long-exact A (length first) (length second) .0 l,
-                          check-order answerNumber answerValue (ltb tile (tileCount A)) _ _ 20
+                          check-order answerNumber answerValue (ltb tile (tileCount A)) _ _ 20 (at tile) (Yes at0)
                               (λ e. let z = ltb-false tile (tileCount A) e in ((λ k. omega arith), refl, refl))
                               (λ e. (ltb-true tile (tileCount A) e, (refl, refl))),
                         )),

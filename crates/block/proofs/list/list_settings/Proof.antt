@@ -49,18 +49,20 @@ list-sources-requires c κs =
     let room = at-start .pre .1 in
     let B = at-start .args .b in
     let few : ports B ≤ contendedWire B (at-start .args .table .now) (at-start .args .st .now) =
-        omega (arith, c .before .before .before .before .before .before .if1 .left, at-find-sources .find-sources .ensures .0, room .wires-long) in
-    ((at-start .pre .0, few), (
-      (at-fill-wires .fill-wires .ensures, at-find-sources .find-sources .ensures .1),
-      record {
-        list-long = room .list-long;
-        wires-long = at-fill-wires .fill-wires .kept .1 .0 ∙ room .wires-long;
-        sources-long = at-find-sources .find-sources .kept .1 .1 .1 .1 .0 ∙ room .sources-long;
-        rows-long = room .rows-long;
-        marks-long = room .marks-long;
-        queue-long = room .queue-long;
-      },
-    ))
+    omega (arith, c .before .before .before .before .before .before .if1 .left, at-find-sources .find-sources .ensures .0, room .wires-long) in (
+      (at-start .pre .0, few),
+      (
+        (at-fill-wires .fill-wires .ensures, at-find-sources .find-sources .ensures .1),
+        record {
+          list-long = room .list-long;
+          wires-long = at-fill-wires .fill-wires .kept .1 .0 ∙ room .wires-long;
+          sources-long = at-find-sources .find-sources .kept .1 .1 .1 .1 .0 ∙ room .sources-long;
+          rows-long = room .rows-long;
+          marks-long = room .marks-long;
+          queue-long = room .queue-long;
+        },
+      ),
+    )
 
 same-length-3 : tie.Need-same-length-3
 same-length-3 c =

@@ -80,7 +80,8 @@ static inline const char *ice40_ground_words(uint32_t ground) {
 #undef ICE40_GROUND_CASE
 }
 
-/* What the place of a ground is: "wire", "tile", ..; "" where it is always 0, NULL for a number that is no ground. */
+/* What the place of a ground is: "wire", "tile", ..; "position", of ground 4, is 864 times the tile plus 54 r + c for its bit Br[c]. "" where it is
+ * always 0, NULL for a number that is no ground. */
 static inline const char *ice40_place_words(uint32_t ground) {
 #define ICE40_PLACE_CASE(number, name, words, place) case number: return place;
     switch (ground) { ICE40_GROUNDS(ICE40_PLACE_CASE) default: return NULL; }

@@ -14,10 +14,11 @@ typedef struct {
     uint8_t bits[ICE40_BITS_LENGTH(N)], written[ICE40_BITS_LENGTH(N)], state[ICE40_STATE_LENGTH(N)], next[ICE40_STATE_LENGTH(N)];
     uint8_t before[ICE40_PORTS_LENGTH(N)], after[ICE40_PORTS_LENGTH(N)], values[ICE40_PORTS_LENGTH(N)];
     uint8_t text[TEXT], again[ICE40_BITS_LENGTH(N)];
-    uint64_t answers[9];
+    uint16_t contentions[ICE40_CONTENTION_LENGTH * ICE40_SWITCHES_LENGTH(N)];
+    uint64_t answers[10];
     /* work room */
     uint16_t room_settings[ICE40_SETTINGS_LENGTH(N)], rows[ICE40_LIST_LENGTH(N)], a[ICE40_PORTS_LENGTH(N)], b[ICE40_PORTS_LENGTH(N)];
-    uint16_t c[ICE40_PORTS_LENGTH(N)], d[ICE40_PORTS_LENGTH(N)];
+    uint16_t c[ICE40_PORTS_LENGTH(N)], d[ICE40_PORTS_LENGTH(N)], nexts[ICE40_SWITCHES_LENGTH(N)];
     uint8_t first[ICE40_PORTS_LENGTH(N)], second[ICE40_PORTS_LENGTH(N)];
 } Work;
 
@@ -41,6 +42,12 @@ static uint64_t step(Work *k, const uint8_t *before, const uint8_t *after) {
                       k->c, ports, k->first, ports, k->second, ports);
 }
 
+/* With a list of so many numbers. */
+static uint64_t list_contentions(Work *k, size_t length) {
+    return ice40_contentions(w, h, east, k->table, ICE40_TABLE_LENGTH, k->bits, ICE40_BITS_LENGTH(n), k->contentions, length, k->room_settings,
+                             ICE40_SETTINGS_LENGTH(n), k->a, ports, k->b, ports, k->nexts, ICE40_SWITCHES_LENGTH(n));
+}
+
 static uint64_t write_settings(Work *k, const uint16_t *settings) {
     return ice40_write(w, h, k->table, ICE40_TABLE_LENGTH, settings, ICE40_SETTINGS_LENGTH(n), k->written, ICE40_BITS_LENGTH(n));
 }
@@ -58,6 +65,7 @@ static void call_all(Work *k) {
     k->answers[6] = ice40_asc_length(w, h, X, Y);
     k->answers[7] = ice40_asc_write(w, h, X, Y, k->bits, ICE40_BITS_LENGTH(n), k->text, ICE40_VALUE(k->answers[6]));
     k->answers[8] = ice40_asc_read(w, h, X, Y, k->text, ICE40_VALUE(k->answers[6]), k->again, ICE40_BITS_LENGTH(n));
+    k->answers[9] = list_contentions(k, ICE40_CONTENTION_LENGTH * ICE40_SWITCHES_LENGTH(n));
 }
 
 static void *call_often(void *work) {
@@ -135,6 +143,20 @@ static void try_files(const Work *result) {
     done("ASCII files");
 }
 
+/* The list of contentions: empty where building does not give ground 5, and of any length. */
+static void try_contentions(const Work *result) {
+    Work *k = copy_of(result);
+    same(ICE40_GROUND(k->answers[9]) == 0, "no ground");
+    same((k->answers[9] == 0) == (ICE40_GROUND(k->answers[2]) != ICE40_NO_CONTENTION), "empty exactly if building does not give 5");
+    for (uint64_t rows = ICE40_VALUE(k->answers[9]), r = 0; r < rows; r++)
+        same(k->contentions[ICE40_CONTENTION_LENGTH * r + ICE40_CONTENTION_TILE] < n && k->contentions[ICE40_CONTENTION_LENGTH * r + ICE40_CONTENTION_WIRE] < ports
+             && k->contentions[ICE40_CONTENTION_LENGTH * r + ICE40_CONTENTION_GROUP] < k->table[ICE40_TABLE_GROUP_COUNT], "a row");
+    same(list_contentions(k, ICE40_CONTENTION_LENGTH * (size_t)ICE40_VALUE(k->answers[9])) == k->answers[9], "a list of just so many numbers");
+    same(equal(k, result), "nothing else touched");
+    free(k);
+    done("contentions");
+}
+
 /* NULL with length 0 in each place, with a size that is right and one that is not. */
 static void try_null(const Work *result) {
     Work *k = copy_of(result);
@@ -145,6 +167,7 @@ static void try_null(const Work *result) {
         same(ice40_bit_count(x, h, NULL, 0, 0) == expected, "bit_count");
         same(ice40_build(x, h, east, NULL, 0, NULL, 0, NULL, 0, NULL, 0, NULL, 0, NULL, 0, NULL, 0, NULL, 0, NULL, 0) == expected, "build");
         same(ice40_follow(x, h, east, NULL, 0, NULL, 0, 0, 0, NULL, 0, NULL, 0, NULL, 0) == expected, "follow");
+        same(ice40_contentions(x, h, east, NULL, 0, NULL, 0, NULL, 0, NULL, 0, NULL, 0, NULL, 0, NULL, 0) == expected, "contentions");
         same(ice40_step(x, h, east, NULL, 0, NULL, 0, NULL, 0, NULL, 0, NULL, 0, NULL, 0, NULL, 0, NULL, 0, NULL, 0, NULL, 0, NULL, 0, NULL, 0, NULL, 0) == expected,
              "step");
     }
@@ -186,6 +209,7 @@ int main(int argc, char **argv) {
     try_overlap(result);
     try_null(result);
     try_files(result);
+    try_contentions(result);
     free(start), free(result);
     return 0;
 }

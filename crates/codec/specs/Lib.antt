@@ -2,7 +2,7 @@
 pub mod Bits  -- believed. bitAt: the bit at a position; bitCount. setBit: a bit written
 pub mod Settings  -- believed. The layout of a tile's settings
 pub mod Groups  -- believed: groupPattern; the rest is computed: points-exact. readGroup: the setting that a group's bits give, or the position at fault
-pub mod Cells  -- computed: decode-reads, bits-back. The eight cells, by value
+pub mod Cells  -- believed: cellValue; the rest is computed: decode-reads, bits-back. The eight cells, by value
 pub mod Reading  -- believed. Decodable, ReadsTo: reading, sentence by sentence; HasBits
 pub mod Decode  -- computed: decode-reads, reads-unique. decode: reading
 pub mod Fault  -- computed: tile-fault-exact. tileFault: the lowest faulty position (ground 4)

@@ -5,7 +5,6 @@ ghost use mathlib.Core.Bool.{true, false};
 ghost use mathlib.Core.Logic.{_≢_};
 ghost use Prim.Native.Nat.{ℕ, _<_};
 ghost use Rattle.lists.specs.Search.{first};
-ghost use Rattle.digits.specs.Digits.{LowestDigit, setDigit};
 ghost use Rattle.bitset.specs.Bitset.{Bitset, DigitWritten, has, wordDigits, wordCount, numbers};
 
 // How many words a set has.
@@ -36,20 +35,12 @@ fn raise(words: &mut [u64; WORDS], i: usize, k: usize)
     words[i] = words[i] | (1 << k);
 }
 
-// A word with 0 for its digit k.
-fn without_digit(word: u64, k: usize) -> u64
-    requires { ⌜ k < wordDigits ⌝ }
-    ensures { λ r. ⌜ r ≡ setDigit word k 0 ⌝ }
-{
-    word & !(1 << k)
-}
-
 // Digit k of word i becomes 0.
 fn lower(words: &mut [u64; WORDS], i: usize, k: usize)
     requires { ⌜ (i < wordCount) × (k < wordDigits) ⌝ }
     ensures { λ r. ⌜ DigitWritten (now (words .entry)) (now (words .exit)) i k 0 ⌝ }
 {
-    words[i] = without_digit(words[i], k);
+    words[i] = digits::without_digit(words[i], k);
 }
 
 // n becomes a member.
@@ -88,14 +79,6 @@ pub fn remove(words: &mut [u64; WORDS], n: usize)
     lower(words, 0, v);
 }
 
-// The lowest digit that is set, in a word that has one.
-fn lowest_digit(word: u64) -> usize
-    requires { ⌜ word ≢ 0 ⌝ }
-    ensures { λ r. ⌜ LowestDigit wordDigits word r ⌝ }
-{
-    u64::trailing_zeros(word) as usize
-}
-
 // The lowest member; where there is none, NUMBERS.
 // Rules out: a higher member; a number that is none.
 pub fn lowest(words: &[u64; WORDS]) -> usize
@@ -106,7 +89,7 @@ pub fn lowest(words: &[u64; WORDS]) -> usize
     if top == 0 {
         return NUMBERS;
     }
-    let v = lowest_digit(top);
-    let u = DIGITS * v + lowest_digit(words[1 + v]);
-    DIGITS * u + lowest_digit(words[LEAVES + u])
+    let v = digits::lowest_digit(top);
+    let u = DIGITS * v + digits::lowest_digit(words[1 + v]);
+    DIGITS * u + digits::lowest_digit(words[LEAVES + u])
 }

@@ -13,9 +13,9 @@ use crate::bits::read_ten;
 use crate::bits::write_clear_bit;
 use crate::settings::GROUPS_FROM;
 use cell::logic::Cell;
+use ports::lengths::COLUMNS;
 use ports::lengths::MAX_GROUPS;
 use routing::cells::BITS_PER_CELL;
-use routing::cells::COLUMNS;
 
 // Where the cells stand in a tile's settings: table and flags of each.
 pub const CELLS_FROM: usize = GROUPS_FROM + MAX_GROUPS;

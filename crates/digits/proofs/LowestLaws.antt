@@ -1,4 +1,4 @@
--- The lowest set digit, which the language's count of trailing zeros gives, and a number without a set digit. Main laws: `trailing-lowest`; `drop-is`.
+-- The lowest set digit, which the language's count of trailing zeros gives, and a number without a set digit. Main laws: `trailing-lowest`; `lower-lt`.
 use mathlib.Core.Path.{_≡_, refl, sym, ap, _∙_, subst}
 use mathlib.Core.Logic.{⊎-elim}
 use Prim.Native.Nat.{ℕ, zero, suc, _+_, _-_, _*_, _/_, _%_, _^_, _<_, _≤_}
@@ -9,7 +9,6 @@ use Rattle.lists.proofs.CaseLaws.{lt-or-le}
 use Rattle.digits.specs.Digits.{digit, setDigit, LowestDigit}
 use Rattle.digits.proofs.DigitLaws.{digit-past}
 use Rattle.digits.proofs.WriteLaws.{digit-split}
-use Rattle.digits.proofs.MaskLaws.{one-shl}
 
 -- n, which is not 0, has a digit set where the count of its trailing zeros says
 pub trailing-digit : (k n : ℕ) → 0 < n → n < 2 ^ k → digit n (trailingZeros k n) ≡ 1
@@ -48,20 +47,9 @@ trailing-lt k n p h =
 pub trailing-lowest : (w n : ℕ) → 0 < n → n < 2 ^ w → LowestDigit w n (trailingZeros w n)
 trailing-lowest w n p h = record { within = trailing-lt w n p h; one = trailing-digit w n p h; below = trailing-below w n }
 
--- n - (1 << k), where digit k is set, in a number of w digits
-module _ (w n k : ℕ) (l : k < w) (d : digit n k ≡ 1) where
-  shifted : (1 * 2 ^ k) % 2 ^ w ≡ 2 ^ k
-  shifted = one-shl k w l
-
-  parts : (n / 2 ^ (1 + k) * 2 + 1) * 2 ^ k + n % 2 ^ k ≡ n
-  parts = subst (λ (x : ℕ). (n / 2 ^ (1 + k) * 2 + x) * 2 ^ k + n % 2 ^ k ≡ n) d (digit-split n k)
-
-  pub drop-le : (1 * 2 ^ k) % 2 ^ w ≤ n
-  drop-le = omega (arith, shifted, parts)
-
-  pub drop-is : n - (1 * 2 ^ k) % 2 ^ w ≡ setDigit n k 0
-  unfolding setDigit
-  drop-is = omega (arith, shifted, parts)
-
-  pub drop-lt : n - (1 * 2 ^ k) % 2 ^ w < n
-  drop-lt = omega (arith, shifted, drop-le, pow-pos k)
+-- without a set digit a number is smaller
+pub lower-lt : (n k : ℕ) → digit n k ≡ 1 → setDigit n k 0 < n
+unfolding setDigit
+lower-lt n k d =
+    let parts : (n / 2 ^ (1 + k) * 2 + 1) * 2 ^ k + n % 2 ^ k ≡ n = subst (λ (x : ℕ). (n / 2 ^ (1 + k) * 2 + x) * 2 ^ k + n % 2 ^ k ≡ n) d (digit-split n k) in
+    omega (arith, parts, pow-pos k)

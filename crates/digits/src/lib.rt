@@ -1,39 +1,40 @@
-// Binary digits: reading one, writing one, and going through the set ones, in a byte. The theory that shifts, masks and patterns rest on is in specs/ and
-// proofs/. Nothing here knows of tiles.
+// Binary digits: reading one, writing one, and going through the set ones, in a word of 64. The theory that shifts, masks and patterns rest on is in
+// specs/ and proofs/. Nothing here knows of tiles.
 ghost use mathlib.Core.Path.{_≡_};
+ghost use mathlib.Core.Logic.{_≢_};
 ghost use Prim.Native.Nat.{_<_};
 ghost use Rattle.digits.specs.Digits.{digit, setDigit, LowestDigit};
 
-// Digit k of a byte.
-pub fn digit_of(byte: u8, k: u32) -> u8
-    requires { ⌜ k < 8 ⌝ }
-    ensures { λ r. ⌜ r ≡ digit byte k ⌝ }
+// Digit k of a word.
+pub fn digit_of(word: u64, k: usize) -> u8
+    requires { ⌜ k < 64 ⌝ }
+    ensures { λ r. ⌜ r ≡ digit word k ⌝ }
 {
-    (byte >> k) & 1
+    ((word >> k) & 1) as u8
 }
 
-// A byte with `value` for its digit k.
-pub fn with_digit(byte: u8, k: u32, value: u8) -> u8
-    requires { ⌜ (k < 8) × (value < 2) ⌝ }
-    ensures { λ r. ⌜ r ≡ setDigit byte k value ⌝ }
+// A word with `value` for its digit k.
+pub fn with_digit(word: u64, k: usize, value: u8) -> u64
+    requires { ⌜ (k < 64) × (value < 2) ⌝ }
+    ensures { λ r. ⌜ r ≡ setDigit word k value ⌝ }
 {
-    let old = (byte >> k) & 1;
-    byte - (old << k) + (value << k)
+    let old = (word >> k) & 1;
+    word - (old << k) + ((value as u64) << k)
 }
 
-// The lowest digit that is set, in a byte that has one.
+// The lowest digit that is set, in a word that has one.
 // Rules out: another set digit, as the highest.
-pub fn lowest_digit(byte: u8) -> u32
-    requires { ⌜ 0 < byte ⌝ }
-    ensures { λ r. ⌜ LowestDigit 8 byte r ⌝ }
+pub fn lowest_digit(word: u64) -> usize
+    requires { ⌜ word ≢ 0 ⌝ }
+    ensures { λ r. ⌜ LowestDigit 64 word r ⌝ }
 {
-    u8::trailing_zeros(byte)
+    u64::trailing_zeros(word) as usize
 }
 
-// A byte without its digit k, which is set.
-pub fn without_digit(byte: u8, k: u32) -> u8
-    requires { ⌜ (k < 8) × (digit byte k ≡ 1) ⌝ }
-    ensures { λ r. ⌜ (r ≡ setDigit byte k 0) × (r < byte) ⌝ }
+// A word with 0 for its digit k.
+pub fn without_digit(word: u64, k: usize) -> u64
+    requires { ⌜ k < 64 ⌝ }
+    ensures { λ r. ⌜ r ≡ setDigit word k 0 ⌝ }
 {
-    byte - (1 << k)
+    word & !(1 << k)
 }

@@ -1,5 +1,5 @@
 -- The length of everything that is lent for a block: "Lengths: bits 108, values 506, state 8, list 3,542 numbers, each times W·H; those of
--- table, settings and work room stand in docs/". No other file has these figures.
+-- table, settings and work room stand in docs/"; document 02, W7: "the exact length is 16 numbers a tile". No other file has these figures.
 --   bitsLength, settingsTotal, stateLength == of a size      ports, listLength == of a block      tableLength == of any
 use Prim.Native.Nat.{ℕ, _+_, _*_}
 use Rattle.ports.specs.declared.size.Size.{Size}
@@ -9,12 +9,20 @@ use Rattle.ports.specs.declared.size.Block.{Block}
 abbrev pub portsPerTile : ℕ
 portsPerTile = 506
 
--- "A tile is 108 bytes", in frames and as it is lent
+-- "A tile has 16 rows of 54 bits."
+abbrev pub rows : ℕ
+rows = 16
+
+abbrev pub columns : ℕ
+columns = 54
+
+-- "Keep a block as 16 such numbers a tile" (document 02, W7): as it is lent
+abbrev pub tileNumbers : ℕ
+tileNumbers = rows
+
+-- "A tile is 108 bytes": in files, frames 05
 abbrev pub tileBytes : ℕ
 tileBytes = 108
-
-abbrev pub tileNumbers : ℕ
-tileNumbers = tileBytes
 
 -- "its eight cells", a byte of state each
 abbrev pub cellsPerTile : ℕ
@@ -51,6 +59,10 @@ settingsLength = fieldCount + maxPassives + maxGroups + 2 * cellsPerTile
 -- what a size asks for: bits, settings, state
 abbrev pub bitsLength : Size → ℕ
 bitsLength S = tileNumbers * (S .h * S .w)
+
+-- the same bits as bytes
+abbrev pub bytesLength : Size → ℕ
+bytesLength S = tileBytes * (S .h * S .w)
 
 abbrev pub settingsTotal : Size → ℕ
 settingsTotal S = settingsLength * (S .h * S .w)

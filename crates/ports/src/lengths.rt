@@ -3,18 +3,22 @@
 ghost use mathlib.Core.Path.{_≡_};
 ghost use Prim.Native.Nat.{_*_, _≤_};
 ghost use Rattle.ports.specs.Block.{Allowed, Sized};
-ghost use Rattle.ports.specs.Lengths.{portsPerTile, bitsLength, settingsTotal, stateLength, ports, listLength};
+ghost use Rattle.ports.specs.Lengths.{portsPerTile, bitsLength, bytesLength, settingsTotal, stateLength, ports, listLength};
 use crate::size::Block;
 use crate::size::Size;
 use crate::size::size_of;
 use crate::size::tile_count;
 
-// A tile's ports, its bytes in a frame, the numbers of its bits as they are lent, and its cells.
+// A tile's ports, its rows and columns of bits, the numbers of its bits as they are lent, its bytes in a frame, and its cells.
 pub const PORTS_PER_TILE: u32 = 506;
 
-pub const TILE_BYTES: usize = 108;
+pub const ROWS: usize = 16;
 
-pub const TILE_NUMBERS: usize = TILE_BYTES;
+pub const COLUMNS: usize = 54;
+
+pub const TILE_NUMBERS: usize = ROWS;
+
+pub const TILE_BYTES: usize = 108;
 
 pub const CELLS_PER_TILE: usize = 8;
 
@@ -43,6 +47,14 @@ pub fn bits_length(s: Size) -> usize
     ensures { λ r. ⌜ r ≡ bitsLength s ⌝ }
 {
     TILE_NUMBERS * tile_count(s)
+}
+
+// The same bits as bytes.
+pub fn bytes_length(s: Size) -> usize
+    requires { ⌜ Allowed s ⌝ }
+    ensures { λ r. ⌜ r ≡ bytesLength s ⌝ }
+{
+    TILE_BYTES * tile_count(s)
 }
 
 pub fn settings_total(s: Size) -> usize

@@ -4,12 +4,12 @@ use mathlib.Core.Bool.{Bool, cond, not, _&&_, _||_}
 use mathlib.Core.List.{List, [], _∷_}
 use lib.Dec.{ltb, leb}
 use lib.ListN.{getD}
-use Rattle.ports.specs.Lengths.{portsPerTile}
+use Rattle.ports.specs.Lengths.{portsPerTile, rows, columns}
 use Rattle.routing.specs.TileKind.{TileKind}
 
 -- "A tile has 16 rows of 54 bits. Br[c] is position 54r + c."
 abbrev pub position : ℕ → ℕ → ℕ
-position row column = 54 * row + column
+position row column = columns * row + column
 
 -- "LC_i[k] is at row 2i, column 36+k for k below 10, else row 2i+1, column 26+k."
 abbrev pub lcPosition : ℕ → ℕ → ℕ
@@ -36,7 +36,7 @@ isSource port = ltb port 372 || (ltb port portsPerTile && not (isDestination por
 -- 864 positions, eight cells, and "three fields (positions of NegClk, CarryInSet, and the switch from carry_in to carry_in_mux)"
 abbrev pub logicTile : TileKind
 logicTile = record {
-  positions = 864;
+  positions = rows * columns;
   cells = 8;
   cellBit = cellPosition;
   fields = 3;

@@ -4,10 +4,9 @@ ghost use Prim.Native.Nat.{_<_};
 ghost use lib.ListN.{getD};
 ghost use Rattle.routing.specs.TileKind.{bitsPerCell};
 ghost use Rattle.routing.specs.LogicTile.{lcBits, cellPosition};
+use ports::lengths::COLUMNS;
 
 pub const BITS_PER_CELL: usize = 20;
-
-pub const COLUMNS: usize = 54;
 
 // The logic cell bits of LUT_INIT 0 to 11, then of LUT_INIT 12 to 15, carry, flip-flop, set and asynchronous, five binary digits each, the first
 // lowest. Two numbers, for an array would be laid out anew at each look.

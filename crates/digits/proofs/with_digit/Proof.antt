@@ -1,47 +1,27 @@
--- `digits::with_digit` meets its contract, by the laws of a digit written in 8 digits. Assumes nothing.
+-- `digits::with_digit` meets its contract, by the laws of a digit written in 64 digits. Assumes nothing.
 use Rattle.digits.proofs.WriteLaws.{write-old-le, write-is, write-lt}
 use native.Mathlib.Omega.{arith}
 use borrow.Author.Needs.{needs}
 use Rattle.digits.proofs.with_digit.Statement.{statement}
 use Rattle.digits.proofs.with_digit.Tie as tie
 
-cast-old : tie.Need-cast-old
-cast-old c = search needs
-
 shr-old : tie.Need-shr-old
 shr-old c = search needs
-
-cast-result : tie.Need-cast-result
-cast-result c = search needs
 
 shl-result : tie.Need-shl-result
 shl-result c = search needs
 
 sub-result : tie.Need-sub-result
-sub-result c = write-old-le 8 (c .args .byte) (c .args .k) (c .args .value) (omega arith) (omega arith) (omega arith)
-
-cast-result-2 : tie.Need-cast-result-2
-cast-result-2 c = search needs
+sub-result c = write-old-le 64 (c .args .word) (c .args .k) (c .args .value) (omega arith) (omega arith) (omega arith)
 
 shl-result-2 : tie.Need-shl-result-2
 shl-result-2 c = search needs
 
 add-result : tie.Need-add-result
-add-result c = record { fits = write-lt 8 (c .args .byte) (c .args .k) (c .args .value) (omega arith) (omega arith) (omega arith) }
+add-result c = record { fits = write-lt 64 (c .args .word) (c .args .k) (c .args .value) (omega arith) (omega arith) (omega arith) }
 
 returns : tie.Need-returns
-returns c = write-is 8 (c .args .byte) (c .args .k) (c .args .value) (omega arith) (omega arith) (omega arith)
+returns c = write-is 64 (c .args .word) (c .args .k) (c .args .value) (omega arith) (omega arith) (omega arith)
 
 pub with-digit-spec : {M : Type 1} → statement M
-with-digit-spec =
-    tie.close
-    (tie.spec
-    cast-old
-    shr-old
-    cast-result
-    shl-result
-    sub-result
-    cast-result-2
-    shl-result-2
-    add-result
-    returns)
+with-digit-spec = tie.close (tie.spec shr-old shl-result sub-result shl-result-2 add-result returns)

@@ -8,8 +8,9 @@ use Prim.Native.Nat.{ℕ, _+_, _*_, _/_, _%_, _^_, _<_, _≤_}
 use native.Mathlib.Omega.{arith}
 use native.Mathlib.Nat.{div-add-mod', mod-lt, zero-div}
 use borrow.Author.Tests.{eqb-true}
-use lib.Arith.{digits-div, digits-mod, digits-lt}
+use lib.Arith.{digits-lt}
 use lib.Count.{ones}
+use lib.Pow.{pow-pos}
 use lib.Dec.{eqb}
 use lib.ListN.{length, getD, set, length-set}
 use lib.Seq.{getD-set-same, getD-set-other, set-getD, set-out, ext-getD}
@@ -19,12 +20,14 @@ use Rattle.lists.proofs.TableLaws.{zeros-length, zeros-at}
 use Rattle.lists.proofs.SearchLaws.{all-at}
 use Rattle.lists.proofs.CaseLaws.{lt-or-le, eq-or-ne}
 use Rattle.lists.proofs.CountLaws.{count-ext, count-add}
-use Rattle.digits.specs.Digits.{digit, isSet, setDigit, fromDigits}
-use Rattle.digits.proofs.DigitLaws.{digit-set-same, digit-set-other, set-digit-lt, from-digits-ext, from-digits-all}
+use Rattle.digits.specs.Digits.{digit, isSet, setDigit}
+use Rattle.digits.proofs.DigitLaws.{digit-mod, digit-set-same, digit-set-other, set-digit-lt, from-digits-ext}
 use Rattle.digits.proofs.OnesLaws.{ones-count}
 use Rattle.digits.proofs.MaskLaws.{digit-shl}
 use Rattle.digits.proofs.WriteLaws.{digit-split}
-use Rattle.codec.specs.Bits.{unit, bitIn, bitAt, setBitIn, setBit, Bytes, isSetAt, isZeroAt, isEmpty}
+use Rattle.words.specs.Packed.{bitIn}
+use Rattle.words.proofs.PackedLaws.{bit-in-lt, bit-in-number, number-is}
+use Rattle.codec.specs.Bits.{unit, bitAt, setBitIn, setBit, Fits, isSetAt, isZeroAt, isEmpty}
 use Rattle.ports.specs.Lengths.{tileNumbers}
 
 -- ---- u bits in a number
@@ -32,15 +35,6 @@ use Rattle.ports.specs.Lengths.{tileNumbers}
 module _ (u : ℕ) (some : 0 < u) where
   same-place : (p q : ℕ) → q / u ≡ p / u → q % u ≡ p % u → q ≡ p
   same-place p q a b = sym (div-add-mod' q u) ∙ ap₂ (λ (x y : ℕ). x * u + y) a b ∙ div-add-mod' p u
-
-  bit-in-lt : (bits : List ℕ) (p : ℕ) → bitIn u bits p < 2
-  unfolding bitIn
-  bit-in-lt bits p = omega arith
-
-  -- bit k of number i
-  bit-in-number : (bits : List ℕ) (i k : ℕ) → k < u → bitIn u bits (i * u + k) ≡ digit (getD bits i 0) k
-  unfolding bitIn
-  bit-in-number bits i k l = rw (digits-div i l, digits-mod i l)
 
   module _ (bits : List ℕ) (p v : ℕ) (hv : v < 2) where
     -- the number that v is written to
@@ -87,28 +81,23 @@ module _ (u : ℕ) (some : 0 < u) where
             outside : length bits ≤ p / u → getD (setBitIn u bits p v) i 0 < 2 ^ u
             outside h = subst (λ (l : List ℕ). getD l i 0 < 2 ^ u) (sym (set-out bits (p / u) new h)) (b i)
 
-  -- a number is its u bits
-  number-is : (bits : List ℕ) (i : ℕ) → getD bits i 0 < 2 ^ u → fromDigits (λ (k : ℕ). bitIn u bits (i * u + k)) u ≡ getD bits i 0
-  number-is bits i h =
-      from-digits-ext (λ (k : ℕ). bitIn u bits (i * u + k)) (digit (getD bits i 0)) u (bit-in-number bits i)
-      ∙ from-digits-all (getD bits i 0) u h
-
   bits-in-ext : (xs ys : List ℕ) → length xs ≡ length ys → ((i : ℕ) → getD xs i 0 < 2 ^ u) → ((i : ℕ) → getD ys i 0 < 2 ^ u)
       → ((p : ℕ) → p < length xs * u → bitIn u xs p ≡ bitIn u ys p) → xs ≡ ys
   bits-in-ext xs ys n bx by h =
       ext-getD 0 xs ys n
-      (λ i l. sym (number-is xs i (bx i))
+      (λ i l. sym (number-is u some xs i (bx i))
       ∙ from-digits-ext (λ (k : ℕ). bitIn u xs (i * u + k)) (λ (k : ℕ). bitIn u ys (i * u + k)) u (λ k m. h (i * u + k) (digits-lt l m))
-      ∙ number-is ys i (by i))
+      ∙ number-is u some ys i (by i))
 
-  -- one number more: its ones more
-  ones-in-step : (bits : List ℕ) (i : ℕ) → getD bits i 0 < 2 ^ u
-      → countBelow (λ (p : ℕ). eqb (bitIn u bits p) 1) (i * u + u) ≡ countBelow (λ (p : ℕ). eqb (bitIn u bits p) 1) (i * u) + ones (getD bits i 0)
-  ones-in-step bits i h =
+  -- one number more: the ones more of its u digits
+  ones-in-step : (bits : List ℕ) (i : ℕ)
+      → countBelow (λ (p : ℕ). eqb (bitIn u bits p) 1) (i * u + u) ≡ countBelow (λ (p : ℕ). eqb (bitIn u bits p) 1) (i * u) + ones (getD bits i 0 % 2 ^ u)
+  ones-in-step bits i =
       count-add (λ (p : ℕ). eqb (bitIn u bits p) 1) (i * u) u
       ∙ ap (λ (x : ℕ). countBelow (λ (p : ℕ). eqb (bitIn u bits p) 1) (i * u) + x)
-      (count-ext (λ (j : ℕ). eqb (bitIn u bits (i * u + j)) 1) (isSet (getD bits i 0)) u (λ k l. ap (λ (x : ℕ). eqb x 1) (bit-in-number bits i k l))
-      ∙ sym (ones-count u (getD bits i 0) h))
+      (count-ext (λ (j : ℕ). eqb (bitIn u bits (i * u + j)) 1) (isSet (getD bits i 0 % 2 ^ u)) u
+      (λ k l. ap (λ (x : ℕ). eqb x 1) (bit-in-number u some bits i k l ∙ sym (digit-mod (getD bits i 0) u k l)))
+      ∙ sym (ones-count u (getD bits i 0 % 2 ^ u) (mod-lt (getD bits i 0) (pow-pos u))))
 
 -- ---- the bits of a tile
 
@@ -119,20 +108,24 @@ pub bit-of-zeros : (n p : ℕ) → bitAt (zeros n) p ≡ 0
 unfolding bitIn
 bit-of-zeros n p = rw (zeros-at n (p / unit)) (ap (λ (x : ℕ). x % 2) (zero-div (2 ^ (p % unit))))
 
+-- a tile with no bit set has only zeros
+pub empty-row : (bits : List ℕ) → isEmpty bits ≡ true → (i : ℕ) → i < tileNumbers → getD bits i 0 ≡ 0
+empty-row bits e i h = eqb-true (getD bits i 0) 0 (all-at (isZeroAt bits) 0 tileNumbers i e (omega arith) (omega arith))
+
 pub empty-clear : (bits : List ℕ) → length bits ≡ tileNumbers → isEmpty bits ≡ true → (p : ℕ) → bitAt bits p ≡ 0
 empty-clear bits n e p =
     ap (λ (x : List ℕ). bitAt x p)
     (ext-getD 0 bits (zeros tileNumbers) (n ∙ sym (zeros-length tileNumbers))
-    (λ i l. eqb-true (getD bits i 0) 0 (all-at (isZeroAt bits) 0 tileNumbers i e (omega arith) (omega arith)) ∙ sym (zeros-at tileNumbers i)))
+    (λ i l. empty-row bits e i (omega arith) ∙ sym (zeros-at tileNumbers i)))
     ∙ bit-of-zeros tileNumbers p
 
 -- a position of the tile is in one of its lent numbers
 pub position-within : {p n : ℕ} → p < 864 → n ≡ tileNumbers → p / unit < n
 position-within h e = omega arith
 
--- the bits of byte i
-pub bit-of-byte : (bits : List ℕ) (i k : ℕ) → k < unit → bitAt bits (unit * i + k) ≡ digit (getD bits i 0) k
-bit-of-byte bits i k l = ap (λ (x : ℕ). bitAt bits (x + k)) (let e : unit * i ≡ i * unit = omega arith in e) ∙ bit-in-number unit (omega arith) bits i k l
+-- the bits of row i
+pub bit-of-row : (bits : List ℕ) (i k : ℕ) → k < unit → bitAt bits (unit * i + k) ≡ digit (getD bits i 0) k
+bit-of-row bits i k l = ap (λ (x : ℕ). bitAt bits (x + k)) (let e : unit * i ≡ i * unit = omega arith in e) ∙ bit-in-number unit (omega arith) bits i k l
 
 -- a bit written over itself
 pub set-bit-same : (bits : List ℕ) (p v : ℕ) → bitAt bits p ≡ v → setBit bits p v ≡ bits
@@ -142,14 +135,14 @@ set-bit-same bits p v e =
     ap (λ (y : ℕ). set bits (p / unit) ((x / 2 ^ (1 + p % unit) * 2 + y) * 2 ^ (p % unit) + x % 2 ^ (p % unit))) (sym e)
     ∙ ap (set bits (p / unit)) (digit-split x (p % unit)) ∙ set-getD bits (p / unit) 0
 
--- the byte of a clear bit with v added at its place, as the code computes it
+-- the row of a clear bit with v added at its place, as the code computes it
 module _ (bits : List ℕ) (p v : ℕ) (hv : v < 2) (clear : bitAt bits p ≡ 0) where
-  pub add-clear : getD bits (p / unit) 0 + (v * 2 ^ (p % unit)) % 2 ^ unit ≡ setDigit (getD bits (p / unit) 0) (p % unit) v
+  pub add-clear : getD bits (p / unit) 0 + (v * 2 ^ (p % unit)) % 2 ^ 64 ≡ setDigit (getD bits (p / unit) 0) (p % unit) v
   unfolding bitIn setDigit
-  add-clear = omega (arith, digit-shl v (p % unit) unit hv (omega arith), digit-split (getD bits (p / unit) 0) (p % unit), ap (λ (x : ℕ). x * 2 ^ (p % unit)) clear)
+  add-clear = omega (arith, digit-shl v (p % unit) 64 hv (omega arith), digit-split (getD bits (p / unit) 0) (p % unit), ap (λ (x : ℕ). x * 2 ^ (p % unit)) clear)
 
-  pub add-clear-lt : getD bits (p / unit) 0 < 2 ^ unit → getD bits (p / unit) 0 + (v * 2 ^ (p % unit)) % 2 ^ unit < 2 ^ unit
-  add-clear-lt h = subst (λ (x : ℕ). x < 2 ^ unit) (sym add-clear) (set-digit-lt (getD bits (p / unit) 0) (p % unit) v hv unit (omega arith) h)
+  pub add-clear-lt : getD bits (p / unit) 0 < 2 ^ 64 → getD bits (p / unit) 0 + (v * 2 ^ (p % unit)) % 2 ^ 64 < 2 ^ 64
+  add-clear-lt h = subst (λ (x : ℕ). x < 2 ^ 64) (sym add-clear) (set-digit-lt (getD bits (p / unit) 0) (p % unit) v hv 64 (omega arith) h)
 
 pub set-bit-length : (bits : List ℕ) (p v : ℕ) → length (setBit bits p v) ≡ length bits
 unfolding setBitIn
@@ -162,17 +155,17 @@ module _ (bits : List ℕ) (p v : ℕ) (hv : v < 2) where
   pub bit-set-other : (q : ℕ) → q ≢ p → bitAt (setBit bits p v) q ≡ bitAt bits q
   bit-set-other q n = in-set-other unit (omega arith) bits p v hv q n
 
-  pub set-bit-bytes : Bytes bits → Bytes (setBit bits p v)
-  set-bit-bytes b = in-set-fits unit (omega arith) bits p v hv b
+  pub set-bit-fits : Fits bits → Fits (setBit bits p v)
+  set-bit-fits b = in-set-fits unit (omega arith) bits p v hv b
 
 -- two lists that agree at each bit are equal
-pub bits-ext : (xs ys : List ℕ) → length xs ≡ length ys → Bytes xs → Bytes ys → ((p : ℕ) → p < length xs * unit → bitAt xs p ≡ bitAt ys p) → xs ≡ ys
+pub bits-ext : (xs ys : List ℕ) → length xs ≡ length ys → Fits xs → Fits ys → ((p : ℕ) → p < length xs * unit → bitAt xs p ≡ bitAt ys p) → xs ≡ ys
 bits-ext xs ys n bx by h = bits-in-ext unit (omega arith) xs ys n bx by h
 
--- one byte more: its ones more
-pub bit-count-step : (bits : List ℕ) (i : ℕ) → getD bits i 0 < 2 ^ unit
-    → countBelow (isSetAt (bitAt bits)) (unit * (i + 1)) ≡ countBelow (isSetAt (bitAt bits)) (unit * i) + ones (getD bits i 0)
-bit-count-step bits i h =
+-- one row more: its ones more
+pub bit-count-step : (bits : List ℕ) (i : ℕ)
+    → countBelow (isSetAt (bitAt bits)) (unit * (i + 1)) ≡ countBelow (isSetAt (bitAt bits)) (unit * i) + ones (getD bits i 0 % 2 ^ unit)
+bit-count-step bits i =
     ap (countBelow (isSetAt (bitAt bits))) (let e : unit * (i + 1) ≡ i * unit + unit = omega arith in e)
-    ∙ ones-in-step unit (omega arith) bits i h
-    ∙ ap (λ (x : ℕ). countBelow (isSetAt (bitAt bits)) x + ones (getD bits i 0)) (let e : i * unit ≡ unit * i = omega arith in e)
+    ∙ ones-in-step unit (omega arith) bits i
+    ∙ ap (λ (x : ℕ). countBelow (isSetAt (bitAt bits)) x + ones (getD bits i 0 % 2 ^ unit)) (let e : i * unit ≡ unit * i = omega arith in e)

@@ -3,26 +3,28 @@ use mathlib.Core.Path.{_≡_, refl, sym, ap, _∙_, subst}
 use mathlib.Core.Logic.{⊎-elim}
 use mathlib.Core.Bool.{true, false}
 use mathlib.Core.List.{List}
-use Prim.Native.Nat.{ℕ, zero, suc, _+_, _*_, _/_, _%_, _<_, _≤_}
+use Prim.Native.Nat.{ℕ, zero, suc, _+_, _*_, _/_, _%_, _^_, _<_, _≤_}
 use native.Mathlib.Omega.{arith}
-use lib.ListN.{length}
-use Rattle.lists.proofs.CaseLaws.{cases}
+use borrow.Author.Tests.{leb-false}
+use lib.Dec.{leb}
+use lib.ListN.{length, getD, List·getD-eq-default}
+use Rattle.lists.proofs.CaseLaws.{cases, lt-or-le}
 use Rattle.digits.specs.Digits.{fromDigits}
 use Rattle.routing.specs.TileKind.{bitsPerCell}
 use Rattle.routing.specs.LogicTile.{logicTile, cellPosition}
-use Rattle.ports.specs.Lengths.{maxPositions, tileNumbers}
+use Rattle.ports.specs.Lengths.{columns, maxPositions, tileNumbers}
 use Rattle.routing.specs.Table.{fieldAt, passiveAt, groupCount, widthOf, positionAt}
 use Rattle.routing.specs.Rules.{TableRules}
 use Rattle.routing.specs.Slots.{owner, slotsOf, slotAt, slotUsed, fieldSlots, passiveSlots, groupSlot, slotCount}
 use Rattle.routing.proofs.SlotLaws.{slot-cases}
-use Rattle.codec.specs.Bits.{bitAt, Bytes, tileOf}
+use Rattle.codec.specs.Bits.{unit, bitAt, Fits, tileOf}
 use Rattle.codec.specs.Settings.{fieldSetting, passiveSetting, groupSetting, cellTable, cellFlags}
 use Rattle.codec.specs.Groups.{groupPattern, readGroup, patternOf}
 use Rattle.codec.specs.Cells.{cellValue, valueIn}
 use Rattle.codec.specs.Decode.{decode}
 use Rattle.codec.specs.Fault.{isUnlisted}
 use Rattle.codec.specs.Encode.{slotValue, encode}
-use Rattle.codec.specs.Reading.{unlisted, stray, Decodable}
+use Rattle.codec.specs.Reading.{unlisted, stray, past-columns, Decodable}
 use Rattle.codec.proofs.BitLaws.{bit-lt}
 use Rattle.codec.proofs.SetBitsLaws.{from-digits-one}
 use Rattle.codec.proofs.GroupLaws.{pattern-back}
@@ -85,7 +87,19 @@ module _ (table bits : List ℕ) (T : TableRules logicTile table) (D : Decodable
       P : ℕ → Type 0
       P s = bitAt bits (slotAt logicTile table s) ≡ slotValue table S s
 
+  -- what can be decoded has nothing past its columns
+  pub decodable-fits : length bits ≡ tileNumbers → Fits bits
+  decodable-fits n i = ⊎-elim inside outside (lt-or-le i tileNumbers)
+    where
+      inside : i < tileNumbers → getD bits i 0 < 2 ^ unit
+      inside l =
+          ⊎-elim (λ e. absurd (D (columns * i + 53) (past-columns i l e))) (λ e. leb-false (2 ^ unit) (getD bits i 0) e)
+          (cases (leb (2 ^ unit) (getD bits i 0)))
+
+      outside : tileNumbers ≤ i → getD bits i 0 < 2 ^ unit
+      outside l = subst (λ (x : ℕ). x < 2 ^ unit) (sym (List·getD-eq-default bits 0 (omega arith))) (omega arith)
+
   -- bits that are read are written back the same
-  pub bits-back : length bits ≡ tileNumbers → Bytes bits → encode table (decode table (bitAt bits)) ≡ bits
-  bits-back n by =
-      sym (encode-is (slotsOf logicTile table) (slotValue table S) (slot-value-lt table S) bits n by (λ s h u. all-held s u) decodable-clear)
+  pub bits-back : length bits ≡ tileNumbers → encode table (decode table (bitAt bits)) ≡ bits
+  bits-back n =
+      sym (encode-is (slotsOf logicTile table) (slotValue table S) (slot-value-lt table S) bits n (decodable-fits n) (λ s h u. all-held s u) decodable-clear)

@@ -3,22 +3,19 @@ use mathlib.Core.Path.{_≡_, sym, ap, _∙_}
 use mathlib.Core.Logic.{⊎-elim}
 use mathlib.Core.Bool.{Bool, true, false, cond}
 use mathlib.Core.List.{List}
-use Prim.Native.Nat.{ℕ, _+_, _*_, _/_, _%_, _^_, _<_, _≤_}
+use Prim.Native.Nat.{ℕ, _+_, _*_, _<_, _≤_}
 use native.Mathlib.Omega.{arith}
 use borrow.Author.Tests.{lt-ltb, le-ltb}
 use lib.Dec.{ltb}
-use lib.ListN.{length, getD}
-use Rattle.lists.specs.Tables.{tabulate}
+use lib.ListN.{length}
 use Rattle.lists.proofs.CaseLaws.{lt-or-le}
 use Rattle.lists.proofs.SearchLaws.{first-true}
-use Rattle.lists.proofs.TableLaws.{tabulate-length, tabulate-zero, tabulate-past}
-use Rattle.digits.specs.Digits.{digit}
-use Rattle.digits.proofs.DigitLaws.{from-digits-lt, digit-from-digits}
 use Rattle.routing.specs.Slots.{Slots, claims, owner, Once}
 use Rattle.routing.proofs.OwnerLaws.{claims-at, claims-used, owner-is}
-use Rattle.codec.specs.Bits.{unit, bitIn, bitAt, Bytes}
+use Rattle.words.proofs.PackedLaws.{packed-length, packed-fits, bit-packed}
+use Rattle.codec.specs.Bits.{unit, bitAt, Fits}
 use Rattle.ports.specs.Lengths.{tileNumbers}
-use Rattle.codec.specs.Encode.{ownedBit, ownedByte, bitsOf}
+use Rattle.codec.specs.Encode.{ownedBit, bitsOf}
 use Rattle.codec.proofs.BitLaws.{bits-ext}
 
 module _ (S : Slots) (value : ℕ → ℕ) (two : (s : ℕ) → value s < 2) where
@@ -31,27 +28,16 @@ module _ (S : Slots) (value : ℕ → ℕ) (two : (s : ℕ) → value s < 2) whe
 
   pub encode-length : length (bitsOf S value) ≡ tileNumbers
   unfolding bitsOf
-  encode-length = tabulate-length (ownedByte S value) 0 tileNumbers
+  encode-length = packed-length unit (omega arith) (ownedBit S value) owned-bit-lt tileNumbers
 
   -- the bits of the tile are those that the owners say
   pub encode-bit : (p : ℕ) → p < 864 → bitAt (bitsOf S value) p ≡ ownedBit S value p
-  unfolding bitIn bitsOf
-  encode-bit p h =
-      ap (λ (x : ℕ). digit x (p % unit)) (tabulate-zero (ownedByte S value) 0 tileNumbers (p / unit) (omega arith))
-      ∙ digit-from-digits (λ (j : ℕ). ownedBit S value (unit * (p / unit) + j)) (λ j. owned-bit-lt (unit * (p / unit) + j)) unit (p % unit) (omega arith)
-      ∙ ap (ownedBit S value) (let e : unit * (p / unit) + p % unit ≡ p = omega arith in e)
-
-  pub encode-bytes : Bytes (bitsOf S value)
   unfolding bitsOf
-  encode-bytes i = ⊎-elim inside outside (lt-or-le i tileNumbers)
-    where
-      inside : i < tileNumbers → getD (tabulate (ownedByte S value) 0 tileNumbers) i 0 < 2 ^ unit
-      inside h =
-          rw (tabulate-zero (ownedByte S value) 0 tileNumbers i h)
-          (from-digits-lt (λ (j : ℕ). ownedBit S value (unit * i + j)) (λ j. owned-bit-lt (unit * i + j)) unit)
+  encode-bit p h = bit-packed unit (omega arith) (ownedBit S value) owned-bit-lt tileNumbers p (omega arith)
 
-      outside : tileNumbers ≤ i → getD (tabulate (ownedByte S value) 0 tileNumbers) i 0 < 2 ^ unit
-      outside h = rw (tabulate-past (ownedByte S value) 0 0 tileNumbers i h) (omega arith)
+  pub encode-fits : Fits (bitsOf S value)
+  unfolding bitsOf
+  encode-fits = packed-fits unit (omega arith) (ownedBit S value) owned-bit-lt tileNumbers
 
   -- a position that nothing claims
   pub encode-unclaimed : (p : ℕ) → p < 864 → S .count ≤ owner S p → bitAt (bitsOf S value) p ≡ 0
@@ -64,12 +50,12 @@ module _ (S : Slots) (value : ℕ → ℕ) (two : (s : ℕ) → value s < 2) whe
       ∙ (let e : owner S (S .at s) ≡ s = owner-is S once s h u in rw (e, lt-ltb s (S .count) h))
 
   -- read, then written: bits that are 0 where nothing claims them, and whose slots hold the values, are those bits
-  pub encode-is : (bits : List ℕ) → length bits ≡ tileNumbers → Bytes bits
+  pub encode-is : (bits : List ℕ) → length bits ≡ tileNumbers → Fits bits
       → ((s : ℕ) → s < S .count → S .used s ≡ true → bitAt bits (S .at s) ≡ value s)
       → ((p : ℕ) → p < 864 → S .count ≤ owner S p → bitAt bits p ≡ 0)
       → bits ≡ bitsOf S value
-  encode-is bits n by held stray =
-      bits-ext bits (bitsOf S value) (n ∙ sym encode-length) by encode-bytes (λ p h. same p (omega arith) ∙ sym (encode-bit p (omega arith)))
+  encode-is bits n fits held stray =
+      bits-ext bits (bitsOf S value) (n ∙ sym encode-length) fits encode-fits (λ p h. same p (omega arith) ∙ sym (encode-bit p (omega arith)))
     where
       same : (p : ℕ) → p < 864 → bitAt bits p ≡ ownedBit S value p
       same p h = ⊎-elim owned free (lt-or-le (owner S p) (S .count))

@@ -4,13 +4,14 @@ use mathlib.Core.Path.{_≡_, refl, sym, ap, _∙_, subst}
 use mathlib.Core.Logic.{_≢_, _↔_, ⊎-elim}
 use mathlib.Core.Bool.{true}
 use mathlib.Core.List.{List}
-use Prim.Native.Nat.{ℕ, _+_, _-_, _*_, _/_, _<_, _≤_}
+use Prim.Native.Nat.{ℕ, _+_, _-_, _*_, _/_, _%_, _<_, _≤_}
 use native.Mathlib.Omega.{arith}
 use borrow.Author.Tests.{eq-eqb, lt-ltb, eqb-true}
-use Rattle.lists.proofs.CaseLaws.{cases, clash, lt-or-le, eq-or-ne, and-left, and-right, and-true}
+use lib.Dec.{eqb}
+use Rattle.lists.proofs.CaseLaws.{cases, clash, lt-or-le, eq-or-ne, and-left, and-right, and-true, or-left, or-right, or-is}
 use Rattle.lists.proofs.SearchLaws.{first-le, first-true, first-before, first-none}
 use Rattle.routing.specs.LogicTile.{logicTile, carryInSet}
-use Rattle.ports.specs.Lengths.{maxPassives, maxPositions}
+use Rattle.ports.specs.Lengths.{columns, maxPassives, maxPositions}
 use Rattle.routing.specs.Table.{fieldAt, passiveCount, passiveAt, groupCount, widthOf, positionAt}
 use Rattle.routing.specs.Rules.{TableRules}
 use Rattle.routing.specs.Slots.{claims, owner, Once, slotsOf, slotAt, slotUsed, fieldSlots, passiveSlots, groupSlots, groupSlot, slotCount}
@@ -21,8 +22,8 @@ use Rattle.routing.proofs.TableOnceLaws.{table-once}
 use Rattle.routing.proofs.ClaimLaws.{claimed-exact}
 use Rattle.codec.specs.Bits.{isSetAt, bitAt, tileOf}
 use Rattle.codec.specs.Groups.{readGroup}
-use Rattle.codec.specs.Fault.{pointsTo, carryPair, faultAt, tileFault}
-use Rattle.codec.specs.Reading.{Unclaimed, CarryPair, Faulty, unlisted, stray, carry-pair, Decodable}
+use Rattle.codec.specs.Fault.{pointsTo, carryPair, pastAt, ownedFault, faultAt, tileFault}
+use Rattle.codec.specs.Reading.{Unclaimed, CarryPair, Faulty, unlisted, stray, carry-pair, past-columns, Decodable}
 use Rattle.codec.proofs.FaultLaws.{used-group, fault-stray, fault-carry, fault-low, fault-group}
 use Rattle.codec.proofs.TileRunLaws.{field-position-lt, group-position-lt}
 use Rattle.codec.proofs.ListedLaws.{points-exact}
@@ -80,17 +81,25 @@ module _ (table bits : List ℕ) (T : TableRules logicTile table) where
   )
 
   fault-of : (p : ℕ) → Faulty table (tileOf bits) p → faultAt table (tileOf bits) p ≡ true
+  unfolding faultAt pastAt
   fault-of p (unlisted g h n m) =
-      fault-group table bits (positionAt logicTile table g 0) (maxPositions * g) (group-owner table T g 0 h (T .groups g h .some-positions) ∙ omega arith)
+      or-right (pastAt (tileOf bits) (positionAt logicTile table g 0)) _
+      (fault-group table bits (positionAt logicTile table g 0) (maxPositions * g) (group-owner table T g 0 h (T .groups g h .some-positions) ∙ omega arith)
       (omega (arith, T .few-groups))
       ∙ ap (λ (x : ℕ). pointsTo (positionAt logicTile table g 0) (readGroup logicTile table (bitAt bits) x))
       (let e : maxPositions * g / maxPositions ≡ g = omega arith in e)
-      ∙ points-exact table bits g (T .groups g h) (positionAt logicTile table g 0) .1 (n, m, refl)
-  fault-of p (stray q h n e) = fault-stray table bits p (unclaimed-owner table T p n) ∙ eq-eqb _ 1 e
-  fault-of p (carry-pair q) = fault-carry table bits (fieldAt table carryInSet) (field-owner table T carryInSet (omega arith)) ∙ carry-exact .1 q
+      ∙ points-exact table bits g (T .groups g h) (positionAt logicTile table g 0) .1 (n, m, refl))
+  fault-of p (stray q h n e) = or-right (pastAt (tileOf bits) p) _ (fault-stray table bits p (unclaimed-owner table T p n) ∙ eq-eqb _ 1 e)
+  fault-of p (carry-pair q) =
+      or-right (pastAt (tileOf bits) (fieldAt table carryInSet)) _
+      (fault-carry table bits (fieldAt table carryInSet) (field-owner table T carryInSet (omega arith)) ∙ carry-exact .1 q)
+  fault-of p (past-columns r h e) =
+      let row : (columns * r + 53) / columns ≡ r = omega arith in
+      let column : (columns * r + 53) % columns ≡ 53 = omega arith in
+      or-left (pastAt (tileOf bits) (columns * r + 53)) _ (and-true (eq-eqb _ 53 column) (ap (λ (x : ℕ). tileOf bits .past x) row ∙ e))
 
-  of-fault : (p : ℕ) → p < 864 → faultAt table (tileOf bits) p ≡ true → Faulty table (tileOf bits) p
-  of-fault p h f = ⊎-elim owned free (lt-or-le mine (slotCount logicTile))
+  of-owned : (p : ℕ) → p < 864 → ownedFault table (tileOf bits) p ≡ true → Faulty table (tileOf bits) p
+  of-owned p h f = ⊎-elim owned free (lt-or-le mine (slotCount logicTile))
     where
       mine : ℕ
       mine = owner (slotsOf logicTile table) p
@@ -126,6 +135,16 @@ module _ (table bits : List ℕ) (T : TableRules logicTile table) where
               (sym (fault-group table bits p (mine - groupSlots logicTile) (omega arith) (omega arith)) ∙ f) in
               subst (Faulty table (tileOf bits)) (n .2) (unlisted g within (n .0) (n .1))
 
+  of-fault : (p : ℕ) → p < 864 → faultAt table (tileOf bits) p ≡ true → Faulty table (tileOf bits) p
+  unfolding faultAt pastAt
+  of-fault p h f = ⊎-elim past (of-owned p h) (or-is (pastAt (tileOf bits) p) _ f)
+    where
+      past : pastAt (tileOf bits) p ≡ true → Faulty table (tileOf bits) p
+      past e =
+          let column : p % columns ≡ 53 = eqb-true (p % columns) 53 (and-left _ _ e) in
+          subst (Faulty table (tileOf bits)) (let q : columns * (p / columns) + 53 ≡ p = omega arith in q)
+          (past-columns (p / columns) (omega arith) (and-right (eqb (p % columns) 53) _ e))
+
   -- the computed test of a position is the paper's
   pub fault-exact : (p : ℕ) → p < 864 → (faultAt table (tileOf bits) p ≡ true) ↔ Faulty table (tileOf bits) p
   fault-exact p h = (of-fault p h, fault-of p)
@@ -133,6 +152,7 @@ module _ (table bits : List ℕ) (T : TableRules logicTile table) where
   pub faulty-lt : (p : ℕ) → Faulty table (tileOf bits) p → p < 864
   faulty-lt p (unlisted g h n m) = group-position-lt table T g 0 h (T .groups g h .some-positions)
   faulty-lt p (stray q h n e) = h
+  faulty-lt p (past-columns r h e) = omega arith
   faulty-lt p (carry-pair q) = field-position-lt table T carryInSet (omega arith)
 
   -- ---- a tile

@@ -30,7 +30,7 @@ use Rattle.codec.specs.Reading.{carry-pair, Decodable, ReadsTo, HasBits}
 use Rattle.codec.proofs.BitLaws.{bit-lt}
 use Rattle.codec.proofs.CellLaws.{value-lt, table-digit, flags-digit}
 use Rattle.codec.proofs.GroupLaws.{setting-back, setting-number-le}
-use Rattle.codec.proofs.EncodeLaws.{encode-length, encode-bytes}
+use Rattle.codec.proofs.EncodeLaws.{encode-length}
 use Rattle.codec.proofs.LimitLaws.{limit-field, limit-passive, limit-group, limit-table, limit-flags}
 use Rattle.codec.proofs.TileRunLaws.{slot-value-lt}
 use Rattle.codec.proofs.DecodeLaws.{setting-kinds, decode-length, decode-field, decode-passive, decode-passive-rest, decode-group, decode-group-rest, decode-table, decode-flags}
@@ -121,7 +121,6 @@ module _ (table settings : List ℕ) (T : TableRules logicTile table) (long : le
   fit-has-bits fit = record {
     bits = encode table settings;
     long = encode-length (slotsOf logicTile table) (slotValue table settings) (slot-value-lt table settings);
-    bytes = encode-bytes (slotsOf logicTile table) (slotValue table settings) (slot-value-lt table settings);
     decodable = encode-decodable table settings can;
     reads = subst (ReadsTo table (bitAt (encode table settings))) (settings-back table settings can) (decode-reads table (encode table settings) T);
   }

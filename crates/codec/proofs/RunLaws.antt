@@ -20,7 +20,7 @@ use Rattle.codec.specs.Bits.{bitAt, setBits}
 use Rattle.codec.specs.Encode.{bitsOf}
 use Rattle.codec.specs.Writing.{Written}
 use Rattle.codec.proofs.BitLaws.{bit-lt, bit-of-zeros, position-within}
-use Rattle.codec.proofs.SetBitsLaws.{set-bits-length, set-bits-bytes, set-bits-other, set-bits-at}
+use Rattle.codec.proofs.SetBitsLaws.{set-bits-length, set-bits-fits, set-bits-other, set-bits-at}
 use Rattle.codec.proofs.EncodeLaws.{encode-slot, encode-is}
 
 -- w slots from m on, of which the first n are used, stand at the positions `at` and hold the digits of v
@@ -100,7 +100,7 @@ module _ (S : Slots) (value : ℕ → ℕ) (m w n : ℕ) (at : ℕ → ℕ) (v :
       pub run-written : Written S value (m + w) (setBits bits at v n)
       run-written = record {
         long = set-bits-length bits at v n ∙ W .long;
-        bytes = set-bits-bytes bits at v (W .bytes) n;
+        fits = set-bits-fits bits at v (W .fits) n;
         held = written-held;
         clear = λ p h none.
             set-bits-other bits at v n p (λ k a e. none (m + k) (omega (arith, R .some)) (R .on k a) (R .stands k a ∙ sym e))
@@ -112,7 +112,7 @@ module _ (S : Slots) (value : ℕ → ℕ) where
   pub none-written : (bits : List ℕ) (n : ℕ) → n ≡ tileNumbers → bits ≡ zeros n → Written S value 0 bits
   none-written bits n l e = record {
     long = ap length e ∙ zeros-length n ∙ l;
-    bytes = λ i. omega (arith, zero-at i);
+    fits = λ i. omega (arith, zero-at i);
     held = λ s h. absurd (omega arith);
     clear = λ p h f. ap (λ (x : List ℕ). bitAt x p) e ∙ bit-of-zeros n p;
   }
@@ -124,7 +124,7 @@ module _ (S : Slots) (value : ℕ → ℕ) where
   pub skip-written : (m w : ℕ) (bits : List ℕ) → ((s : ℕ) → m ≤ s → s < m + w → S .used s ≡ false) → Written S value m bits → Written S value (m + w) bits
   skip-written m w bits off W = record {
     long = W .long;
-    bytes = W .bytes;
+    fits = W .fits;
     held = λ s h u. ⊎-elim (λ (l : s < m). W .held s l u) (λ (l : m ≤ s). clash u (off s l h)) (lt-or-le s m);
     clear = λ p h none. W .clear p h (λ s l. none s (omega arith));
   }
@@ -132,5 +132,5 @@ module _ (S : Slots) (value : ℕ → ℕ) where
   -- all is written
   pub all-written : ((s : ℕ) → value s < 2) → (bits : List ℕ) → Written S value (S .count) bits → bits ≡ bitsOf S value
   all-written two bits W =
-      encode-is S value two bits (W .long) (W .bytes) (W .held)
+      encode-is S value two bits (W .long) (W .fits) (W .held)
       (λ p h o. W .clear p h (λ s l u e. clash (claims-it S p s u e) (first-before (claims S p) 0 (S .count) s (omega arith) (omega arith))))

@@ -16,6 +16,7 @@ use Rattle.routing.specs.Table.{fieldAt, passiveCount, passiveAt, groupCount, w
 use Rattle.routing.specs.Slots.{slotsOf, fieldSlots, passiveSlots, groupSlot}
 use Rattle.routing.proofs.LogicTileLaws.{logic-tile-once}
 use Rattle.routing.proofs.TableOnceLaws.{table-once}
+use Rattle.words.proofs.FormsLaws.{past-none}
 use Rattle.codec.specs.Bits.{bitAt, tileOf}
 use Rattle.codec.specs.Settings.{fieldSetting, passiveSetting, groupSetting, cellTable, cellFlags}
 use Rattle.codec.specs.Groups.{settingOfPattern, readGroup, patternOf}
@@ -25,11 +26,11 @@ use Rattle.codec.specs.Fault.{isUnlisted}
 use Rattle.codec.specs.Encode.{slotValue, encode}
 use Rattle.codec.specs.Limits.{bothCarries}
 use Rattle.codec.specs.Writing.{Writable}
-use Rattle.codec.specs.Reading.{unlisted, stray, carry-pair, Decodable}
+use Rattle.codec.specs.Reading.{unlisted, stray, carry-pair, past-columns, Decodable}
 use Rattle.codec.specs.declared.groups.GroupRead.the-variants.{Setting}
 use Rattle.codec.proofs.SetBitsLaws.{from-digits-one}
 use Rattle.codec.proofs.GroupLaws.{setting-back, pattern-fits}
-use Rattle.codec.proofs.EncodeLaws.{encode-unclaimed}
+use Rattle.codec.proofs.EncodeLaws.{encode-unclaimed, encode-fits}
 use Rattle.codec.proofs.LimitLaws.{fit-carries, fit-field, fit-passive, fit-passive-rest, fit-group, fit-group-rest, fit-table, fit-flags}
 use Rattle.codec.proofs.RunLaws.{Run, run-back}
 use Rattle.codec.proofs.TileRunLaws.{slot-value-lt, cell-run, field-run, passive-run, group-run}
@@ -107,3 +108,5 @@ module _ (table settings : List ℕ) (C : Writable table settings) where
       (and-true (eq-eqb (fieldSetting settings carryInSet) 1 (sym (field-trip carryInSet (omega arith)) ∙ q .0))
       (eq-eqb (fieldSetting settings carryChain) 1 (sym (field-trip carryChain (omega arith)) ∙ q .1)))
       (fit-carries table settings (C .fit))
+  encode-decodable p (past-columns r h e) =
+      clash e (past-none E (encode-fits (slotsOf logicTile table) (slotValue table settings) (slot-value-lt table settings)) r)

@@ -13,23 +13,15 @@ use Rattle.routing.specs.LogicTile.{lcPosition, cellPosition}
 use Rattle.routing.proofs.LogicTileLaws.{lcBit, lc-bit-lt, lc-position-left, lc-position-right}
 use Rattle.codec.specs.Bits.{unit, bitAt, tenFrom}
 use Rattle.codec.specs.Cells.{cellBitIn, valueIn}
-use Rattle.codec.proofs.BitLaws.{bit-lt, bit-of-byte}
+use Rattle.codec.proofs.BitLaws.{bit-lt, bit-of-row}
 
--- two lent numbers as one, the first of which has no more digits than its own
-two-digit : (bits : List ℕ) (i : ℕ) → getD bits i 0 < 2 ^ unit
-    → (j : ℕ) → j < unit + unit → digit (getD bits i 0 + 256 * getD bits (i + 1) 0) j ≡ bitAt bits (unit * i + j)
-two-digit bits i h =
-    digit-join (λ (j : ℕ). bitAt bits (unit * i + j)) (getD bits i 0) (getD bits (i + 1) 0) unit unit h (λ j l. sym (bit-of-byte bits i j l))
-    (λ j l. sym (bit-of-byte bits (i + 1) j l) ∙ ap (bitAt bits) (let e : unit * (i + 1) + j ≡ unit * i + (unit + j) = omega arith in e))
-
--- ten bits from p on, which two lent numbers hold
-pub ten-is : (bits : List ℕ) (p : ℕ) → p % unit ≤ 6 → getD bits (p / unit) 0 < 2 ^ unit
-    → (getD bits (p / unit) 0 + 256 * getD bits (p / unit + 1) 0) / 2 ^ (p % unit) % 1024 ≡ tenFrom (bitAt bits) p
-ten-is bits p s h =
-    let two : ℕ = getD bits (p / unit) 0 + 256 * getD bits (p / unit + 1) 0 in
-    sym (from-digits-shift two (p % unit) 10)
-    ∙ from-digits-ext (λ (k : ℕ). digit two (p % unit + k)) (λ (k : ℕ). bitAt bits (p + k)) 10
-    (λ k l. two-digit bits (p / unit) h (p % unit + k) (omega arith)
+-- ten bits from p on, which one row holds
+pub ten-is : (bits : List ℕ) (p : ℕ) → p % unit ≤ 44 → getD bits (p / unit) 0 / 2 ^ (p % unit) % 1024 ≡ tenFrom (bitAt bits) p
+ten-is bits p s =
+    let row : ℕ = getD bits (p / unit) 0 in
+    sym (from-digits-shift row (p % unit) 10)
+    ∙ from-digits-ext (λ (k : ℕ). digit row (p % unit + k)) (λ (k : ℕ). bitAt bits (p + k)) 10
+    (λ k l. sym (bit-of-row bits (p / unit) (p % unit + k) (omega arith))
     ∙ ap (bitAt bits) (let e : unit * (p / unit) + (p % unit + k) ≡ p + k = omega arith in e))
 
 pub ten-lt : (bits : List ℕ) (p : ℕ) → tenFrom (bitAt bits) p < 1024

@@ -1,33 +1,28 @@
--- The bits of a tile in the form in which they are lent: bytes. Beside this file, `src/bits.rt` and their laws, three others know that form:
--- `bitsOf` (Encode.antt), which makes it, `take_byte` of `tile`, which goes through a tile byte by byte, and `frames`, which fills it from text.
-use Prim.Native.Nat.{ℕ, zero, suc, _+_, _/_, _%_, _<_, _^_}
+-- The bits of a tile in the form in which they are lent: words, one for each row. Beside this file, `src/bits.rt` and their laws, three others know that
+-- form: `bitsOf` (Encode.antt), which makes it, `take_row` of `tile`, which goes through a tile row by row, and `asc`, whose rows are the same.
+use Prim.Native.Nat.{ℕ, zero, suc, _+_, _/_, _%_}
 use mathlib.Core.Bool.{Bool}
 use mathlib.Core.List.{List}
 use lib.Dec.{eqb}
 use lib.ListN.{getD, set}
 use Rattle.lists.specs.Search.{allFrom, countBelow}
-use Rattle.digits.specs.Digits.{digit, setDigit, fromDigits}
-use Rattle.ports.specs.Lengths.{tileNumbers}
+use Rattle.digits.specs.Digits.{digit, setDigit}
+use Rattle.ports.specs.Lengths.{columns, tileNumbers}
+use Rattle.words.specs.Packed.{bitIn, numberFrom, FitsIn}
+use Rattle.words.specs.Forms.{TileBits, ofWords}
 use Rattle.routing.specs.LogicTile.{logicTile}
 
--- how many positions stand in one lent number; `tileNumbers` of them are a tile
+-- how many positions stand in one lent number, a row; `tileNumbers` of them are a tile
 abbrev pub unit : ℕ
-unit = 8
+unit = columns
 
--- "position p is in byte p/8 with weight 2^(p mod 8)", over the number of positions in a lent number
-unfoldable pub bitIn : ℕ → List ℕ → ℕ → ℕ
-bitIn u bits p = digit (getD bits (p / u) 0) (p % u)
-
--- the bit at position p of a tile that is lent as bytes
+-- the bit at position p of a tile that is lent as words
 abbrev pub bitAt : List ℕ → ℕ → ℕ
 bitAt bits p = bitIn unit bits p
 
--- a tile as reading sees it: the bit at each position. What is read is stated over this, so the lent form can change behind `tileOf`.
-pub record TileBits : Type 0 where
-  pub bit : ℕ → ℕ
-
+-- a tile as reading sees it. What is read is stated over this, so the lent form can change behind `tileOf`.
 abbrev pub tileOf : List ℕ → TileBits
-tileOf bits = record { bit = bitAt bits }
+tileOf bits = ofWords bits
 
 -- v written to position p
 unfoldable pub setBitIn : ℕ → List ℕ → ℕ → ℕ → List ℕ
@@ -43,17 +38,17 @@ setBits bits at v (suc n) = setBit (setBits bits at v n) (at n) (digit v n)
 
 -- the ten bits from position p on as one number, the first with weight 1
 abbrev pub tenFrom : (ℕ → ℕ) → ℕ → ℕ
-tenFrom bit p = fromDigits (λ (k : ℕ). bit (p + k)) 10
+tenFrom bit p = numberFrom 10 bit p
 
--- each lent number has `unit` digits
-abbrev pub Bytes : List ℕ → Type 0
-Bytes bits = (i : ℕ) → getD bits i 0 < 2 ^ unit
+-- each lent number has `unit` digits: "columns 54 to 63 zero"
+abbrev pub Fits : List ℕ → Type 0
+Fits bits = FitsIn unit bits
 
 -- the bit at p is 1
 abbrev pub isSetAt : (ℕ → ℕ) → ℕ → Bool
 isSetAt bit p = eqb (bit p) 1
 
--- no bit is set
+-- no bit is set, nor one past the columns
 abbrev pub isZeroAt : List ℕ → ℕ → Bool
 isZeroAt bits i = eqb (getD bits i 0) 0
 

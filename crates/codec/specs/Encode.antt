@@ -3,12 +3,12 @@ use Prim.Native.Nat.{ℕ, _+_, _-_, _*_, _/_, _%_}
 use mathlib.Core.Bool.{cond}
 use mathlib.Core.List.{List}
 use lib.Dec.{ltb}
-use Rattle.lists.specs.Tables.{tabulate}
-use Rattle.digits.specs.Digits.{digit, fromDigits}
+use Rattle.digits.specs.Digits.{digit}
 use Rattle.routing.specs.TileKind.{bitsPerCell}
 use Rattle.routing.specs.LogicTile.{logicTile}
 use Rattle.ports.specs.Lengths.{maxPositions, tileNumbers}
 use Rattle.routing.specs.Slots.{Slots, owner, slotsOf, fieldSlots, passiveSlots, groupSlots}
+use Rattle.words.specs.Packed.{packed}
 use Rattle.codec.specs.Bits.{unit}
 use Rattle.codec.specs.Settings.{fieldSetting, passiveSetting, groupSetting, cellTable, cellFlags}
 use Rattle.codec.specs.Groups.{patternOf}
@@ -28,12 +28,8 @@ slotValue table settings s =
 abbrev pub ownedBit : Slots → (ℕ → ℕ) → ℕ → ℕ
 ownedBit S value p = cond (ltb (owner S p) (S .count)) (value (owner S p)) 0
 
--- lent number i of such a tile
-abbrev pub ownedByte : Slots → (ℕ → ℕ) → ℕ → ℕ
-ownedByte S value i = fromDigits (λ (j : ℕ). ownedBit S value (unit * i + j)) unit
-
 unfoldable pub bitsOf : Slots → (ℕ → ℕ) → List ℕ
-bitsOf S value = tabulate (ownedByte S value) 0 tileNumbers
+bitsOf S value = packed unit (ownedBit S value) tileNumbers
 
 abbrev pub encode : List ℕ → List ℕ → List ℕ
 encode table settings = bitsOf (slotsOf logicTile table) (slotValue table settings)

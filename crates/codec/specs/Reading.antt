@@ -1,15 +1,17 @@
 -- Reading a tile, sentence by sentence (document 01, 'The routing table' and 'Cells'): which bits can be read, and to which settings.
 -- `proofs/` shows that `decode` and `tileFault` compute just this.
-use Prim.Native.Nat.{ℕ, suc, _+_, _<_, _≤_, _^_}
+use Prim.Native.Nat.{ℕ, suc, _+_, _*_, _<_, _≤_, _^_}
 use mathlib.Core.Path.{_≡_}
+use mathlib.Core.Bool.{true}
 use mathlib.Core.List.{List}
 use lib.ListN.{length, getD}
 use Rattle.digits.specs.Digits.{digit}
 use Rattle.routing.specs.LogicTile.{logicTile, lcBits, lcPosition, carryInSet, carryChain}
-use Rattle.ports.specs.Lengths.{maxPassives, maxGroups, tileNumbers, settingsLength}
+use Rattle.ports.specs.Lengths.{rows, columns, maxPassives, maxGroups, tileNumbers, settingsLength}
 use Rattle.routing.specs.Table.{fieldAt, passiveCount, passiveAt, groupCount, positionAt, entryCount, patternAt}
 use Rattle.routing.specs.Rules.{Claimed}
-use Rattle.codec.specs.Bits.{TileBits, bitAt, tileOf, Bytes}
+use Rattle.words.specs.Forms.{TileBits}
+use Rattle.codec.specs.Bits.{bitAt, tileOf}
 use Rattle.codec.specs.Settings.{fieldSetting, passiveSetting, groupSetting, cellTable, cellFlags}
 use Rattle.codec.specs.Groups.{groupPattern}
 
@@ -54,6 +56,8 @@ module _ (table : List ℕ) (tile : TileBits) where
     unlisted : (g : ℕ) → g < groupCount logicTile table → (Off table (tile .bit) g → ⊥) → ((e : ℕ) → Listed table (tile .bit) g e → ⊥) → Faulty (positionAt logicTile table g 0)
     stray : (p : ℕ) → p < logicTile .positions → Unclaimed table p → tile .bit p ≡ 1 → Faulty p
     carry-pair : CarryPair table (tile .bit) → Faulty (fieldAt table carryInSet)
+    -- "4 for a set bit in columns 54 to 63, at fault as column 53 of its row" (document 02, W7), whoever claims that position
+    past-columns : (r : ℕ) → r < rows → tile .past r ≡ true → Faulty (columns * r + 53)
 
   -- no position is at fault
   abbrev pub Decodable : Type 0
@@ -63,6 +67,5 @@ module _ (table : List ℕ) (tile : TileBits) where
 pub record HasBits (table settings : List ℕ) : Type 0 where
   pub bits : List ℕ
   pub long : length bits ≡ tileNumbers
-  pub bytes : Bytes bits
   pub decodable : Decodable table (tileOf bits)
   pub reads : ReadsTo table (bitAt bits) settings

@@ -9,14 +9,14 @@ use Rattle.routing.specs.LogicTile.{logicTile}
 use Rattle.routing.specs.Rules.{TableRules}
 use Rattle.routing.specs.Slots.{Slots, slotsOf}
 use Rattle.ports.specs.Lengths.{tileNumbers, settingsLength}
-use Rattle.codec.specs.Bits.{bitAt, Bytes}
+use Rattle.codec.specs.Bits.{bitAt, Fits}
 use Rattle.codec.specs.Encode.{slotValue}
 use Rattle.codec.specs.Limits.{settingsFit}
 
 -- the first m slots hold their values, and every position that they do not claim is 0
 pub record Written (S : Slots) (value : ℕ → ℕ) (m : ℕ) (bits : List ℕ) : Type 0 where
   pub long : length bits ≡ tileNumbers
-  pub bytes : Bytes bits
+  pub fits : Fits bits
   pub held : (s : ℕ) → s < m → S .used s ≡ true → bitAt bits (S .at s) ≡ value s
   pub clear : (p : ℕ) → p < logicTile .positions → ((s : ℕ) → s < m → S .used s ≡ true → S .at s ≢ p) → bitAt bits p ≡ 0
 

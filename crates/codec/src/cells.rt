@@ -28,7 +28,7 @@ const FIRST_TEN: usize = 36;
 const SECOND_TEN: usize = 90;
 
 // A cell's 20 bits as one number: its table, and its flags with weight 65,536. An empty cell takes no time.
-pub fn read_value(bits: &[u8], i: usize) -> u32
+pub fn read_value(bits: &[u64], i: usize) -> u32
     requires { ⌜ (length (now bits) ≡ tileNumbers) × (i < 8) ⌝ }
     ensures { λ r. ⌜ r ≡ valueIn (bitAt (now (bits .entry))) i ⌝ }
 {
@@ -50,7 +50,7 @@ pub fn read_value(bits: &[u8], i: usize) -> u32
 }
 
 // The cells that a tile's bits hold.
-pub fn decode_cells(bits: &[u8]) -> [Cell; 8]
+pub fn decode_cells(bits: &[u64]) -> [Cell; 8]
     requires { ⌜ length (now bits) ≡ tileNumbers ⌝ }
     ensures { λ r. ⌜ r ≡ cellsIn (bitAt (now (bits .entry))) ⌝ }
 {
@@ -93,7 +93,7 @@ pub fn cells_of(settings: &[u16]) -> [Cell; 8]
 }
 
 // A cell's 20 bits written where all of them are clear, so that an empty cell takes no time.
-pub fn write_value(bits: &mut [u8], i: usize, value: u32)
+pub fn write_value(bits: &mut [u64], i: usize, value: u32)
     requires { ⌜ (length (now bits) ≡ tileNumbers) × (i < 8) × ((j : ℕ) → j < bitsPerCell → cellBitIn (bitAt (now bits)) i j ≡ 0) ⌝ }
     ensures { λ r. ⌜ now (bits .exit) ≡ setBits (now (bits .entry)) (cellPosition i) value bitsPerCell ⌝ }
 {
@@ -109,7 +109,7 @@ pub fn write_value(bits: &mut [u8], i: usize, value: u32)
 }
 
 // Eight cells written to a tile's bits, which are clear.
-pub fn write_cells(bits: &mut [u8], cells: [Cell; 8])
+pub fn write_cells(bits: &mut [u64], cells: [Cell; 8])
     requires { ⌜ now bits ≡ zeros tileNumbers ⌝ }
     ensures { λ r. ⌜ now (bits .exit) ≡ writeCells (now (bits .entry)) cells 8 ⌝ }
 {

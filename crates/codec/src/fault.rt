@@ -8,7 +8,8 @@ ghost use Rattle.routing.specs.Slots.{Owned, slotsOf, slotCount};
 ghost use Rattle.ports.specs.Lengths.{tileNumbers};
 ghost use Rattle.codec.specs.Bits.{bitAt, tileOf};
 ghost use Rattle.codec.specs.Groups.{GroupLent, readGroup};
-ghost use Rattle.codec.specs.Fault.{pointsTo, carryPair, faultAt};
+ghost use Rattle.codec.specs.Fault.{pointsTo, carryPair, pastAt, ownedFault, faultAt};
+use crate::bits::UNIT;
 use crate::bits::read_bit;
 use crate::groups::GroupRead;
 use crate::groups::read_group;
@@ -17,6 +18,7 @@ use routing::slots::FIELD_SLOTS;
 use routing::slots::GROUP_SLOTS;
 use routing::table::CARRY_CHAIN;
 use routing::table::CARRY_IN_SET;
+use words::stray::PAST_COLUMNS;
 
 // In the ownership map: the CarryInSet field, the first position of group 0. A map's number is one more than the slot's.
 const SET_FIELD: usize = FIELD_SLOTS + CARRY_IN_SET + 1;
@@ -24,7 +26,7 @@ const SET_FIELD: usize = FIELD_SLOTS + CARRY_IN_SET + 1;
 const GROUPS: usize = GROUP_SLOTS + 1;
 
 // Whether reading a group says that position p is at fault.
-pub fn is_group_fault(table: &[u16], g: usize, bits: &[u8], p: usize) -> bool
+pub fn is_group_fault(table: &[u16], g: usize, bits: &[u64], p: usize) -> bool
     requires { ⌜ GroupLent (now table) g (now bits) ⌝ }
     ensures { λ r. ⌜ r ≡ pointsTo p (readGroup logicTile (now (table .entry)) (bitAt (now (bits .entry))) g) ⌝ }
 {
@@ -36,7 +38,7 @@ pub fn is_group_fault(table: &[u16], g: usize, bits: &[u8], p: usize) -> bool
 }
 
 // CarryInSet together with the chain switch.
-pub fn is_carry_pair(table: &[u16], bits: &[u8]) -> bool
+pub fn is_carry_pair(table: &[u16], bits: &[u64]) -> bool
     requires { ⌜ (TableRules logicTile (now table)) × (length (now bits) ≡ tileNumbers) ⌝ }
     ensures { λ r. ⌜ r ≡ carryPair (now (table .entry)) (bitAt (now (bits .entry))) ⌝ }
 {
@@ -48,12 +50,24 @@ pub fn is_carry_pair(table: &[u16], bits: &[u8]) -> bool
     false
 }
 
-// Whether position p is at fault; `own` says which slot claims it.
+// Whether p is the last column of a row with a set bit past it.
+// Rules out: such a bit let through; a fault in another column of the row.
+fn is_past_at(bits: &[u64], p: usize) -> bool
+    requires { ⌜ (length (now bits) ≡ tileNumbers) × (p < 864) ⌝ }
+    ensures { λ r. ⌜ r ≡ pastAt (tileOf (now (bits .entry))) p ⌝ }
+{
+    if p % UNIT == UNIT - 1 {
+        return PAST_COLUMNS <= bits[p / UNIT];
+    }
+    false
+}
+
+// Whether position p is at fault by what claims it; `own` says which slot does.
 // Rules out: a set bit that nothing claims let through; a fault reported at a group's second position.
-pub fn is_fault_at(table: &[u16], own: &[u16], bits: &[u8], p: usize) -> bool
+fn is_owned_fault(table: &[u16], own: &[u16], bits: &[u64], p: usize) -> bool
     requires { ⌜ (TableRules logicTile (now table)) × (Owned 864 (slotsOf logicTile (now table)) (slotCount logicTile) (now own)) ×
         (length (now bits) ≡ tileNumbers) × (p < 864) ⌝ }
-    ensures { λ r. ⌜ r ≡ faultAt (now (table .entry)) (tileOf (now (bits .entry))) p ⌝ }
+    ensures { λ r. ⌜ r ≡ ownedFault (now (table .entry)) (tileOf (now (bits .entry))) p ⌝ }
 {
     let code = own[p] as usize;
     if code == 0 {
@@ -67,4 +81,17 @@ pub fn is_fault_at(table: &[u16], own: &[u16], bits: &[u8], p: usize) -> bool
     }
     let g = (code - GROUPS) / MAX_POSITIONS;
     is_group_fault(table, g, bits, p)
+}
+
+// Whether position p is at fault.
+// Rules out: the last column of a row at fault only for what claims it.
+pub fn is_fault_at(table: &[u16], own: &[u16], bits: &[u64], p: usize) -> bool
+    requires { ⌜ (TableRules logicTile (now table)) × (Owned 864 (slotsOf logicTile (now table)) (slotCount logicTile) (now own)) ×
+        (length (now bits) ≡ tileNumbers) × (p < 864) ⌝ }
+    ensures { λ r. ⌜ r ≡ faultAt (now (table .entry)) (tileOf (now (bits .entry))) p ⌝ }
+{
+    if is_past_at(bits, p) {
+        return true;
+    }
+    is_owned_fault(table, own, bits, p)
 }

@@ -16,7 +16,7 @@ pub enum GroupRead {
 }
 
 // The pattern that a group's bits have, the first position with weight 1.
-pub fn read_pattern(table: &[u16], g: usize, bits: &[u8]) -> u16
+pub fn read_pattern(table: &[u16], g: usize, bits: &[u64]) -> u16
     requires { ⌜ GroupLent (now table) g (now bits) ⌝ }
     ensures { λ r. ⌜ r ≡ groupPattern logicTile (now (table .entry)) (bitAt (now (bits .entry))) g ⌝ }
 {
@@ -50,7 +50,7 @@ pub fn setting_of(table: &[u16], g: usize, pattern: u16) -> GroupRead
 }
 
 // The setting that a group's bits give.
-pub fn read_group(table: &[u16], g: usize, bits: &[u8]) -> GroupRead
+pub fn read_group(table: &[u16], g: usize, bits: &[u64]) -> GroupRead
     requires { ⌜ GroupLent (now table) g (now bits) ⌝ }
     ensures { λ r. ⌜ r ≡ readGroup logicTile (now (table .entry)) (bitAt (now (bits .entry))) g ⌝ }
 {
@@ -59,7 +59,7 @@ pub fn read_group(table: &[u16], g: usize, bits: &[u8]) -> GroupRead
 }
 
 // A pattern written to a group's positions, which are clear, the first with weight 1.
-pub fn write_pattern(table: &[u16], g: usize, bits: &mut [u8], pattern: u16)
+pub fn write_pattern(table: &[u16], g: usize, bits: &mut [u64], pattern: u16)
     requires { ⌜ (GroupLent (now table) g (now bits)) ×
         ((k : ℕ) → k < widthOf logicTile (now table) g → groupBit logicTile (now table) (bitAt (now bits)) g k ≡ 0) ⌝ }
     ensures { λ r. ⌜ now (bits .exit) ≡ setBits (now (bits .entry)) (positionAt logicTile (now (table .entry)) g) pattern
@@ -75,7 +75,7 @@ pub fn write_pattern(table: &[u16], g: usize, bits: &mut [u8], pattern: u16)
 }
 
 // A group's setting written where all its bits are clear, so that a group that is off takes no time.
-pub fn write_group(table: &[u16], g: usize, bits: &mut [u8], setting: u16)
+pub fn write_group(table: &[u16], g: usize, bits: &mut [u64], setting: u16)
     requires { ⌜ (GroupLent (now table) g (now bits)) ×
         (setting ≤ entryCount logicTile (now table) g) × ((k : ℕ) → k < widthOf logicTile (now table) g → groupBit logicTile
         (now table) (bitAt (now bits)) g k ≡ 0) ⌝ }

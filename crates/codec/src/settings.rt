@@ -26,7 +26,7 @@ pub const PASSIVES_FROM: usize = FIELDS;
 pub const GROUPS_FROM: usize = PASSIVES_FROM + MAX_PASSIVES;
 
 // A group's setting.
-pub fn group_setting(table: &[u16], g: usize, bits: &[u8]) -> u16
+pub fn group_setting(table: &[u16], g: usize, bits: &[u64]) -> u16
     requires { ⌜ GroupLent (now table) g (now bits) ⌝ }
     ensures { λ r. ⌜ r ≡ settingNumber (readGroup logicTile (now (table .entry)) (bitAt (now (bits .entry))) g) ⌝ }
 {
@@ -38,7 +38,7 @@ pub fn group_setting(table: &[u16], g: usize, bits: &[u8]) -> u16
 }
 
 // Setting n of what the bits read to, below the groups: a field or a passive bit.
-pub fn setting_at(table: &[u16], bits: &[u8], n: usize) -> u16
+pub fn setting_at(table: &[u16], bits: &[u64], n: usize) -> u16
     requires { ⌜ (TableRules logicTile (now table)) × (length (now bits) ≡ tileNumbers) × (n < groupsFrom logicTile) ⌝ }
     ensures { λ r. ⌜ r ≡ settingAt (now (table .entry)) (bitAt (now (bits .entry))) n ⌝ }
 {

@@ -1,13 +1,14 @@
--- `count_bits` meets its contract. Invariant: n is the count over the bytes so far. Measure: the bytes left. Assumes nothing.
-use mathlib.Core.Path.{_≡_, ap, _∙_}
-use Prim.Native.Nat.{_*_, _-_, _≤_}
-use native.Mathlib.Omega.{arith}
-use borrow.Author.Needs.{needs}
-use lib.Count.{ones-le}
-use Rattle.lists.specs.Search.{countBelow}
-use Rattle.codec.specs.Bits.{unit, isSetAt, bitAt}
-use Rattle.ports.specs.Lengths.{tileNumbers}
+-- `count_bits` meets its contract. Invariant: n is the count over the rows so far. Measure: the rows left. Assumes nothing.
 use Rattle.codec.proofs.BitLaws.{bit-count-step}
+use Rattle.codec.specs.Bits.{unit, bitAt, isSetAt}
+use Rattle.lists.specs.Search.{countBelow}
+use Rattle.ports.specs.Lengths.{tileNumbers}
+use lib.ListN.{getD}
+use lib.Count.{ones-le}
+use borrow.Author.Needs.{needs}
+use native.Mathlib.Omega.{arith}
+use Prim.Native.Nat.{_*_, _-_, _%_, _^_, _≤_}
+use mathlib.Core.Path.{_≡_, ap, _∙_}
 use Rattle.codec.proofs.bits.count_bits.Statement.{statement}
 use Rattle.codec.proofs.bits.count_bits.Tie as tie
 
@@ -21,11 +22,14 @@ loop-holds : tie.Need-loop-holds Inv-loop μ-loop
 unfolding countBelow
 loop-holds c = search needs
 
+mul-n : tie.Need-mul-n Inv-loop μ-loop
+mul-n c = search needs
+
 shared-slice-read-n : tie.Need-shared-slice-read-n Inv-loop μ-loop
 shared-slice-read-n c = search needs
 
 add-n : tie.Need-add-n Inv-loop μ-loop
-add-n c = let at-loop = c .before .before in omega (arith, ones-le 8 _ (c .shared-slice-known .given (at-loop .loop .i) .fits))
+add-n c = omega (arith, ones-le 54 (getD (c .before .before .before .args .bits .now) (c .before .before .loop .i) 0 % 2 ^ 54) (omega arith))
 
 add-i : tie.Need-add-i Inv-loop μ-loop
 add-i c = search needs
@@ -34,23 +38,10 @@ loop-less : tie.Need-loop-less Inv-loop μ-loop
 loop-less c = search needs
 
 loop-again : tie.Need-loop-again Inv-loop μ-loop
-loop-again c =
-    let at-start = c .before .before .before in
-    let at-loop = c .before .before in (
-      omega arith,
-      omega (
-        arith,
-        bit-count-step (at-start .args .bits .now) (at-loop .loop .i)
-            (c .shared-slice-known .given (at-loop .loop .i) .fits),
-      ),
-      omega (arith, ones-le 8 _ (c .shared-slice-known .given (at-loop .loop .i) .fits)),
-    )
+loop-again c = (omega arith, omega (arith, bit-count-step (c .before .before .before .args .bits .now) (c .before .before .loop .i)), omega (arith, ones-le 54 (getD (c .before .before .before .args .bits .now) (c .before .before .loop .i) 0 % 2 ^ 54) (omega arith)))
 
 returns : tie.Need-returns Inv-loop μ-loop
-returns c =
-    let at-start = c .before .before in
-    let at-loop = c .before in
-    at-loop .loop .inv .1 ∙ ap (countBelow (isSetAt (bitAt (at-start .args .bits .now)))) (let e : unit * at-loop .loop .i ≡ 864 = omega arith in e)
+returns c = c .before .loop .inv .1 ∙ ap (countBelow (isSetAt (bitAt (c .before .before .args .bits .now)))) (let e : unit * c .before .loop .i ≡ 864 = omega arith in e)
 
 pub count-bits-spec : {M : Type 1} → statement M
 count-bits-spec =
@@ -59,6 +50,7 @@ count-bits-spec =
     Inv-loop
     μ-loop
     loop-holds
+    mul-n
     shared-slice-read-n
     add-n
     add-i

@@ -7,14 +7,17 @@ use Rattle.codec.specs.Bits.{unit, setBitIn}
 use Rattle.codec.proofs.bits.write_bit.Statement.{statement}
 use Rattle.codec.proofs.bits.write_bit.Tie as tie
 
-slice-read-byte : tie.Need-slice-read-byte
-slice-read-byte c = search needs
+mul-row : tie.Need-mul-row
+mul-row c = search needs
 
-cast-with-digit : tie.Need-cast-with-digit
-cast-with-digit c = search needs
+slice-read-row : tie.Need-slice-read-row
+slice-read-row c = search needs
 
 with-digit-requires : tie.Need-with-digit-requires
 with-digit-requires c κs = search needs
+
+mul-bits : tie.Need-mul-bits
+mul-bits c = search needs
 
 slice-write-bits : tie.Need-slice-write-bits
 slice-write-bits c = search needs
@@ -32,9 +35,10 @@ pub write-bit-spec : {M : Type 1} → statement M
 write-bit-spec =
     tie.close
     (tie.spec
-    slice-read-byte
-    cast-with-digit
+    mul-row
+    slice-read-row
     with-digit-requires
+    mul-bits
     slice-write-bits
     same-length
     returns)

@@ -38,6 +38,17 @@ pub fn clear_numbers(room: &mut [u32])
     }
 }
 
+// The same for words of 64 bits.
+pub fn clear_words(room: &mut [u64])
+    ensures { λ r. ⌜ now (room .exit) ≡ zeros (length (now (room .entry))) ⌝ }
+{
+    let mut i = 0;
+    while i < room.len() {
+        room[i] = 0;
+        i += 1;
+    }
+}
+
 // The same numbers in a slice of the same length.
 // Rules out: leaving the last number as it was.
 pub fn copy(from: &[u16], to: &mut [u16])

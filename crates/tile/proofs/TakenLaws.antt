@@ -7,7 +7,7 @@ use mathlib.Core.List.{List}
 use Prim.Native.Nat.{ℕ, _+_, _-_, _^_, _<_, _≤_}
 use native.Mathlib.Omega.{arith}
 use native.Mathlib.Nat.{lt-of-lt-of-le}
-use borrow.Author.Tests.{eq-eqb, ne-eqb, eqb-true}
+use borrow.Author.Tests.{eq-eqb, ne-eqb, eqb-true, lt-leb}
 use lib.Dec.{eqb}
 use lib.Count.{trailingZeros}
 use lib.ListN.{getD}
@@ -20,14 +20,14 @@ use Rattle.digits.proofs.LowestLaws.{trailing-digit}
 use Rattle.routing.specs.LogicTile.{logicTile, carryInSet, carryChain}
 use Rattle.routing.specs.Table.{fieldAt, passiveAt, groupCount, widthOf, positionAt}
 use Rattle.routing.specs.Rules.{TableRules}
-use Rattle.codec.specs.Bits.{bitAt, tileOf}
+use Rattle.codec.specs.Bits.{unit, bitAt, tileOf}
 use Rattle.codec.specs.Settings.{fieldSetting, groupsFrom, cellsFrom}
-use Rattle.ports.specs.Lengths.{settingsLength}
+use Rattle.ports.specs.Lengths.{tileNumbers, settingsLength}
 use Rattle.codec.specs.Groups.{groupBit, groupPattern, settingOfPattern, readGroup}
 use Rattle.codec.specs.Decode.{settingNumber, settingAt, decode}
 use Rattle.codec.specs.Fault.{isUnlisted, tileFault}
 use Rattle.codec.specs.Limits.{bothCarries}
-use Rattle.codec.specs.Reading.{Off, CarryPair, unlisted, stray, carry-pair, Decodable}
+use Rattle.codec.specs.Reading.{Off, CarryPair, unlisted, stray, carry-pair, past-columns, Decodable}
 use Rattle.tile.specs.Taking.{Known, Taken, Undecodable}
 use Rattle.codec.specs.declared.groups.GroupRead.{GroupRead}
 use Rattle.codec.specs.declared.groups.GroupRead.the-variants.{Setting, Unlisted}
@@ -91,7 +91,7 @@ group-bit table bits T g h on = (k, within, sym (digit-from-digits (groupBit log
         (lt-or-le k width)
 
 module _ (table bits settings : List ℕ) (T : TableRules logicTile table) (K : Known table bits settings)
-    (all : (p : ℕ) → p < 864 → bitAt bits p ≡ 1 → Taken table settings p) where
+    (all : (p : ℕ) → p < 864 → bitAt bits p ≡ 1 → Taken table settings p) (fits : (r : ℕ) → r < tileNumbers → getD bits r 0 < 2 ^ unit) where
   group-known : (g : ℕ) → g < groupCount logicTile table → (Off table (bitAt bits) g → ⊥) → getD settings (groupsFrom logicTile + g) 0 ≢ 0
   group-known g h on =
       let b = group-bit table bits T g h on in
@@ -137,6 +137,7 @@ module _ (table bits settings : List ℕ) (T : TableRules logicTile table) (K : 
       ∙ unlisted-zero (readGroup logicTile table (bitAt bits) g) (unlisted-exact table bits g (T .groups g h) .1 (off, none)))
   taken-decodable single p (stray q h free e) = omega (arith, unclaimed-owner table T p free, all p h e .claimed)
   taken-decodable single p (carry-pair q) = clash (pair-both table bits q) single
+  taken-decodable single p (past-columns r h e) = clash e (lt-leb (2 ^ unit) (getD bits r 0) (fits r h))
 
   -- the answer, of the settings read
   pub taken-exact : not (bothCarries (decode table (bitAt bits))) ≡ eqb (tileFault table (tileOf bits)) 864
@@ -150,10 +151,11 @@ no-carries : bothCarries (zeros settingsLength) ≡ false
 unfolding bothCarries
 no-carries = refl
 
-pub empty-exact : (table bits : List ℕ) → TableRules logicTile table → ((p : ℕ) → bitAt bits p ≡ 0) → true ≡ eqb (tileFault table (tileOf bits)) 864
-empty-exact table bits T none =
+pub empty-exact : (table bits : List ℕ) → TableRules logicTile table → ((p : ℕ) → bitAt bits p ≡ 0) → ((r : ℕ) → r < tileNumbers → getD bits r 0 ≡ 0)
+    → true ≡ eqb (tileFault table (tileOf bits)) 864
+empty-exact table bits T none zero =
     sym (eq-eqb _ 864
     (tile-fault-exact table bits T .1
     (taken-decodable table bits (zeros settingsLength) T (known-start (zeros settingsLength) settingsLength refl refl)
-    (λ p h e. absurd (omega (arith, none p)))
+    (λ p h e. absurd (omega (arith, none p))) (λ r h. omega (arith, zero r h))
     (ap bothCarries (sym (decode-empty table bits none settingsLength refl)) ∙ no-carries))))

@@ -1,11 +1,12 @@
 -- A tile's settings while its set bits are taken one after another, in any order. Each bit makes the setting that it belongs to known. What
 -- the functions that take them promise each other.
-use Rattle.codec.specs.Bits.{bitAt, tileOf}
-use Prim.Native.Nat.{ℕ, _+_, _<_}
+use Rattle.codec.specs.Bits.{unit, bitAt, tileOf}
+use Prim.Native.Nat.{ℕ, _+_, _*_, _^_, _<_}
 use mathlib.Core.Path.{_≡_}
 use mathlib.Core.Logic.{_≢_}
 use mathlib.Core.List.{List}
 use lib.ListN.{length, getD}
+use Rattle.digits.specs.Digits.{digit}
 use Rattle.routing.specs.LogicTile.{logicTile}
 use Rattle.ports.specs.Lengths.{maxPositions, settingsLength}
 use Rattle.routing.specs.Slots.{slotsOf, owner, fieldSlots, groupSlot, slotCount}
@@ -29,6 +30,11 @@ pub record Taken (table settings : List ℕ) (p : ℕ) : Type 0 where
   pub single : (n : ℕ) → owner (slotsOf logicTile table) p ≡ fieldSlots logicTile + n → n < groupsFrom logicTile → getD settings n 0 ≢ 0
   pub group : (g k : ℕ) → owner (slotsOf logicTile table) p ≡ groupSlot logicTile g + k → k < maxPositions
       → getD settings (groupsFrom logicTile + g) 0 ≢ 0
+
+-- row i has nothing past its columns, and its set bits are taken
+pub record TakenRow (table bits settings : List ℕ) (i : ℕ) : Type 0 where
+  pub fits : getD bits i 0 < 2 ^ unit
+  pub taken : (k : ℕ) → k < unit → digit (getD bits i 0) k ≡ 1 → Taken table settings (unit * i + k)
 
 -- what a set bit shows that cannot be taken
 abbrev pub Undecodable : List ℕ → List ℕ → Type 0

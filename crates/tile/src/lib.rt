@@ -36,7 +36,7 @@ use routing::table::POSITIONS;
 mod reading;
 
 // The lowest position at fault; 864 where the tile can be decoded. `own` is the ownership map of the table.
-pub fn tile_fault(table: &[u16], own: &[u16], bits: &[u8]) -> usize
+pub fn tile_fault(table: &[u16], own: &[u16], bits: &[u64]) -> usize
     requires { ⌜ (TableRules logicTile (now table)) × (Owned 864 (slotsOf logicTile (now table)) (slotCount logicTile) (now own)) ×
         (length (now bits) ≡ tileNumbers) ⌝ }
     ensures { λ r. ⌜ r ≡ tileFault (now (table .entry)) (tileOf (now (bits .entry))) ⌝ }
@@ -53,7 +53,7 @@ pub fn tile_fault(table: &[u16], own: &[u16], bits: &[u8]) -> usize
 
 // A tile's settings read from its bits; the cells go through the array by value. Many tiles of a block have no bit set, and take no time.
 // Rules out: writing nothing; leaving the numbers past the table's counts as they were.
-pub fn decode_tile(table: &[u16], bits: &[u8], settings: &mut [u16])
+pub fn decode_tile(table: &[u16], bits: &[u64], settings: &mut [u16])
     requires { ⌜ (TableRules logicTile (now table)) × (length (now bits) ≡ tileNumbers) × (length (now settings) ≡ settingsLength) ⌝ }
     ensures { λ r. ⌜ now (settings .exit) ≡ decode (now (table .entry)) (bitAt (now (bits .entry))) ⌝ }
 {
@@ -83,7 +83,7 @@ pub fn decode_tile(table: &[u16], bits: &[u8], settings: &mut [u16])
 
 // The lowest position at fault, with cleared settings; where there is none, 864 with the settings read. Only of a tile that cannot be decoded are
 // all positions looked at.
-pub fn read_tile(table: &[u16], own: &[u16], bits: &[u8], settings: &mut [u16]) -> usize
+pub fn read_tile(table: &[u16], own: &[u16], bits: &[u64], settings: &mut [u16]) -> usize
     requires { ⌜ (TableRules logicTile (now table)) × (Owned 864 (slotsOf logicTile (now table)) (slotCount logicTile) (now own)) ×
         (length (now bits) ≡ tileNumbers) × (length (now settings) ≡ settingsLength) ⌝ }
     ensures fault { λ r. ⌜ r ≡ tileFault (now (table .entry)) (tileOf (now (bits .entry))) ⌝ }
@@ -98,7 +98,7 @@ pub fn read_tile(table: &[u16], own: &[u16], bits: &[u8], settings: &mut [u16]) 
 }
 
 // The fields written to bits that hold the cells.
-fn write_fields(table: &[u16], settings: &[u16], bits: &mut [u8])
+fn write_fields(table: &[u16], settings: &[u16], bits: &mut [u64])
     requires { ⌜ (Writable (now table) (now settings)) × (TileWritten (now table) (now settings) (fieldSlots logicTile) (now bits)) ⌝ }
     ensures { λ r. ⌜ TileWritten (now (table .entry)) (now (settings .entry)) (passiveSlots logicTile) (now (bits .exit)) ⌝ }
 {
@@ -111,7 +111,7 @@ fn write_fields(table: &[u16], settings: &[u16], bits: &mut [u8])
 }
 
 // The passive bits written after the fields.
-fn write_passives(table: &[u16], settings: &[u16], bits: &mut [u8])
+fn write_passives(table: &[u16], settings: &[u16], bits: &mut [u64])
     requires { ⌜ (Writable (now table) (now settings)) × (TileWritten (now table) (now settings) (passiveSlots logicTile) (now bits)) ⌝ }
     ensures { λ r. ⌜ TileWritten (now (table .entry)) (now (settings .entry)) (groupSlots logicTile) (now (bits .exit)) ⌝ }
 {
@@ -125,7 +125,7 @@ fn write_passives(table: &[u16], settings: &[u16], bits: &mut [u8])
 }
 
 // The groups written after the passive bits.
-fn write_groups(table: &[u16], settings: &[u16], bits: &mut [u8])
+fn write_groups(table: &[u16], settings: &[u16], bits: &mut [u64])
     requires { ⌜ (Writable (now table) (now settings)) × (TileWritten (now table) (now settings) (groupSlots logicTile) (now bits)) ⌝ }
     ensures { λ r. ⌜ TileWritten (now (table .entry)) (now (settings .entry)) (slotCount logicTile) (now (bits .exit)) ⌝ }
 {
@@ -138,12 +138,12 @@ fn write_groups(table: &[u16], settings: &[u16], bits: &mut [u8])
 }
 
 // A tile's settings written to its bits; the cells go through the array by value.
-pub fn encode_tile(table: &[u16], settings: &[u16], bits: &mut [u8])
+pub fn encode_tile(table: &[u16], settings: &[u16], bits: &mut [u64])
     requires { ⌜ (TableRules logicTile (now table)) × (length (now settings) ≡ settingsLength) ×
         (settingsFit (now table) (now settings) ≡ true) × (length (now bits) ≡ tileNumbers) ⌝ }
     ensures { λ r. ⌜ now (bits .exit) ≡ encode (now (table .entry)) (now (settings .entry)) ⌝ }
 {
-    lists::clear_bytes(bits);
+    lists::clear_words(bits);
     let cells = cells_of(settings);
     write_cells(bits, cells);
     write_fields(table, settings, bits);

@@ -2,18 +2,17 @@
 // decoded. Which position is at fault is another search (`tile_fault`).
 ghost use mathlib.Core.Path.{_≡_};
 ghost use mathlib.Core.Bool.{true, false};
-ghost use Prim.Native.Nat.{ℕ, _+_, _*_, _<_};
+ghost use Prim.Native.Nat.{_<_};
 ghost use lib.Dec.{eqb};
-ghost use lib.ListN.{length, getD};
-ghost use Rattle.digits.specs.Digits.{digit};
+ghost use lib.ListN.{length};
 ghost use Rattle.routing.specs.LogicTile.{logicTile};
 ghost use Rattle.routing.specs.Rules.{TableRules};
 ghost use Rattle.routing.specs.Slots.{Owned, slotsOf, slotCount};
-ghost use Rattle.codec.specs.Bits.{unit, bitAt, tileOf};
+ghost use Rattle.codec.specs.Bits.{bitAt, tileOf};
 ghost use Rattle.ports.specs.Lengths.{tileNumbers, settingsLength};
 ghost use Rattle.codec.specs.Decode.{decode};
 ghost use Rattle.codec.specs.Fault.{tileFault};
-ghost use Rattle.tile.specs.Taking.{Known, Learned, Taken, Undecodable};
+ghost use Rattle.tile.specs.Taking.{Known, Learned, Taken, TakenRow, Undecodable};
 use codec::bits::UNIT;
 use codec::bits::is_empty;
 use codec::cells::decode_cells;
@@ -25,6 +24,7 @@ use ports::lengths::MAX_POSITIONS;
 use ports::lengths::TILE_NUMBERS;
 use routing::slots::FIELD_SLOTS;
 use routing::slots::GROUP_SLOTS;
+use words::stray::PAST_COLUMNS;
 
 // In the ownership map, whose number is one more than the slot's: the first field, after which come the others and the passive bits, as in
 // the settings; and the first position of group 0.
@@ -33,7 +33,7 @@ const FIELDS: usize = FIELD_SLOTS + 1;
 const GROUPS: usize = GROUP_SLOTS + 1;
 
 // The set bit at p; whether it is in order. A group is read at its first set bit that is met. The cells are read as a whole, elsewhere.
-fn take_bit(table: &[u16], own: &[u16], bits: &[u8], p: usize, settings: &mut [u16]) -> bool
+fn take_bit(table: &[u16], own: &[u16], bits: &[u64], p: usize, settings: &mut [u16]) -> bool
     requires { ⌜ (TableRules logicTile (now table)) × (Owned 864 (slotsOf logicTile (now table)) (slotCount logicTile) (now own)) ×
         (length (now bits) ≡ tileNumbers) × (p < 864) × (bitAt (now bits) p ≡ 1) × Known (now table) (now bits) (now settings) ⌝ }
     ensures yes { λ r. ⌜ (r ≡ true → Learned (now (table .entry)) (now (bits .entry)) (now (settings .entry)) (now (settings .exit)) ×
@@ -60,19 +60,23 @@ fn take_bit(table: &[u16], own: &[u16], bits: &[u8], p: usize, settings: &mut [u
     true
 }
 
-// The set bits of byte i.
-fn take_byte(table: &[u16], own: &[u16], bits: &[u8], i: usize, settings: &mut [u16]) -> bool
+// The set bits of row i. A row with one past its columns cannot be decoded.
+// Rules out: a set bit past the columns left out.
+fn take_row(table: &[u16], own: &[u16], bits: &[u64], i: usize, settings: &mut [u16]) -> bool
     requires { ⌜ (TableRules logicTile (now table)) × (Owned 864 (slotsOf logicTile (now table)) (slotCount logicTile) (now own)) ×
         (length (now bits) ≡ tileNumbers) × (i < tileNumbers) × Known (now table) (now bits) (now settings) ⌝ }
     ensures yes { λ r. ⌜ (r ≡ true → Learned (now (table .entry)) (now (bits .entry)) (now (settings .entry)) (now (settings .exit)) ×
-        ((k : ℕ) → k < unit → digit (getD (now (bits .entry)) i 0) k ≡ 1 → Taken (now (table .entry)) (now (settings .exit))
-        (unit * i + k))) ⌝ }
+        TakenRow (now (table .entry)) (now (bits .entry)) (now (settings .exit)) i) ⌝ }
     ensures no { λ r. ⌜ (r ≡ false → Undecodable (now (table .entry)) (now (bits .entry))) ⌝ }
 {
-    let mut left = bits[i];
+    let row = bits[i];
+    if PAST_COLUMNS <= row {
+        return false;
+    }
+    let mut left = row;
     while 0 < left {
         let k = digits::lowest_digit(left);
-        if !take_bit(table, own, bits, UNIT * i + k as usize, settings) {
+        if !take_bit(table, own, bits, UNIT * i + k, settings) {
             return false;
         }
         left = digits::without_digit(left, k);
@@ -82,7 +86,7 @@ fn take_byte(table: &[u16], own: &[u16], bits: &[u8], i: usize, settings: &mut [
 
 // Whether the tile can be decoded; on a yes its settings are read. A tile with no bit set takes no time.
 // Rules out: settings kept from another tile; a yes for a bit that nothing claims, an unlisted group or the carry pair; a no for anything else.
-pub fn try_decode(table: &[u16], own: &[u16], bits: &[u8], settings: &mut [u16]) -> bool
+pub fn try_decode(table: &[u16], own: &[u16], bits: &[u64], settings: &mut [u16]) -> bool
     requires { ⌜ (TableRules logicTile (now table)) × (Owned 864 (slotsOf logicTile (now table)) (slotCount logicTile) (now own)) ×
         (length (now bits) ≡ tileNumbers) × (length (now settings) ≡ settingsLength) ⌝ }
     ensures answer { λ r. ⌜ r ≡ eqb (tileFault (now (table .entry)) (tileOf (now (bits .entry)))) 864 ⌝ }
@@ -94,7 +98,7 @@ pub fn try_decode(table: &[u16], own: &[u16], bits: &[u8], settings: &mut [u16])
     }
     let mut i = 0;
     while i < TILE_NUMBERS {
-        if !take_byte(table, own, bits, i, settings) {
+        if !take_row(table, own, bits, i, settings) {
             return false;
         }
         i += 1;

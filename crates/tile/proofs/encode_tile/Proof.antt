@@ -12,8 +12,8 @@ use Rattle.codec.proofs.RunLaws.{all-written}
 use Rattle.tile.proofs.encode_tile.Statement.{statement}
 use Rattle.tile.proofs.encode_tile.Tie as tie
 
-clear-bytes-requires : tie.Need-clear-bytes-requires
-clear-bytes-requires c κs = search needs
+clear-words-requires : tie.Need-clear-words-requires
+clear-words-requires c κs = search needs
 
 cells-of-requires : tie.Need-cells-of-requires
 cells-of-requires c κs = let at-start = c .before .before .before .before .before .before .before in at-start .pre .1
@@ -21,19 +21,19 @@ cells-of-requires c κs = let at-start = c .before .before .before .before .befo
 write-cells-requires : tie.Need-write-cells-requires
 write-cells-requires c κs =
     let at-start = c .before .before .before .before .before .before .before .before .before in
-    let at-clear-bytes = c .before .before .before .before in
-    at-clear-bytes .clear-bytes .ensures ∙ ap zeros (at-start .pre .3)
+    let at-clear-words = c .before .before .before .before in
+    at-clear-words .clear-words .ensures ∙ ap zeros (at-start .pre .3)
 
 write-fields-requires : tie.Need-write-fields-requires
 write-fields-requires c κs =
     let at-start = c .before .before .before .before .before .before .before .before .before .before .before .before .before in
-    let at-clear-bytes = c .before .before .before .before .before .before .before .before in
+    let at-clear-words = c .before .before .before .before .before .before .before .before in
     let at-cells-of = c .before .before .before .before .before in
     let at-write-cells = c .before .before .before in (
       (record { rules = at-start .pre .0; long = at-start .pre .1; fit = at-start .pre .2 }),
       cells-end (at-start .args .table .now)
           (at-start .args .settings .now) _ (record { rules = at-start .pre .0; long = at-start .pre .1; fit = at-start .pre .2 }) _ _ _ (at-start .pre .3)
-          (at-clear-bytes .clear-bytes .ensures) (at-cells-of .cells-of .ensures) (at-write-cells .write-cells .ensures),
+          (at-clear-words .clear-words .ensures) (at-cells-of .cells-of .ensures) (at-write-cells .write-cells .ensures),
     )
 
 write-passives-requires : tie.Need-write-passives-requires
@@ -62,7 +62,7 @@ pub encode-tile-spec : {M : Type 1} → statement M
 encode-tile-spec =
     tie.close
     (tie.spec
-    clear-bytes-requires
+    clear-words-requires
     cells-of-requires
     write-cells-requires
     write-fields-requires

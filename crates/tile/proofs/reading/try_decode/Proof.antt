@@ -1,26 +1,28 @@
--- `try_decode` meets its contract. Invariant: what is known is right, and the set bits of the first i bytes are taken. Measure: the bytes left.
+-- `try_decode` meets its contract. Invariant: what is known is right, and the set bits of the first i rows are taken. Measure: the rows left.
 -- Assumes nothing.
 use mathlib.Core.Path.{refl, sym, ap, _∙_}
 use mathlib.Core.Bool.{not}
-use Prim.Native.Nat.{ℕ, _-_, _<_, _≤_}
+use Prim.Native.Nat.{ℕ, _-_, _^_, _<_, _≤_}
 use native.Mathlib.Omega.{arith}
+use lib.ListN.{getD}
+use Rattle.codec.specs.Bits.{unit}
 use borrow.Author.Tests.{not-true, not-false}
 use borrow.Author.Needs.{needs}
 use Rattle.lists.proofs.CaseLaws.{clash}
 use Rattle.ports.specs.Lengths.{tileNumbers}
 use Rattle.codec.specs.Limits.{bothCarries}
-use Rattle.tile.specs.Taking.{Known}
-use Rattle.codec.proofs.BitLaws.{empty-clear}
+use Rattle.tile.specs.Taking.{Known, TakenRow}
+use Rattle.codec.proofs.BitLaws.{empty-row, empty-clear}
 use Rattle.codec.proofs.DecodeLaws.{decode-filled, decode-empty}
 use Rattle.tile.proofs.TakingLaws.{known-start}
-use Rattle.tile.proofs.Passing.{TakenByte, taken-turn, taken-end}
+use Rattle.tile.proofs.Passing.{taken-turn, taken-end}
 use Rattle.tile.proofs.TakenLaws.{taken-right, taken-exact, empty-exact, refused-exact}
 use Rattle.tile.proofs.reading.try_decode.Statement.{statement}
 use Rattle.tile.proofs.reading.try_decode.Tie as tie
 
 abbrev Inv-loop : tie.InvT-loop
 Inv-loop table own bits settings₀ i₀ settings i =
-    (i ≤ tileNumbers) × Known table bits settings × ((j : ℕ) → j < i → TakenByte table bits settings j)
+    (i ≤ tileNumbers) × Known table bits settings × ((j : ℕ) → j < i → TakenRow table bits settings j)
 
 abbrev μ-loop : tie.MeasureT-loop
 μ-loop table own bits settings₀ i₀ settings i = tileNumbers - i
@@ -42,7 +44,8 @@ returns c =
     let at-start = at-clear .before .before .before .before .before .before in
     let args = at-start .args in
     let none = empty-clear (args .bits .now) (at-start .pre .2) (sym (at-is-empty .is-empty .ensures) ∙ c .if1 .taken) in (
-      empty-exact (args .table .now) (args .bits .now) (at-start .pre .0) none,
+      empty-exact (args .table .now) (args .bits .now) (at-start .pre .0) none
+          (empty-row (args .bits .now) (sym (at-is-empty .is-empty .ensures) ∙ c .if1 .taken)),
       λ z. at-clear .clear .ensures ∙ decode-empty (args .table .now) (args .bits .now) none _ (at-start .pre .3),
     )
 
@@ -52,8 +55,8 @@ loop-holds c =
     let at-start = at-clear .before .before .before .before .before .before in
     (omega arith, known-start _ _ (at-start .pre .3) (at-clear .clear .ensures), λ j l. absurd (omega arith))
 
-take-byte-requires : tie.Need-take-byte-requires Inv-loop μ-loop
-take-byte-requires c κs = search needs
+take-row-requires : tie.Need-take-row-requires Inv-loop μ-loop
+take-row-requires c κs = search needs
 
 same-length-2 : tie.Need-same-length-2 Inv-loop μ-loop
 same-length-2 c = search needs
@@ -61,10 +64,10 @@ same-length-2 c = search needs
 -- a bit that cannot be taken
 returns-2 : tie.Need-returns-2 Inv-loop μ-loop
 returns-2 c =
-    let at-take-byte = c .before .before .before in
-    let at-loop = at-take-byte .before .before .before in
+    let at-take-row = c .before .before .before in
+    let at-loop = at-take-row .before .before .before in
     let at-start = at-loop .before .before .before .before .before .before .before .before .before .before .before in (
-      refused-exact (at-start .args .table .now) (at-start .args .bits .now) (at-start .pre .0) (at-take-byte .take-byte .ensures .1 (not-true _ (c .if2 .taken))),
+      refused-exact (at-start .args .table .now) (at-start .args .bits .now) (at-start .pre .0) (at-take-row .take-row .ensures .1 (not-true _ (c .if2 .taken))),
       λ z. clash z refl,
     )
 
@@ -76,9 +79,9 @@ loop-less c = search needs
 
 loop-again : tie.Need-loop-again Inv-loop μ-loop
 loop-again c =
-    let at-take-byte = c .before .before .before in
-    let at-loop = at-take-byte .before .before .before in
-    let taken = at-take-byte .take-byte .ensures .0 (not-false _ (c .if2 .left)) in
+    let at-take-row = c .before .before .before in
+    let at-loop = at-take-row .before .before .before in
+    let taken = at-take-row .take-row .ensures .0 (not-false _ (c .if2 .left)) in
     (omega arith, taken .0 .known, taken-turn (at-loop .loop .inv .2) (taken .0) (taken .1))
 
 decode-cells-requires : tie.Need-decode-cells-requires Inv-loop μ-loop
@@ -110,9 +113,10 @@ returns-3 c =
     let settings = at-loop .loop .settings in
     let known = at-loop .loop .inv .1 in
     let all = taken-end table bits settings (at-loop .loop .i) (omega arith) (at-loop .loop .inv .2) in
-    let read = at-put-cells .put-cells .ensures ∙ decode-filled table bits settings _ (known .long) (taken-right table bits settings (at-start .pre .0) known all)
+    let fits : (r : ℕ) → r < tileNumbers → getD bits r 0 < 2 ^ unit = λ r l. at-loop .loop .inv .2 r (omega arith) .fits in
+    let read = at-put-cells .put-cells .ensures ∙ decode-filled table bits settings _ (known .long) (taken-right table bits settings (at-start .pre .0) known all fits)
     (at-decode-cells .decode-cells .ensures) in
-    (ap not (c .has-both-carries .ensures ∙ ap bothCarries read) ∙ taken-exact table bits settings (at-start .pre .0) known all, λ z. read)
+    (ap not (c .has-both-carries .ensures ∙ ap bothCarries read) ∙ taken-exact table bits settings (at-start .pre .0) known all fits, λ z. read)
 
 pub try-decode-spec : {M : Type 1} → statement M
 try-decode-spec =
@@ -125,7 +129,7 @@ try-decode-spec =
     same-length
     returns
     loop-holds
-    take-byte-requires
+    take-row-requires
     same-length-2
     returns-2
     add-i

@@ -13,7 +13,7 @@ use Rattle.netlist.specs.Rows.{graphOf}
 use Rattle.loops.specs.Loops.{loopWire}
 use Rattle.routing.specs.LogicTile.{logicTile}
 use Rattle.routing.specs.TableCheck.{faultyPart, tableOk}
-use Rattle.codec.specs.Bits.{TileBits}
+use Rattle.words.specs.Forms.{TileBits}
 use Rattle.config.specs.Blocks.{faultPlace, decoded}
 use Rattle.equations.specs.WireRows.{wireRows}
 use Rattle.equations.specs.Sources.{contendedWire, sourcesOf}

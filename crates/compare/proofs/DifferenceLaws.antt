@@ -15,7 +15,7 @@ use Rattle.cell.proofs.SettingsLaws.{flags-of-cell}
 use Rattle.routing.specs.LogicTile.{logicTile}
 use Rattle.routing.specs.Table.{passiveCount, groupCount}
 use Rattle.routing.specs.Rules.{TableRules}
-use Rattle.codec.specs.Bits.{TileBits}
+use Rattle.words.specs.Forms.{TileBits}
 use Rattle.codec.specs.Settings.{passiveSetting, groupSetting, cellTable, cellFlags}
 use Rattle.codec.specs.Cells.{cellNumber, cellSetting}
 use Rattle.codec.specs.Reading.{ReadsTo}

@@ -14,7 +14,7 @@ use Rattle.ports.specs.declared.size.Size.{Size}
 use Rattle.ports.specs.Block.{tileCount, allowed}
 use Rattle.routing.specs.LogicTile.{logicTile}
 use Rattle.routing.specs.TableCheck.{faultyPart, tableOk}
-use Rattle.codec.specs.Bits.{TileBits}
+use Rattle.words.specs.Forms.{TileBits}
 use Rattle.config.specs.Blocks.{bitsAt, faultPlace, decoded}
 use Rattle.compare.specs.Places.{rowLength}
 use Rattle.compare.specs.Rows.{differenceCount, differences}

@@ -17,14 +17,14 @@ use Rattle.routing.specs.LogicTile.{logicTile}
 use Rattle.routing.specs.Rules.{TableRules}
 use Rattle.routing.specs.Slots.{slotsOf}
 use Rattle.ports.specs.Lengths.{tileNumbers, settingsLength}
-use Rattle.codec.specs.Bits.{unit, bitAt, tileOf, Bytes}
+use Rattle.codec.specs.Bits.{unit, bitAt, tileOf, Fits}
 use Rattle.codec.specs.Reading.{Decodable, ReadsTo, HasBits}
 use Rattle.codec.specs.Decode.{decode}
 use Rattle.codec.specs.Encode.{encode, slotValue}
 use Rattle.codec.specs.Limits.{settingsFit}
 use Rattle.codec.specs.Writing.{Writable}
 use Rattle.codec.proofs.DecodeLaws.{decode-length}
-use Rattle.codec.proofs.EncodeLaws.{encode-length, encode-bytes}
+use Rattle.codec.proofs.EncodeLaws.{encode-length, encode-fits}
 use Rattle.codec.proofs.TileRunLaws.{slot-value-lt}
 use Rattle.codec.proofs.ReadingLaws.{decode-reads, settings-fit-exact}
 use Rattle.codec.proofs.SettingsBack.{settings-back, encode-decodable}
@@ -68,8 +68,8 @@ module _ (table bits : List ℕ) (n : ℕ) where
 -- ---- settings to bits
 
 -- bytes behind bytes, and parts that are bytes, joined
-append-bytes : (front back : List ℕ) → Bytes front → Bytes back → Bytes (front ++ back)
-append-bytes front back F B i = ⊎-elim within behind (lt-or-le i (length front))
+append-fits : (front back : List ℕ) → Fits front → Fits back → Fits (front ++ back)
+append-fits front back F B i = ⊎-elim within behind (lt-or-le i (length front))
   where
     within : i < length front → getD (front ++ back) i 0 < 2 ^ unit
     within l = rw (List·getD-append front back 0 i l) (F i)
@@ -79,10 +79,10 @@ append-bytes front back F B i = ⊎-elim within behind (lt-or-le i (length front
         subst (λ (k : ℕ). getD (front ++ back) k 0 < 2 ^ unit) (let e : length front + (i - length front) ≡ i = omega arith in e)
         (rw (getD-append-add front back (i - length front) 0) (B (i - length front)))
 
-joined-bytes : (f : ℕ → List ℕ) (n : ℕ) → ((t : ℕ) → t < n → Bytes (f t)) → Bytes (joined f n)
+joined-fits : (f : ℕ → List ℕ) (n : ℕ) → ((t : ℕ) → t < n → Fits (f t)) → Fits (joined f n)
 unfolding joined
-joined-bytes f zero by = λ i. omega arith
-joined-bytes f (suc n) by = append-bytes (joined f n) (f n) (joined-bytes f n (λ t h. by t (omega arith))) (by n (omega arith))
+joined-fits f zero by = λ i. omega arith
+joined-fits f (suc n) by = append-fits (joined f n) (f n) (joined-fits f n (λ t h. by t (omega arith))) (by n (omega arith))
 
 module _ (table settings : List ℕ) (n : ℕ) where
   encoded-tile : (t : ℕ) → t < n → length (encodedAt table settings t) ≡ tileNumbers
@@ -92,11 +92,11 @@ module _ (table settings : List ℕ) (n : ℕ) where
   pub encoded-length : length (encoded table settings n) ≡ tileNumbers * n
   encoded-length = joined-length tileNumbers (encodedAt table settings) n encoded-tile
 
-  pub encoded-bytes : Bytes (encoded table settings n)
+  pub encoded-fits : Fits (encoded table settings n)
   unfolding encodedAt
-  encoded-bytes =
-      joined-bytes (encodedAt table settings) n
-      (λ t h. encode-bytes (slotsOf logicTile table) (slotValue table (settingsAt settings t)) (slot-value-lt table (settingsAt settings t)))
+  encoded-fits =
+      joined-fits (encodedAt table settings) n
+      (λ t h. encode-fits (slotsOf logicTile table) (slotValue table (settingsAt settings t)) (slot-value-lt table (settingsAt settings t)))
 
   pub encoded-at : (t : ℕ) → t < n → bitsAt (encoded table settings n) t ≡ encode table (settingsAt settings t)
   unfolding encodedAt

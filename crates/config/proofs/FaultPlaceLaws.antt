@@ -10,7 +10,7 @@ use Rattle.lists.proofs.CaseLaws.{cases, clash, lt-or-le}
 use Rattle.lists.proofs.SearchLaws.{first-none, first-true, first-before}
 use Rattle.routing.specs.LogicTile.{logicTile}
 use Rattle.routing.specs.Rules.{TableRules}
-use Rattle.codec.specs.Bits.{TileBits}
+use Rattle.words.specs.Forms.{TileBits}
 use Rattle.codec.specs.Fault.{tileFault}
 use Rattle.codec.specs.Reading.{Faulty, Decodable}
 use Rattle.codec.proofs.FaultyLaws.{fault-exact, faulty-lt, tile-fault-lowest}

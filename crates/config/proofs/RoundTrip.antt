@@ -1,18 +1,18 @@
 -- Both round trips of a block, of every size. Main laws: `written-reads`: settings that are written are read back the same; `read-writes`: bits
--- that are read are written back the same. `read-writes` assumes that the bits are bytes (`Bytes`), as those of a `&[u8]` are.
+-- that are read are written back the same: what can be decoded has nothing past its columns. Assumes nothing.
 use mathlib.Core.Path.{_≡_, sym, ap, _∙_}
 use mathlib.Core.Bool.{false, not}
 use mathlib.Core.List.{List}
-use Prim.Native.Nat.{ℕ, _<_, _^_}
+use Prim.Native.Nat.{ℕ, _<_}
 use native.Mathlib.Omega.{arith}
 use lib.ListN.{length}
 use Rattle.lists.proofs.SearchLaws.{first-none}
-use Rattle.lists.proofs.PartLaws.{joined-is, part-each}
+use Rattle.lists.proofs.PartLaws.{joined-is}
 use Rattle.refusal.specs.declared.Answer.the-variants.{Done}
 use Rattle.ports.specs.declared.size.Size.{Size}
 use Rattle.ports.specs.Block.{tileCount}
 use Rattle.routing.specs.LogicTile.{logicTile}
-use Rattle.codec.specs.Bits.{unit, bitAt, Bytes}
+use Rattle.codec.specs.Bits.{bitAt}
 use Rattle.ports.specs.Lengths.{tileNumbers, settingsLength}
 use Rattle.codec.specs.Decode.{decode}
 use Rattle.codec.specs.Encode.{encode}
@@ -64,7 +64,7 @@ module _ (S : Size) (table settings : List ℕ) (bits : ℕ) (done : writeAnswer
   )
 
 -- "bits that were read are written back the same"
-module _ (S : Size) (table bits : List ℕ) (settings : ℕ) (by : Bytes bits) (done : readAnswer S table bits settings ≡ Done) where
+module _ (S : Size) (table bits : List ℕ) (settings : ℕ) (done : readAnswer S table bits settings ≡ Done) where
   abbrev R : Checked S table (length bits) settings
   R = read-passed S table bits settings done
 
@@ -84,7 +84,6 @@ module _ (S : Size) (table bits : List ℕ) (settings : ℕ) (by : Bytes bits) (
       ∙ bits-back table (bitsAt bits t) (R .rules)
       (read-clean S table bits settings done t l)
       (bits-at-length bits (tileCount S) t (R .lengths .bits-long) l)
-      (part-each (λ (x : ℕ). x < 2 ^ unit) (omega arith) tileNumbers t bits by)
 
   pub read-writes : (writeAnswer S table (decoded table (tilesOf bits) (tileCount S)) (length bits) ≡ Done)
       × (encoded table (decoded table (tilesOf bits) (tileCount S)) (tileCount S) ≡ bits)

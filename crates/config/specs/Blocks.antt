@@ -6,7 +6,8 @@ use Rattle.lists.specs.Search.{first}
 use Rattle.lists.specs.Parts.{part, joined}
 use Rattle.routing.specs.LogicTile.{logicTile}
 use Rattle.ports.specs.Lengths.{tileNumbers, settingsLength}
-use Rattle.codec.specs.Bits.{TileBits, tileOf}
+use Rattle.words.specs.Forms.{TileBits}
+use Rattle.codec.specs.Bits.{tileOf}
 use Rattle.codec.specs.Decode.{decode}
 use Rattle.codec.specs.Encode.{encode}
 use Rattle.codec.specs.Fault.{faultAt}

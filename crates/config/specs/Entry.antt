@@ -14,24 +14,29 @@ use Rattle.ports.specs.Block.{tileCount, allowed}
 use Rattle.routing.specs.LogicTile.{logicTile}
 use Rattle.ports.specs.Lengths.{tableLength, bitsLength, settingsTotal}
 use Rattle.routing.specs.TableCheck.{faultyPart, tableOk}
+use Rattle.words.specs.Forms.{TileBits}
 use Rattle.codec.specs.Bits.{bitCount, bitAt}
 use Rattle.config.specs.Blocks.{bitsAt, faultPlace, bitlessTile, tilesOf}
 use Rattle.config.specs.declared.BitCount.{BitCount}
 use Rattle.config.specs.declared.BitCount.the-variants as counted
 
--- "Lengths: bits 108 [..], each times W·H; those of table, settings [..] stand in docs/": the lengths lent
+-- "the exact length is 16 numbers a tile" (document 02, W7); "those of table, settings [..] stand in docs/": the lengths lent
 abbrev pub lengthsOk : Size → (table bits settings : ℕ) → Bool
 lengthsOk S table bits settings = eqb table tableLength && (eqb bits (bitsLength S) && eqb settings (settingsTotal S))
 
--- reading: the settings are an output, of which the answer knows the length alone
-unfoldable pub readAnswer : Size → List ℕ → List ℕ → ℕ → Answer
-readAnswer S table bits settings =
+-- reading, of tiles in either form; `lengths` says whether the lent lengths are right
+abbrev pub readAnswerOf : Size → List ℕ → Bool → (ℕ → TileBits) → Answer
+readAnswerOf S table lengths tile =
     unless (allowed S) (Refused WrongSize)
-    (unless (lengthsOk S (length table) (length bits) settings) (Refused WrongLength)
+    (unless lengths (Refused WrongLength)
     (unless (tableOk logicTile table) (Refused (Table (faultyPart logicTile table)))
-    (unless (leb (logicTile .positions * tileCount S) (faultPlace table (tilesOf bits) (tileCount S)))
-    (Refused (Undecodable (faultPlace table (tilesOf bits) (tileCount S))))
+    (unless (leb (logicTile .positions * tileCount S) (faultPlace table tile (tileCount S)))
+    (Refused (Undecodable (faultPlace table tile (tileCount S))))
     Done)))
+
+-- reading words: the settings are an output, of which the answer knows the length alone
+unfoldable pub readAnswer : Size → List ℕ → List ℕ → ℕ → Answer
+readAnswer S table bits settings = readAnswerOf S table (lengthsOk S (length table) (length bits) settings) (tilesOf bits)
 
 -- writing: the bits are an output
 unfoldable pub writeAnswer : Size → List ℕ → List ℕ → ℕ → Answer

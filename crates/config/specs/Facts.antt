@@ -9,11 +9,11 @@ use Rattle.ports.specs.Block.{Allowed, tileCount}
 use Rattle.routing.specs.LogicTile.{logicTile}
 use Rattle.ports.specs.Lengths.{tableLength, bitsLength, settingsTotal}
 use Rattle.routing.specs.Rules.{TableRules, FirstBroken}
-use Rattle.codec.specs.Bits.{TileBits}
+use Rattle.words.specs.Forms.{TileBits}
 use Rattle.codec.specs.Reading.{Faulty, Decodable, ReadsTo, HasBits}
 use Rattle.config.specs.Blocks.{settingsAt}
 
--- "Lengths: bits 108 [..], each times W·H; those of table, settings [..] stand in docs/": the exact lengths
+-- "the exact length is 16 numbers a tile" (document 02, W7); "those of table, settings [..] stand in docs/": the exact lengths
 pub record ExactLengths (S : Size) (table bits settings : ℕ) : Type 0 where
   pub table-long : table ≡ tableLength
   pub bits-long : bits ≡ bitsLength S

@@ -18,7 +18,7 @@ use routing::table::POSITIONS;
 // The lowest position at fault of the lowest tile that cannot be decoded, as 864 times the tile plus the position, with cleared settings; where all n can,
 // 864n with their settings. A position at fault is looked for in one tile only, and after a no of it.
 // Rules out: a place that names the tile alone; another place for building than for reading, for both call this.
-pub fn read_block(table: &[u16], own: &[u16], bits: &[u8], settings: &mut [u16], n: usize) -> usize
+pub fn read_block(table: &[u16], own: &[u16], bits: &[u64], settings: &mut [u16], n: usize) -> usize
     requires { ⌜ (n ≤ 64) × TableRules logicTile (now table) × TableOwned logicTile (now table) (slotCount logicTile) (now own) ×
         (length (now bits) ≡ tileNumbers * n) × (length (now settings) ≡ settingsLength * n) ⌝ }
     ensures place { λ r. ⌜ r ≡ faultPlace (now (table .entry)) (tilesOf (now (bits .entry))) n ⌝ }
@@ -42,7 +42,7 @@ pub fn read_block(table: &[u16], own: &[u16], bits: &[u8], settings: &mut [u16],
 }
 
 // The settings of n tiles that can be decoded.
-pub fn decode_block(table: &[u16], bits: &[u8], settings: &mut [u16], n: usize)
+pub fn decode_block(table: &[u16], bits: &[u64], settings: &mut [u16], n: usize)
     requires { ⌜ (n ≤ 64) × TableRules logicTile (now table) × (length (now bits) ≡ tileNumbers * n) ×
         (length (now settings) ≡ settingsLength * n) ⌝ }
     ensures { λ r. ⌜ now (settings .exit) ≡ decoded (now (table .entry)) (tilesOf (now (bits .entry))) n ⌝ }
@@ -77,7 +77,7 @@ pub fn bitless_tile(table: &[u16], settings: &[u16], n: usize) -> usize
 }
 
 // The bits of n tiles whose settings some bits have.
-pub fn encode_block(table: &[u16], settings: &[u16], bits: &mut [u8], n: usize)
+pub fn encode_block(table: &[u16], settings: &[u16], bits: &mut [u64], n: usize)
     requires { ⌜ (n ≤ 64) × TableRules logicTile (now table) × (length (now settings) ≡ settingsLength * n) ×
         (length (now bits) ≡ tileNumbers * n) × ((t : ℕ) → t < n → settingsFit (now table) (settingsAt (now settings) t) ≡ true) ⌝ }
     ensures { λ r. ⌜ now (bits .exit) ≡ encoded (now (table .entry)) (now (settings .entry)) n ⌝ }

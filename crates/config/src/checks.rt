@@ -29,7 +29,13 @@ fn lengths_ok(s: Size, table: usize, bits: usize, settings: usize) -> bool
 }
 
 // On a yes the front of the room, as long as the output, holds the settings.
-pub fn read_checks(s: Size, table: &[u16], bits: &[u8], settings: usize, room: &mut [u16]) -> Answer
+pub fn read_checks(
+    s: Size,
+    table: &[u16],
+    bits: &[u64],
+    settings: usize,
+    room: &mut [u16],
+) -> Answer
     requires { ⌜ length (now room) ≡ roomLength ⌝ }
     ensures answer { λ r. ⌜ r ≡ readAnswer s (now (table .entry)) (now (bits .entry)) settings ⌝ }
     ensures room { λ r. ⌜ (r ≡ Done → take settings (now (room .exit)) ≡ decoded (now (table .entry)) (tilesOf (now (bits .entry))) (tileCount s)) ⌝ }

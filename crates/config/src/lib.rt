@@ -31,7 +31,7 @@ pub enum BitCount {
 
 // Reads a block's bits to its settings. Grounds 1 to 4, in this order (`readAnswer`).
 // Rules out: refusing every block; settings written on a no; the same settings for all bits.
-pub fn read(s: Size, table: &[u16], bits: &[u8], settings: &mut [u16]) -> Answer
+pub fn read(s: Size, table: &[u16], bits: &[u64], settings: &mut [u16]) -> Answer
     ensures answer { λ r. ⌜ r ≡ readAnswer s (now (table .entry)) (now (bits .entry)) (length (now (settings .entry))) ⌝ }
     ensures settings { λ r. ⌜ now (settings .exit) ≡ output (answerNumber r) (now (settings .entry))
         (decoded (now (table .entry)) (tilesOf (now (bits .entry))) (tileCount s)) ⌝ }
@@ -49,7 +49,7 @@ pub fn read(s: Size, table: &[u16], bits: &[u8], settings: &mut [u16]) -> Answer
 
 // Writes a block's settings as bits. Grounds 1, 2, 3, 9, in this order (`writeAnswer`).
 // Rules out: writing nothing; bits of settings that no bits have; bits written on a no.
-pub fn write(s: Size, table: &[u16], settings: &[u16], bits: &mut [u8]) -> Answer
+pub fn write(s: Size, table: &[u16], settings: &[u16], bits: &mut [u64]) -> Answer
     ensures answer { λ r. ⌜ r ≡ writeAnswer s (now (table .entry)) (now (settings .entry)) (length (now (bits .entry))) ⌝ }
     ensures bits { λ r. ⌜ now (bits .exit) ≡ output (answerNumber r) (now (bits .entry))
         (encoded (now (table .entry)) (now (settings .entry)) (tileCount s)) ⌝ }
@@ -65,8 +65,8 @@ pub fn write(s: Size, table: &[u16], settings: &[u16], bits: &mut [u8]) -> Answe
 }
 
 // How many of a tile's bits are set. Grounds 1, 2, 20, in this order (`bitCountAnswer`). It takes no table and counts undecodable tiles too.
-// Rules out: counting the whole block; counting bytes.
-pub fn bit_count(s: Size, bits: &[u8], tile: u32) -> BitCount
+// Rules out: counting the whole block; counting what is past a row's columns.
+pub fn bit_count(s: Size, bits: &[u64], tile: u32) -> BitCount
     ensures { λ r. ⌜ r ≡ bitCountAnswer s (now (bits .entry)) tile ⌝ }
 {
     if !is_allowed(s) {

@@ -101,5 +101,8 @@ returns-4 c =
     let counted = c .count-bits .ensures ∙ ap (λ (x : ℕ). bitCount (bitAt (take x (drop (tileNumbers * tile) bits)))) (part-size tileNumbers tile) in
     ap Set counted ∙ count-set (args .s) (args .bits .now) (args .tile) size (at-if2 .if2 .left ∙ at-if2 .before .bits-length .ensures) (at-if3 .if3 .left)
 
+mul-count-bits : tie.Need-mul-count-bits
+mul-count-bits c = search needs
+
 pub bit-count-spec : {M : Type 1} → statement M
-bit-count-spec = tie.close (tie.spec is-allowed-requires returns mul-n cast-n bits-length-requires returns-2 returns-3 mul-from add-to sub-count-bits part-count-bits-start part-count-bits-end count-bits-requires returns-4)
+bit-count-spec = tie.close (tie.spec is-allowed-requires returns mul-n cast-n bits-length-requires returns-2 returns-3 mul-from add-to mul-count-bits sub-count-bits part-count-bits-start part-count-bits-end count-bits-requires returns-4)

@@ -108,6 +108,9 @@ returns c =
     let settings = at-loop .loop .settings in
     joined-end (decodedAt table (tilesOf bits)) t _ (settingsLength * t) settings (at-loop .loop .inv .2) (omega arith) (omega arith)
 
+mul-decode-tile-2 : tie.Need-mul-decode-tile-2 Inv-loop μ-loop
+mul-decode-tile-2 c = search needs
+
 pub decode-block-spec : {M : Type 1} → statement M
 decode-block-spec =
     tie.close
@@ -119,10 +122,11 @@ decode-block-spec =
     add-to
     mul-start
     add-end
+    mul-decode-tile
     sub-decode-tile
     part-decode-tile-start
     part-decode-tile-end
-    mul-decode-tile
+    mul-decode-tile-2
     sub-decode-tile-2
     part-decode-tile-start-2
     part-decode-tile-end-2

@@ -107,6 +107,9 @@ returns c =
     let bits = at-loop .loop .bits in
     joined-end (encodedAt table settings) t _ (tileNumbers * t) bits (at-loop .loop .inv .2) (omega arith) (omega arith)
 
+mul-encode-tile-2 : tie.Need-mul-encode-tile-2 Inv-loop μ-loop
+mul-encode-tile-2 c = search needs
+
 pub encode-block-spec : {M : Type 1} → statement M
 encode-block-spec =
     tie.close
@@ -122,6 +125,7 @@ encode-block-spec =
     sub-encode-tile
     part-encode-tile-start
     part-encode-tile-end
+    mul-encode-tile-2
     sub-encode-tile-2
     part-encode-tile-start-2
     part-encode-tile-end-2

@@ -157,6 +157,9 @@ returns-2 c =
     let same : t ≡ args .n = omega arith in
     (ap (λ (x : ℕ). logicTile .positions * x) same ∙ decodable-no-fault (args .table .now) (args .bits .now) (at-start .pre .1) (args .n) (λ s l. at-loop .loop .inv .1 s (omega arith)), (λ e. joined-end (decodedAt (args .table .now) (tilesOf (args .bits .now))) t _ (settingsLength * t) (at-loop .loop .settings) (at-loop .loop .inv .3) same (omega arith), λ l. absurd (omega arith)))
 
+mul-read-tile-2 : tie.Need-mul-read-tile-2 Inv-loop μ-loop
+mul-read-tile-2 c = search needs
+
 pub read-block-spec : {M : Type 1} → statement M
 read-block-spec =
     tie.close
@@ -168,10 +171,11 @@ read-block-spec =
     add-to
     mul-start
     add-end
+    mul-read-tile
     sub-read-tile
     part-read-tile-start
     part-read-tile-end
-    mul-read-tile
+    mul-read-tile-2
     sub-read-tile-2
     part-read-tile-start-2
     part-read-tile-end-2

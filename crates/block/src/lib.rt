@@ -44,7 +44,7 @@ pub enum Followed {
 pub fn build(
     b: Block,
     table: &[u16],
-    bits: &[u8],
+    bits: &[u64],
     list: &mut [u16],
     settings: &mut [u16],
     wires: &mut [u16],

@@ -1,4 +1,4 @@
--- Nothing is listed exactly if the bits are equal. Main law: `empty-exact`. Assumes that both blocks are bytes (`Bytes`), as those of a `&[u8]` are.
+-- Nothing is listed exactly if the bits are equal. Main law: `empty-exact`. Assumes nothing.
 use Prim.Native.Nat.{ℕ, _+_, _-_, _*_, _/_, _%_, _<_, _≤_}
 use mathlib.Core.Path.{_≡_, refl, sym, ap, subst, _∙_}
 use mathlib.Core.Bool.{true, false, not}
@@ -19,7 +19,7 @@ use Rattle.ports.specs.Lengths.{settingsLength}
 use Rattle.cell.specs.Settings.{flagsOf}
 use Rattle.cell.proofs.SettingsLaws.{flags-of-cell}
 use Rattle.routing.specs.LogicTile.{logicTile}
-use Rattle.codec.specs.Bits.{Bytes, bitAt}
+use Rattle.codec.specs.Bits.{bitAt}
 use Rattle.codec.specs.Settings.{groupsFrom, cellsFrom, cellTable, cellFlags}
 use Rattle.codec.specs.Cells.{cellNumber, cellSetting}
 use Rattle.codec.specs.Reading.{ReadsTo}
@@ -111,7 +111,7 @@ unfolding blockDiffers differAt
 same-no-rows settings n = count-none (blockDiffers settings settings) (placesPerTile * n) (λ x l.
     let v = valueAt (settingsAt settings (x / placesPerTile)) (x % placesPerTile) in ap not (eq-eqb v v refl))
 
-module _ (S : Size) (table first second : List ℕ) (room : ℕ) (by : Bytes first) (by' : Bytes second) (done : readAnswer S table first room ≡ Done)
+module _ (S : Size) (table first second : List ℕ) (room : ℕ) (done : readAnswer S table first room ≡ Done)
     (done' : readAnswer S table second room ≡ Done) where
   abbrev old : List ℕ
   old = decoded table (tilesOf first) (tileCount S)
@@ -132,7 +132,7 @@ module _ (S : Size) (table first second : List ℕ) (room : ℕ) (by : Bytes fir
   pub empty-exact : (differenceCount (decoded table (tilesOf first) (tileCount S)) (decoded table (tilesOf second) (tileCount S)) (tileCount S) ≡ 0)
       ↔ (first ≡ second)
   empty-exact = (
-    (λ e. sym (read-writes S table first room by done .1) ∙ ap (λ (s : List ℕ). encoded table s (tileCount S)) (settings-same e)
-        ∙ read-writes S table second room by' done' .1),
+    (λ e. sym (read-writes S table first room done .1) ∙ ap (λ (s : List ℕ). encoded table s (tileCount S)) (settings-same e)
+        ∙ read-writes S table second room done' .1),
     λ e. subst (λ (x : List ℕ). differenceCount old (decoded table (tilesOf x) (tileCount S)) (tileCount S) ≡ 0) e (same-no-rows old (tileCount S)),
   )

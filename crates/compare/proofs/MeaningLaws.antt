@@ -1,5 +1,4 @@
--- Every answer of `compare` says what specs/Meaning.antt has it say. Main law: `compare-says`. Assumes that both blocks are bytes (`Bytes`), as those of a
--- `&[u8]` are.
+-- Every answer of `compare` says what specs/Meaning.antt has it say. Main law: `compare-says`. Assumes nothing.
 use Prim.Native.Nat.{ℕ, _*_, _<_, _≤_}
 use mathlib.Core.Path.{_≡_, refl, sym, subst, _∙_}
 use mathlib.Core.Logic.{_↔_}
@@ -25,7 +24,6 @@ use Rattle.routing.specs.LogicTile.{logicTile}
 use Rattle.routing.specs.Rules.{TableRules}
 use Rattle.routing.specs.TableCheck.{tableOk}
 use Rattle.routing.proofs.TableCheckLaws.{table-exact, table-broken}
-use Rattle.codec.specs.Bits.{Bytes}
 use Rattle.config.specs.Blocks.{faultPlace, decoded, tilesOf}
 use Rattle.config.specs.Entry.{readAnswer}
 use Rattle.config.specs.Facts.{TilesRead}
@@ -44,7 +42,7 @@ use Rattle.compare.proofs.LengthLaws.{same-size-exact, compare-long-exa
 use Rattle.compare.proofs.DifferenceLaws.{differences-listed}
 use Rattle.compare.proofs.EmptyLaws.{empty-exact}
 
-module _ (A B : Size) (table first second before after : List ℕ) (by : Bytes first) (by' : Bytes second) (list : List ℕ) where
+module _ (A B : Size) (table first second before after : List ℕ) (list : List ℕ) where
   abbrev lent : CompareLent
   lent = compareLent table first second before after
 
@@ -110,7 +108,7 @@ module _ (A B : Size) (table first second before after : List ℕ) (by : Bytes f
             new = new;
             both-read = read;
             listed = listed (length list) (leb-true _ _ e);
-            empty = empty-exact A table first second (settingsTotal A) by by' first-done second-done;
+            empty = empty-exact A table first second (settingsTotal A) first-done second-done;
           })
 
   -- ---- grounds 3 and 4

@@ -80,7 +80,7 @@ abbrev pub chosen : Side → (first second : List ℕ) → List ℕ
 chosen First first second = first
 chosen Second first second = second
 
--- "it hands back that tile's bytes [..] as a part of the caller's own bytes, empty on a no"
+-- "it hands back that tile's bytes [..] as a part of the caller's own bytes, empty on a no"; W7: "the comparing tool hands back a part of those numbers"
 abbrev pub partOf : Answer → Side → (first second : List ℕ) → ℕ → List ℕ
 partOf answer.Done side first second tile = bitsAt (chosen side first second) tile
 partOf (answer.Refused refusal) side first second tile = []

@@ -75,8 +75,8 @@ fn list_settings(before: &[u16], after: &[u16], n: usize, list: &mut [u32]) -> C
 pub fn compare_bits(
     s: Size,
     table: &[u16],
-    first: &[u8],
-    second: &[u8],
+    first: &[u64],
+    second: &[u64],
     list: &mut [u32],
     before: &mut [u16],
     after: &mut [u16],

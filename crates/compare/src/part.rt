@@ -39,16 +39,16 @@ pub fn part_answer(a: Size, b: Size, first: usize, second: usize, tile: u32) -> 
     Answer::Done
 }
 
-// The tile's bits as a part of the block asked for, whether they can be decoded or not; empty on a no, whose ground is `part_answer`'s.
+// The tile's sixteen numbers as a part of the block asked for, whether they can be decoded or not; empty on a no, whose ground is `part_answer`'s.
 // Rules out: the part of the other block; a part of a no.
 pub fn tile_part<'a>(
     a: Size,
     b: Size,
-    first: &'a [u8],
-    second: &'a [u8],
+    first: &'a [u64],
+    second: &'a [u64],
     side: Side,
     tile: u32,
-) -> &'a [u8]
+) -> &'a [u64]
     ensures { λ r. ⌜ now r ≡ partOf (partAnswer a b (length (now (first .entry))) (length (now (second .entry))) tile) side
         (now (first .entry)) (now (second .entry)) tile ⌝ }
 {

@@ -32,7 +32,7 @@ pub enum ContentionList {
 pub fn contentions(
     b: Block,
     table: &[u16],
-    bits: &[u8],
+    bits: &[u64],
     list: &mut [u16],
     settings: &mut [u16],
     wires: &mut [u16],

@@ -49,7 +49,7 @@ fn list_settings(
 pub fn list_bits(
     b: Block,
     table: &[u16],
-    bits: &[u8],
+    bits: &[u64],
     list: &mut [u16],
     settings: &mut [u16],
     wires: &mut [u16],

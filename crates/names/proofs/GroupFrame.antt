@@ -10,7 +10,8 @@ use Rattle.digits.specs.Digits.{digit, setDigit}
 use Rattle.routing.specs.LogicTile.{logicTile}
 use Rattle.routing.specs.Table.{positionAt, patternAt, sourceAt}
 use Rattle.ports.specs.Lengths.{tileNumbers}
-use Rattle.codec.specs.Bits.{bitAt, bitIn, setBits, setBitIn}
+use Rattle.words.specs.Packed.{bitIn}
+use Rattle.codec.specs.Bits.{bitAt, setBits, setBitIn}
 use Rattle.names.specs.NamedGroup.{HasGroup, HasPattern, patterns, sources, localG00}
 use Rattle.names.proofs.Agreeing.{agree-below}
 

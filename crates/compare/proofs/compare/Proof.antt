@@ -32,8 +32,7 @@ returns c =
     let after = at-start .args .after .now in
     let answer = compare-first-size A B table first second _ (length list) (sym (at-is-allowed .is-allowed .ensures) ∙ not-true _ (c .if1 .taken)) in
     let says =
-    compare-says A B table first second before after (λ i. omega (arith, at-first .shared-slice-known2 .given i))
-    (λ i. omega (arith, at-second .shared-slice-known3 .given i)) list _ answer _ in
+    compare-says A B table first second before after list _ answer _ in
     (answer, (refl, (refl, (refl, says refl))))
 
 is-allowed-requires-2 : tie.Need-is-allowed-requires-2
@@ -59,8 +58,7 @@ returns-2 c =
     let one = sym (at-is-allowed .is-allowed .ensures) ∙ not-false _ (at-if1 .if1 .left) in
     let answer = compare-second-size A B table first second _ (length list) one (sym (at-is-allowed2 .is-allowed2 .ensures) ∙ not-true _ (c .if2 .taken)) in
     let says =
-    compare-says A B table first second before after (λ i. omega (arith, at-first .shared-slice-known2 .given i))
-    (λ i. omega (arith, at-second .shared-slice-known3 .given i)) list _ answer _ in
+    compare-says A B table first second before after list _ answer _ in
     (answer, (refl, (refl, (refl, says refl))))
 
 is-same-size-requires : tie.Need-is-same-size-requires
@@ -109,8 +107,7 @@ returns-3 c =
     let other = sym (at-is-allowed2 .is-allowed2 .ensures) ∙ not-false _ (at-if2 .if2 .left) in
     let answer = compare-differ A B table first second _ (length list) one other (sym (at-is-same-size .is-same-size .ensures) ∙ not-true _ (at-if3 .if3 .taken)) in
     let says =
-    compare-says A B table first second before after (λ i. omega (arith, at-first .shared-slice-known2 .given i))
-    (λ i. omega (arith, at-second .shared-slice-known3 .given i)) list _ answer _ in
+    compare-says A B table first second before after list _ answer _ in
     (answer, (refl, (at-clear .clear .ensures, (at-clear2 .clear2 .ensures, says refl))))
 
 is-compare-exact-requires : tie.Need-is-compare-exact-requires
@@ -161,8 +158,7 @@ returns-4 c =
     let answer =
     compare-length A B table first second _ (length list) one other same (sym (at-is-compare-exact .is-compare-exact .ensures) ∙ not-true _ (c .if4 .taken)) in
     let says =
-    compare-says A B table first second before after (λ i. omega (arith, at-first .shared-slice-known2 .given i))
-    (λ i. omega (arith, at-second .shared-slice-known3 .given i)) list _ answer _ in
+    compare-says A B table first second before after list _ answer _ in
     (answer, (refl, (refl, (refl, says refl))))
 
 compare-bits-requires : tie.Need-compare-bits-requires
@@ -251,8 +247,7 @@ returns-5 c =
     let answer = told ∙ compare-bits A B table first second _ (length list) one other same exact in
     let cleared = compare-cleared A table first second (length list) _ told in
     let says =
-    compare-says A B table first second before after (λ i. omega (arith, at-first .shared-slice-known2 .given i))
-    (λ i. omega (arith, at-second .shared-slice-known3 .given i)) list _ answer _ in (
+    compare-says A B table first second before after list _ answer _ in (
       answer,
       (
         at-compare-bits .compare-bits .ensures .1,

@@ -43,6 +43,9 @@ add-to c = search needs
 enum-told-3 : tie.Need-enum-told-3
 enum-told-3 c = search needs
 
+mul-result : tie.Need-mul-result
+mul-result c = search needs
+
 sub-result-2 : tie.Need-sub-result-2
 sub-result-2 c = search needs
 
@@ -73,6 +76,9 @@ returns-2 c =
 
 enum-told-4 : tie.Need-enum-told-4
 enum-told-4 c = search needs
+
+mul-result-2 : tie.Need-mul-result-2
+mul-result-2 c = search needs
 
 sub-result-3 : tie.Need-sub-result-3
 sub-result-3 c = search needs
@@ -116,11 +122,13 @@ tile-part-spec =
     mul-from
     add-to
     enum-told-3
+    mul-result
     sub-result-2
     part-result-start-2
     part-result-end-2
     returns-2
     enum-told-4
+    mul-result-2
     sub-result-3
     part-result-start-3
     part-result-end-3

@@ -21,5 +21,5 @@ wordsAnswer S bytes words = unless (allowed S) (Refused WrongSize) (unless (eqb 
 unfoldable pub bytesAnswer : Size → List ℕ → ℕ → Answer
 bytesAnswer S words bytes =
     unless (allowed S) (Refused WrongSize)
-    (unless (eqb (length words) (bitsLength S) && eqb bytes (bytesLength S)) (Refused WrongLength)
+    (unless (eqb bytes (bytesLength S) && eqb (length words) (bitsLength S)) (Refused WrongLength)
     (unless (eqb (firstStray words) (length words)) (Refused (Undecodable (strayPlace (firstStray words)))) Done))

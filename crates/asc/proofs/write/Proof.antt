@@ -89,7 +89,7 @@ returns-4 c =
     let at-if3 = at-first-stray .before in
     let at-start = begun at-if3 in
     write-told (own at-start) (at-start .args .bits .now) (at-start .args .text .now) (at-start .args .text .now) (Refused (Undecodable (c .stray-place .result)))
-    (write-stray (own at-start) (at-start .args .bits .now) (at-start .args .text .now) (lent at-if3) (at-first-stray .first-stray .result) (at-first-stray .first-stray .ensures) (c .stray-place .result) (at-if4 .if4 .taken) (c .stray-place .ensures))
+    (write-stray (own at-start) (at-start .args .bits .now) (at-start .args .text .now) (lent at-if3) (at-first-stray .first-stray .result) (at-first-stray .first-stray .ensures) (c .stray-place .result) (omega (arith, at-if4 .if4 .taken)) (c .stray-place .ensures))
 
 put-file-requires : tie.Need-put-file-requires
 put-file-requires c κs =

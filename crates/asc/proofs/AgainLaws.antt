@@ -1,4 +1,4 @@
--- A file that was read, and is written, reads the same. Main laws: `read-fits` (no bit of what is read is stray), `read-again`. Assumes nothing.
+-- A file that was read, and is written, reads the same. Main laws: `read-fits` (no bit of what is read is stray), `read-writes`, `read-again`. Assumes nothing.
 use Prim.Native.Nat.{ℕ, _*_}
 use mathlib.Core.Path.{_≡_, sym, ap, _∙_, subst}
 use mathlib.Core.List.{List}
@@ -10,11 +10,12 @@ use Rattle.refusal.specs.declared.Answer.the-variants.{Done}
 use Rattle.refusal.specs.Grounds.{answerNumber}
 use Rattle.refusal.specs.Memory.{output}
 use Rattle.asc.specs.Area.{Area, tilesOf}
-use Rattle.asc.specs.Content.{written}
+use Rattle.asc.specs.Content.{written, textLength}
 use Rattle.asc.specs.Meaning.{Lent, YesSays, AscSays}
-use Rattle.asc.specs.Answers.{readAnswer, bitsRead}
+use Rattle.asc.specs.Answers.{readAnswer, bitsRead, writeAnswer}
 use Rattle.asc.proofs.AnswerLaws.{answer-says}
 use Rattle.asc.proofs.ContentLaws.{rows-packed-fit, rows-packed-length}
+use Rattle.asc.proofs.WriteAnswerLaws.{write-yes}
 use Rattle.asc.proofs.RoundTrip.{read-written}
 
 module _ (a : Area) (s before : List ℕ) (done : readAnswer a s (length before) ≡ Done) where
@@ -27,6 +28,10 @@ module _ (a : Area) (s before : List ℕ) (done : readAnswer a s (length before)
 
   pub read-long : length (bitsRead a s) ≡ tileNumbers * tilesOf a
   read-long = ap length (yes .1 .bits-are) ∙ rows-packed-length (yes .1 .content) (tilesOf a)
+
+  -- so it can be written
+  pub read-writes : (text : List ℕ) → length text ≡ textLength a → writeAnswer a (bitsRead a s) (length text) ≡ Done
+  read-writes text e = write-yes a (bitsRead a s) text (record { right-size = yes .0 .right-size; bits-long = read-long; text-long = e }) read-fits
 
   -- written and read again
   pub read-again : (readAnswer a (written a (bitsRead a s)) (length before) ≡ Done) × (bitsRead a (written a (bitsRead a s)) ≡ bitsRead a s)

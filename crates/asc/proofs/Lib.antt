@@ -15,9 +15,9 @@ pub mod ExactLaws  -- asc-exact: what an answer says fits one answer only
 pub mod OutcomeLaws  -- outcome-says: what the lines of a text come to, computed, is so
 pub mod AnswerLaws  -- read-told: an answer that says so is the one that is computed
 pub mod StrayLaws  -- stray-exact, first-stray-exact: bits past a row's columns; lowest-stray-same
-pub mod WriteAnswerLaws  -- write-told: an answer of `write` that says so is the one that is computed; write-exact; write-passed
+pub mod WriteAnswerLaws  -- write-told: an answer of `write` that says so is the one that is computed; write-exact; write-passed, write-yes
 pub mod LengthLaws  -- tile-of: where tile t stands; tile-text-length, written-length; Counted with its start, turn and end
 pub mod WriteLaws  -- RowsPut, TilesPut with their start, turn and end: a file written piece by piece
 pub mod BackLaws  -- plain-tile, row-is, row-back: the lines of a written file, one by one
 pub mod RoundTrip  -- asc-back, read-written, write-read: a written file read back at its corner and size gives the same block
-pub mod AgainLaws  -- read-again: a file that was read, and is written, reads the same; read-fits
+pub mod AgainLaws  -- read-again: a file that was read, and is written, reads the same; read-fits, read-writes: what is read can be written

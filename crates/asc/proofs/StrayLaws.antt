@@ -6,13 +6,13 @@ use mathlib.Core.List.{List}
 use Prim.Native.Nat.{ℕ, zero, suc, _+_, _*_, _/_, _%_, _^_, _<_, _≤_}
 use native.Mathlib.Omega.{arith}
 use native.Mathlib.Nat.{zero-div, pow-suc, le-div-iff-mul-le}
-use borrow.Author.Tests.{eqb-true, eqb-false, le-leb, leb-true, leb-false}
+use borrow.Author.Tests.{eqb-true, eqb-false, le-leb, lt-leb, leb-true}
 use lib.Dec.{eqb}
 use lib.Pow.{pow-pos, shr-shr}
 use lib.ListN.{length, getD}
 use Rattle.lists.specs.Search.{allFrom}
 use Rattle.lists.proofs.CaseLaws.{cases, clash, lt-or-le}
-use Rattle.lists.proofs.SearchLaws.{first-le, first-true, first-before, first-none, all-at, all-not}
+use Rattle.lists.proofs.SearchLaws.{first-true, first-before, first-none, all-at, all-not}
 use Rattle.digits.specs.Digits.{digit}
 use Rattle.digits.proofs.DigitLaws.{digit-past, digits-same}
 use Rattle.ports.specs.Lengths.{rows, columns}
@@ -72,7 +72,10 @@ module _ (words : List ℕ) where
         is-place = omega (arith, split);
       }
 
-  -- words that fit have none
+  -- words that fit have none (the other way: `no-stray-fits` of `words`)
+  pub first-stray-none : FitsIn columns words → firstStray words ≡ length words
+  first-stray-none fits = first-none (pastColumns words) (length words) (λ k l. lt-leb (2 ^ columns) (getD words k 0) (fits k))
+
   pub fits-no-stray : FitsIn columns words → (i : ℕ) → Stray words i → ⊥
   fits-no-stray fits i s = let e = digit-past (getD words i 0) columns (s .column) (fits i) (s .beyond) in let f = s .set in absurd (omega arith)
 

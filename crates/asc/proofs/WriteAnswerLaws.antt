@@ -1,8 +1,8 @@
 -- The answer of `write` that specs/Answers.antt computes is the one that specs/WriteMeaning.antt means, and no other fits. Main laws: `write-says`, `write-exact`,
--- `write-told`; `write-passed`: what a yes leaves. Assumes nothing.
+-- `write-told`; `write-passed`: what a yes leaves, and `write-yes`: that it leaves nothing else. Assumes nothing.
 use Prim.Native.Nat.{ℕ, _*_, _<_, _≤_}
 use mathlib.Core.Path.{_≡_, refl, sym, ap, _∙_, subst}
-use mathlib.Core.Bool.{true, _&&_}
+use mathlib.Core.Bool.{_&&_}
 use mathlib.Core.List.{List}
 use native.Mathlib.Omega.{arith}
 use borrow.Author.Tests.{eqb-true, eqb-false, eq-eqb}
@@ -98,3 +98,7 @@ module _ (a : Area) (bits before : List ℕ) where
       let says : WriteSays a bits before (output 0 before file) Done =
       subst (λ (r : Answer). WriteSays a bits before (output (answerNumber r) before file) r) done write-says in
       (says .0, says .1)
+
+  -- and that is all it asks for
+  pub write-yes : WriteLent a (length bits) (length before) → FitsIn columns bits → writeAnswer a bits (length before) ≡ Done
+  write-yes lent fits = sym (write-told file Done (lent, fits, refl) .0)

@@ -2,8 +2,8 @@
 // tables or settings: a block is its bits.
 //
 // `read`, `text_length` and `write` take any input and none has a `requires`. specs/Stages.antt has what the lines of a file are, specs/Meaning.antt
-// what each answer of `read` says, specs/WriteMeaning.antt of `write`, proofs/ExactLaws.antt that it fits one answer only, proofs/RoundTrip.antt that a file
-// is read back.
+// what each answer of `read` says and specs/WriteMeaning.antt of `write`, proofs/ExactLaws.antt and proofs/WriteAnswerLaws.antt that it fits one answer
+// only, proofs/RoundTrip.antt that a file is read back.
 ghost use mathlib.Core.Path.{_≡_};
 ghost use Prim.Native.Nat.{_*_, _^_, _<_};
 ghost use mathlib.Core.Bool.{true};

@@ -116,6 +116,7 @@ COMPUTED = [
     ('texts/Lines.wordLength', [], ['texts/word-length-at', 'texts/word-at']),
     ('asc/Answers.readAnswer', ['asc/Meaning.AscSays'], ['asc/read-told', 'asc/asc-exact']),
     ('asc/Answers.bitsRead', ['asc/Meaning.AscSays'], ['asc/read-told', 'asc/asc-exact']),
+    ('asc/Answers.writeAnswer', ['asc/WriteMeaning.WriteSays'], ['asc/write-told', 'asc/write-exact']),
     # frames and the report
     ('frames/Input.parsed', ['frames/Meaning.ParsedSays'], ['frames/parsed-says', 'frames/parsed-exact']),
     ('frames/Contents.tableOf', ['frames/Whole.Holds'], ['frames/table-holds']),

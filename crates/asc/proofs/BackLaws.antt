@@ -1,6 +1,6 @@
--- The lines of a written file, one by one: no line feed inside, a row is a row, its digits are the bits. Main laws: `plain-tile`, `row-is`, `byte-back`.
+-- The lines of a written file, one by one: no line feed inside, a row is a row, its digits are the bits. Main laws: `plain-tile`, `row-is`, `row-back`.
 use Prim.Native.Nat.{ℕ, _+_, _*_, _/_, _%_, _^_, _<_, _≤_}
-use mathlib.Core.Path.{_≡_, refl, sym, ap, ap₂, _∙_}
+use mathlib.Core.Path.{_≡_, refl, sym, ap, _∙_}
 use mathlib.Core.List.{List, [], _∷_, _++_}
 use native.Mathlib.Omega.{arith}
 use native.Mathlib.Nat.{mod-lt}
@@ -8,14 +8,17 @@ use lib.ListN.{length, getD}
 use Rattle.lists.specs.Search.{allFrom}
 use Rattle.lists.proofs.TableLaws.{tabulate-length, tabulate-zero}
 use Rattle.digits.specs.Digits.{digit}
-use Rattle.digits.proofs.DigitLaws.{from-digits-ext, from-digits-all}
+use Rattle.digits.proofs.DigitLaws.{from-digits-ext}
+use Rattle.ports.specs.Lengths.{columns}
+use Rattle.words.specs.Packed.{bitIn, numberFrom}
+use Rattle.words.proofs.PackedLaws.{bit-in-lt, number-is}
 use Rattle.texts.specs.Decimal.{decimal}
 use Rattle.texts.specs.Lines.{Plain}
 use Rattle.texts.proofs.PlainLaws.{plain-append, plain-check}
 use Rattle.texts.proofs.DecimalLaws.{decimal-digits}
 use Rattle.asc.specs.Spelling.{deviceLine, tileWord, tileLine}
 use Rattle.asc.specs.Stages.{DigitRow}
-use Rattle.asc.specs.Content.{valueAt, byteOf, bitAt, rowDigits}
+use Rattle.asc.specs.Content.{valueAt, rowDigits}
 
 -- ---- no line feed inside a line
 
@@ -34,36 +37,29 @@ plain-tile X Y f g =
 
 -- ---- bits as digits
 
-bit-lt : (bits : List ℕ) (p : ℕ) → bitAt bits p < 2
-unfolding bitAt
-bit-lt bits p = mod-lt (getD bits (p / 8) 0 / 2 ^ (p % 8)) {m = 2} (omega arith)
+pub row-at : (word k : ℕ) → k < 54 → getD (rowDigits word) k 0 ≡ 48 + digit word k
+row-at word k l = tabulate-zero (λ c. 48 + digit word c) 0 54 k l
 
-pub row-at : (bits : List ℕ) (place k : ℕ) → k < 54 → getD (rowDigits bits place) k 0 ≡ 48 + bitAt bits (place + k)
-row-at bits place k l = tabulate-zero (λ c. 48 + bitAt bits (place + c)) 0 54 k l
+pub row-long : (word : ℕ) → length (rowDigits word) ≡ 54
+row-long word = tabulate-length (λ c. 48 + digit word c) 0 54
 
-pub row-long : (bits : List ℕ) (place : ℕ) → length (rowDigits bits place) ≡ 54
-row-long bits place = tabulate-length (λ c. 48 + bitAt bits (place + c)) 0 54
-
-pub row-is : (bits : List ℕ) (place : ℕ) → DigitRow (rowDigits bits place)
-row-is bits place = record {
-  long = row-long bits place;
-  digits = λ k l. let e = row-at bits place k l in let b = bit-lt bits (place + k) in (omega arith, omega arith);
+pub row-is : (word : ℕ) → DigitRow (rowDigits word)
+row-is word = record {
+  long = row-long word;
+  digits = λ k l. let e = row-at word k l in let b = mod-lt (word / 2 ^ k) {m = 2} (omega arith) in (omega arith, omega arith);
 }
 
-pub plain-row : (bits : List ℕ) (place : ℕ) → Plain (rowDigits bits place)
-plain-row bits place k l q = let e = row-at bits place k (let n = row-long bits place in omega arith) in omega arith
+pub plain-row : (word : ℕ) → Plain (rowDigits word)
+plain-row word k l q = let e = row-at word k (let n = row-long word in omega arith) in omega arith
 
--- the bytes of what is read are the block's
-pub byte-back : (bits c : List ℕ) (j : ℕ) → getD bits j 0 < 256 → ((q : ℕ) → q < 8 * j + 8 → getD c q 0 ≡ 48 + bitAt bits q) → getD bits j 0 ≡ byteOf c j
-unfolding byteOf bitAt
-byte-back bits c j b h =
-    sym (from-digits-all (getD bits j 0) 8 b)
-    ∙ from-digits-ext (digit (getD bits j 0)) (λ (k : ℕ). valueAt c (8 * j + k)) 8
+-- the rows of what is read are the block's
+pub row-back : (bits c : List ℕ) (i : ℕ) → getD bits i 0 < 2 ^ columns → ((q : ℕ) → q < 54 * i + 54 → getD c q 0 ≡ 48 + bitIn columns bits q)
+    → getD bits i 0 ≡ numberFrom columns (valueAt c) (i * columns)
+row-back bits c i b h =
+    sym (number-is columns (omega arith) bits i b)
+    ∙ from-digits-ext (λ (k : ℕ). bitIn columns bits (i * columns + k)) (λ (k : ℕ). valueAt c (i * columns + k)) columns
     (λ k l.
-    let e = h (8 * j + k) (omega arith) in
-    let u : (8 * j + k) / 8 ≡ j = omega arith in
-    let v : (8 * j + k) % 8 ≡ k = omega arith in
-    let w : digit (getD bits ((8 * j + k) / 8) 0) ((8 * j + k) % 8) ≡ digit (getD bits j 0) k = ap₂ (λ (x y : ℕ). digit (getD bits x 0) y) u v in
-    let m = mod-lt (getD bits j 0 / 2 ^ k) {m = 2} (omega arith) in
-    let n : (48 + digit (getD bits j 0) k) % 2 ≡ digit (getD bits j 0) k = omega arith in
-    sym (ap (λ (x : ℕ). x % 2) (e ∙ ap (λ (x : ℕ). 48 + x) w) ∙ n))
+    let e = h (i * columns + k) (omega arith) in
+    let m = bit-in-lt columns (omega arith) bits (i * columns + k) in
+    let n : (48 + bitIn columns bits (i * columns + k)) % 2 ≡ bitIn columns bits (i * columns + k) = omega arith in
+    sym (ap (λ (x : ℕ). x % 2) e ∙ n))

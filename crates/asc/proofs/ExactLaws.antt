@@ -13,7 +13,7 @@ use Rattle.refusal.specs.declared.Answer.{Answer}
 use Rattle.refusal.specs.declared.Answer.the-variants.{Done, Refused}
 use Rattle.asc.specs.Area.{Area, tilesOf, sized}
 use Rattle.asc.specs.Stages.{Stage, Turn, Begins, Whole}
-use Rattle.asc.specs.Content.{packed}
+use Rattle.asc.specs.Content.{rowsPacked}
 use Rattle.asc.specs.Meaning.{contentOf, lineNumber, StuckSays, AllSays, YesSays, Lent, ReadNo, by-size, by-length, by-line, AscSays}
 use Rattle.asc.proofs.AreaLaws.{Sized, sized-of}
 use Rattle.asc.proofs.BeginsLaws.{begins-same, begins-front}
@@ -96,7 +96,7 @@ module _ (a : Area) (s : List ℕ) (bits : ℕ) where
 
 pub asc-exact : (a : Area) (s before : List ℕ) (u v : List ℕ) (q r : Answer) → AscSays a s before u q → AscSays a s before v r → (q ≡ r) × (u ≡ v)
 asc-exact a s before u v Done Done x y =
-    (refl, x .1 .bits-are ∙ ap (λ (c : List ℕ). packed c (tilesOf a)) (all-same a (sized-of a (x .0 .right-size)) s (x .1 .all-says) (y .1 .all-says)) ∙ sym (y .1 .bits-are))
+    (refl, x .1 .bits-are ∙ ap (λ (c : List ℕ). rowsPacked c (tilesOf a)) (all-same a (sized-of a (x .0 .right-size)) s (x .1 .all-says) (y .1 .all-says)) ∙ sym (y .1 .bits-are))
 asc-exact a s before u v Done (Refused r) x y = yes-or-no a s (length before) (x .0) (x .1) (y .1)
 asc-exact a s before u v (Refused q) Done x y = yes-or-no a s (length before) (y .0) (y .1) (x .1)
 asc-exact a s before u v (Refused q) (Refused r) x y = (ap Refused (no-same a s (length before) (x .1) (y .1)), x .0 ∙ sym (y .0))

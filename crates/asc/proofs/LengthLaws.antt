@@ -5,16 +5,17 @@ use mathlib.Core.List.{List, [], _∷_}
 use native.Mathlib.Omega.{arith}
 use native.Mathlib.Nat.{mod-lt, div-lt-iff-lt-mul, div-add-mod'}
 use native.Mathlib.Numerals.{add-one}
-use lib.ListN.{length, length-append}
+use lib.ListN.{length, getD, length-append}
 use Rattle.lists.specs.Parts.{joined}
 use Rattle.lists.proofs.TableLaws.{tabulate-length}
 use Rattle.lists.proofs.PartLaws.{joined-length}
+use Rattle.digits.specs.Digits.{digit}
 use Rattle.texts.specs.Decimal.{decimal}
 use Rattle.texts.proofs.DecimalLaws.{decimal-length}
 use Rattle.texts.proofs.PutsLaws.{joined-long}
-use Rattle.asc.specs.Area.{positions, Area, tilesOf}
+use Rattle.asc.specs.Area.{Area, tilesOf}
 use Rattle.asc.specs.Spelling.{tileLine}
-use Rattle.asc.specs.Content.{bitAt, rowDigits, rowText, rowsLength, rowsText, headText, tileText, deviceText, written, textLength}
+use Rattle.asc.specs.Content.{rowDigits, rowText, rowsLength, rowsText, headText, tileText, deviceText, written, textLength}
 use Rattle.asc.proofs.AreaLaws.{Sized}
 use Rattle.asc.proofs.SpellingLaws.{tile-line-length}
 
@@ -39,15 +40,14 @@ tile-stands a z t l =
 
 -- ---- lengths
 
-pub row-text-length : (bits : List ℕ) (place : ℕ) → length (rowText bits place) ≡ 55
-row-text-length bits place =
-    length-append (rowDigits bits place) (10 ∷ []) ∙ ap (λ (n : ℕ). n + 1) (tabulate-length (λ c. 48 + bitAt bits (place + c)) 0 54)
+pub row-text-length : (word : ℕ) → length (rowText word) ≡ 55
+row-text-length word = length-append (rowDigits word) (10 ∷ []) ∙ ap (λ (n : ℕ). n + 1) (tabulate-length (λ c. 48 + digit word c) 0 54)
 
 abbrev pub rowAt : List ℕ → ℕ → ℕ → List ℕ
-rowAt bits t r = rowText bits (positions * t + 54 * r)
+rowAt bits t r = rowText (getD bits (16 * t + r) 0)
 
 pub rows-long : (bits : List ℕ) (t n : ℕ) → length (joined (λ r. rowAt bits t r) n) ≡ 55 * n
-rows-long bits t n = joined-length 55 (λ r. rowAt bits t r) n (λ r l. row-text-length bits (positions * t + 54 * r))
+rows-long bits t n = joined-length 55 (λ r. rowAt bits t r) n (λ r l. row-text-length (getD bits (16 * t + r) 0))
 
 pub rows-text-length : (bits : List ℕ) (t : ℕ) → length (rowsText bits t) ≡ rowsLength
 unfolding rowsText

@@ -7,7 +7,9 @@ use mathlib.Core.List.{List, _++_, append-assoc, append-nil}
 use native.Mathlib.Omega.{arith}
 use lib.ListN.{length, getD, set, length-set}
 use lib.Seq.{getD-set-same, getD-set-other}
-use Rattle.ports.specs.Lengths.{tileNumbers}
+use Rattle.ports.specs.Lengths.{columns, tileNumbers}
+use Rattle.words.specs.Packed.{bitIn, numberFrom, packed, FitsIn}
+use Rattle.words.proofs.PackedLaws.{bit-in-number}
 use Rattle.lists.specs.Tables.{zeros}
 use Rattle.lists.specs.Parts.{joined}
 use Rattle.lists.proofs.CaseLaws.{lt-or-le, eq-or-ne}
@@ -19,15 +21,15 @@ use Rattle.texts.proofs.PlacedLaws.{placed-length, placed-before, placed-inside
 use Rattle.asc.specs.Area.{positions, Area, tilesOf, sized}
 use Rattle.asc.specs.Spelling.{tileLine}
 use Rattle.asc.specs.Stages.{stage, Turn, the-device, a-tile, a-row, Begins, nothing, one-more, whole}
-use Rattle.asc.specs.Content.{byteOf, packed, bitAt, rowDigits, rowText, rowsText, headText, tileText, deviceText, written}
+use Rattle.asc.specs.Content.{valueAt, rowsPacked, rowDigits, rowText, rowsText, headText, tileText, deviceText, written}
 use Rattle.asc.specs.Answers.{readAnswer, bitsRead, writeAnswer}
 use Rattle.asc.specs.Meaning.{AscSays}
 use Rattle.asc.proofs.AreaLaws.{Sized, sized-of}
 use Rattle.asc.proofs.LengthLaws.{tile-of, rowAt}
-use Rattle.asc.proofs.ReadLaws.{write-passed}
+use Rattle.asc.proofs.WriteAnswerLaws.{write-passed}
 use Rattle.asc.proofs.ExactLaws.{asc-exact}
 use Rattle.asc.proofs.AnswerLaws.{read-told}
-use Rattle.asc.proofs.BackLaws.{byte-back, plain-device, plain-row, plain-tile, row-at, row-is, row-long}
+use Rattle.asc.proofs.BackLaws.{plain-device, plain-row, plain-tile, row-at, row-back, row-is, row-long}
 
 -- ---- reading what was written
 
@@ -41,7 +43,7 @@ record Read (a : Area) (bits front : List ℕ) (l place k : ℕ) : Type 0 where
   content-long : length c ≡ positions * tilesOf a
   marked : (i : ℕ) → i < k → getD g i 0 ≡ 1
   unmarked : (i : ℕ) → k ≤ i → getD g i 0 ≡ 0
-  digits : (q : ℕ) → q < place → getD c q 0 ≡ 48 + bitAt bits q
+  digits : (q : ℕ) → q < place → getD c q 0 ≡ 48 + bitIn columns bits q
 
 module _ (a : Area) (bits : List ℕ) where
   read-to : {f f' : List ℕ} {l l' p p' k : ℕ} → Read a bits f l p k → f ≡ f' → l ≡ l' → p ≡ p' → Read a bits f' l' p' k
@@ -61,27 +63,32 @@ module _ (a : Area) (bits : List ℕ) where
     digits = λ q l. absurd (omega arith);
   }
 
-  read-row : (f : List ℕ) (l p k : ℕ) → p + 54 ≤ positions * tilesOf a → Read a bits f (suc l) p k → Read a bits (f ++ rowText bits p) l (p + 54) k
-  read-row f l p k h r =
+  read-row : (f : List ℕ) (l i k : ℕ) → 54 * i + 54 ≤ positions * tilesOf a → Read a bits f (suc l) (54 * i) k
+      → Read a bits (f ++ rowText (getD bits i 0)) l (54 * i + 54) k
+  read-row f l i k h r =
+      let word : ℕ = getD bits i 0 in
       let room = r .content-long in
-      let in-room : p ≤ length (r .c) = omega arith in
-      let long = row-long bits p in
+      let in-room : 54 * i ≤ length (r .c) = omega arith in
+      let long = row-long word in
       record {
         n = suc (r .n);
         g = r .g;
-        c = placed p (rowDigits bits p) (r .c);
-        begins = one-more (r .begins) (plain-row bits p) (a-row (row-is bits p));
+        c = placed (54 * i) (rowDigits word) (r .c);
+        begins = one-more (r .begins) (plain-row word) (a-row (row-is word));
         given-long = r .given-long;
-        content-long = placed-length p (rowDigits bits p) (r .c) (omega arith) ∙ r .content-long;
+        content-long = placed-length (54 * i) (rowDigits word) (r .c) (omega arith) ∙ r .content-long;
         marked = r .marked;
         unmarked = r .unmarked;
         digits = λ q b.
-            ⊎-elim (λ (m : q < p). placed-before p (rowDigits bits p) (r .c) in-room q m ∙ r .digits q m)
-            (λ (m : p ≤ q).
-            let e : p + (q - p) ≡ q = omega arith in
-            subst (λ (x : ℕ). getD (placed p (rowDigits bits p) (r .c)) x 0 ≡ 48 + bitAt bits x) e
-            (placed-inside p (rowDigits bits p) (r .c) in-room (q - p) (omega arith) ∙ row-at bits p (q - p) (omega arith)))
-            (lt-or-le q p);
+            ⊎-elim (λ (m : q < 54 * i). placed-before (54 * i) (rowDigits word) (r .c) in-room q m ∙ r .digits q m)
+            (λ (m : 54 * i ≤ q).
+            let e : 54 * i + (q - 54 * i) ≡ q = omega arith in
+            let o : i * columns + (q - 54 * i) ≡ q = omega arith in
+            ap (λ (x : ℕ). getD (placed (54 * i) (rowDigits word) (r .c)) x 0) (sym e)
+            ∙ placed-inside (54 * i) (rowDigits word) (r .c) in-room (q - 54 * i) (omega arith)
+            ∙ row-at word (q - 54 * i) (omega arith)
+            ∙ ap (λ (x : ℕ). 48 + x) (sym (bit-in-number columns (omega arith) bits i (q - 54 * i) (omega arith)) ∙ ap (bitIn columns bits) o))
+            (lt-or-le q (54 * i));
       }
 
   read-rows : (f : List ℕ) (t k r : ℕ) → r ≤ 16 → t < tilesOf a → Read a bits f 16 (positions * t) k
@@ -91,8 +98,9 @@ module _ (a : Area) (bits : List ℕ) where
   read-rows f t k (suc r) b l i =
       let before = read-rows f t k r (omega arith) l i in
       let due : 16 - r ≡ suc (16 - suc r) = omega arith in
-      read-to (read-row (f ++ joined (λ i. rowAt bits t i) r) (16 - suc r) (positions * t + 54 * r) k (omega arith) (read-to before refl due refl))
-      (append-assoc f (joined (λ i. rowAt bits t i) r) (rowAt bits t r)) refl (let e : positions * t + 54 * r + 54 ≡ positions * t + 54 * suc r = omega arith in e)
+      let place : positions * t + 54 * r ≡ 54 * (16 * t + r) = omega arith in
+      read-to (read-row (f ++ joined (λ i. rowAt bits t i) r) (16 - suc r) (16 * t + r) k (omega arith) (read-to before refl due place))
+      (append-assoc f (joined (λ i. rowAt bits t i) r) (rowAt bits t r)) refl (let e : 54 * (16 * t + r) + 54 ≡ positions * t + 54 * suc r = omega arith in e)
 
   module _ (size : Sized a) where
     read-head : (f : List ℕ) (t : ℕ) → t < tilesOf a → Read a bits f 0 (positions * t) t → Read a bits (f ++ headText a t) 16 (positions * t) (suc t)
@@ -135,17 +143,18 @@ module _ (a : Area) (bits : List ℕ) where
     read-tiles (suc t) l = read-tile (deviceText ++ joined (tileText a bits) t) t (omega arith) (read-tiles t (omega arith))
 
 -- the block's bits, and a yes, are what reading the written file says
-module _ (a : Area) (bits before : List ℕ) (size : sized a ≡ true) (long : length bits ≡ tileNumbers * tilesOf a) (bytes : (i : ℕ) → getD bits i 0 < 256)
+module _ (a : Area) (bits before : List ℕ) (size : sized a ≡ true) (long : length bits ≡ tileNumbers * tilesOf a) (fits : FitsIn columns bits)
     (room : length before ≡ tileNumbers * tilesOf a) where
   pub written-says : AscSays a (written a bits) before bits Done
-  unfolding written packed
+  unfolding written rowsPacked packed
   written-says =
       let r = read-tiles a bits (sized-of a size) (tilesOf a) (omega arith) in (
         record { right-size = size; right-length = room },
         record {
           content = r .c;
           all-says = record { n = r .n; st = stage true false 0 (positions * tilesOf a) (r .g) (r .c); begins = r .begins; all-there = whole (r .marked); digits-are = refl };
-          bits-are = tabulate-is (byteOf (r .c)) 0 (tileNumbers * tilesOf a) bits long (λ j l. byte-back bits (r .c) j (bytes j) (λ q m. r .digits q (omega arith)));
+          bits-are = tabulate-is (λ (i : ℕ). numberFrom columns (valueAt (r .c)) (i * columns)) 0 (tileNumbers * tilesOf a) bits long
+              (λ i l. row-back bits (r .c) i (fits i) (λ q m. r .digits q (omega arith)));
         },
       )
 
@@ -158,8 +167,9 @@ module _ (a : Area) (bits before : List ℕ) (size : sized a ≡ true) (long : l
   read-written = let e = read-told a (written a bits) before bits Done written-says in (sym (e .0), sym (e .1 .0))
 
 -- Demand 2 over this route: where `write` says yes, `read` of what it wrote, at the same corner and size, says yes and gives the same bits.
-pub write-read : (a : Area) (bits text before : List ℕ) → writeAnswer a (length bits) (length text) ≡ Done → ((i : ℕ) → getD bits i 0 < 256)
-    → length before ≡ length bits → (r : Answer) (after : List ℕ) → AscSays a (written a bits) before after r → (r ≡ Done) × (after ≡ bits)
-write-read a bits text before w bytes room r after says =
-    let p = write-passed a (length bits) (length text) w in
-    asc-back a bits before (p .0) (p .1) bytes (room ∙ p .1) r after says
+pub write-read : (a : Area) (bits text before : List ℕ) → writeAnswer a bits (length text) ≡ Done → length before ≡ length bits → (r : Answer) (after : List ℕ)
+    → AscSays a (written a bits) before after r → (r ≡ Done) × (after ≡ bits)
+write-read a bits text before w room r after says =
+    let p = write-passed a bits text w in
+    let lent = p .0 in
+    asc-back a bits before (lent .right-size) (lent .bits-long) (p .1) (room ∙ lent .bits-long) r after says

@@ -4,10 +4,10 @@ use mathlib.Core.Path.{_≡_, refl, sym, _∙_, subst}
 use mathlib.Core.List.{List, [], _++_}
 use native.Mathlib.Omega.{arith}
 use native.Mathlib.Numerals.{add-one}
-use lib.ListN.{length}
+use lib.ListN.{length, getD}
 use Rattle.lists.specs.Parts.{joined}
 use Rattle.texts.proofs.PutsLaws.{Puts, puts-none, puts-more, puts-turn, puts-long, filled-whole, joined-grows}
-use Rattle.asc.specs.Area.{positions, Area, tilesOf}
+use Rattle.asc.specs.Area.{Area, tilesOf}
 use Rattle.asc.specs.Content.{rowsLength, rowsText, tileText, deviceText, written, textLength}
 use Rattle.asc.proofs.LengthLaws.{row-text-length, rowAt, rows-long, tiles-text-next, written-length, written-long}
 
@@ -34,7 +34,7 @@ module _ (bits : List ℕ) (t at : ℕ) (old : List ℕ) where
     rows-turn l last out' p =
         let h = i .room in
         let n = rows-next in
-        let q = row-text-length bits (positions * t + 54 * r) in
+        let q = row-text-length (getD bits (16 * t + r) 0) in
         record { upto = omega arith; room = h; put = puts-turn (λ i. rowAt bits t i) at r old next last out out' (i .put) p (omega arith) }
 
     pub rows-end : 16 ≤ r → Puts at (rowsText bits t) old next out

@@ -1,19 +1,22 @@
--- What `read`, `write` and `text_length` answer, computed. `read-told` (proofs/AnswerLaws.antt): of `read` it is what specs/Meaning.antt says.
+-- What `read`, `write` and `text_length` answer, computed. `read-told` (proofs/AnswerLaws.antt): of `read` it is what specs/Meaning.antt says. `write-told`
+-- (proofs/WriteAnswerLaws.antt): of `write` it is what specs/WriteMeaning.antt says.
 use Prim.Native.Nat.{ℕ, suc, _*_}
 use mathlib.Core.Bool.{cond, _&&_}
 use mathlib.Core.List.{List, [], _∷_, _++_}
 use lib.Dec.{eqb}
+use lib.ListN.{length}
 use Rattle.ports.specs.Lengths.{tileNumbers}
-use Rattle.refusal.specs.declared.Refusal.the-variants.{WrongSize, WrongLength, AscLine}
+use Rattle.refusal.specs.declared.Refusal.the-variants.{WrongSize, WrongLength, Undecodable, AscLine}
 use Rattle.refusal.specs.declared.Answer.{Answer}
 use Rattle.refusal.specs.declared.Answer.the-variants.{Done, Refused}
 use Rattle.refusal.specs.Grounds.{unless, numberOf, placeOf}
+use Rattle.words.specs.Stray.{firstStray, strayPlace}
 use Rattle.asc.specs.declared.TextLength.{TextLength}
 use Rattle.asc.specs.declared.TextLength.the-variants as text-length
 use Rattle.asc.specs.Area.{Area, tilesOf, sized}
 use Rattle.asc.specs.Stages.{Stage, begun}
 use Rattle.asc.specs.Next.{Next, goes, fault, nextOf, isWhole}
-use Rattle.asc.specs.Content.{packed, textLength}
+use Rattle.asc.specs.Content.{rowsPacked, textLength}
 use Rattle.asc.specs.Meaning.{contentOf, lineNumber}
 
 -- ---- reading: grounds 1, 2, 13, in this order
@@ -48,7 +51,7 @@ outcomeAnswer (complete content) = Done
 outcomeAnswer (stuck-after n) = Refused (AscLine (lineNumber n))
 
 abbrev pub outcomeBits : Area → Outcome → List ℕ
-outcomeBits a (complete content) = packed content (tilesOf a)
+outcomeBits a (complete content) = rowsPacked content (tilesOf a)
 outcomeBits a (stuck-after n) = []
 
 -- `bits` is the length of the lent bits
@@ -59,10 +62,13 @@ readAnswer a s bits = unless (sized a) (Refused WrongSize) (unless (eqb bits (ti
 unfoldable pub bitsRead : Area → List ℕ → List ℕ
 bitsRead a s = outcomeBits a (outcomeOf a s)
 
--- ---- writing: grounds 1 and 2, in this order
+-- ---- writing: grounds 1, 2, 4, in this order; `text` is the length of the room
 
-unfoldable pub writeAnswer : Area → ℕ → ℕ → Answer
-writeAnswer a bits text = unless (sized a) (Refused WrongSize) (unless (eqb bits (tileNumbers * tilesOf a) && eqb text (textLength a)) (Refused WrongLength) Done)
+unfoldable pub writeAnswer : Area → List ℕ → ℕ → Answer
+writeAnswer a bits text =
+    unless (sized a) (Refused WrongSize)
+    (unless (eqb (length bits) (tileNumbers * tilesOf a) && eqb text (textLength a)) (Refused WrongLength)
+    (unless (eqb (firstStray bits) (length bits)) (Refused (Undecodable (strayPlace (firstStray bits)))) Done))
 
 unfoldable pub lengthAnswer : Area → TextLength
 lengthAnswer a = unless (sized a) (text-length.Refused WrongSize) (text-length.Bytes (textLength a))

@@ -1,15 +1,9 @@
--- The part of a chip that the caller names, and the numbers of a tile.
+-- The part of a chip that the caller names, and the positions of a tile.
 use Prim.Native.Nat.{ℕ, _+_, _*_}
 use mathlib.Core.Bool.{Bool, _&&_}
 use lib.Dec.{leb}
 use Rattle.ports.specs.declared.size.Size.{Size}
-
--- "sixteen rows of 54 digits"
-abbrev pub rows : ℕ
-rows = 16
-
-abbrev pub columns : ℕ
-columns = 54
+use Rattle.ports.specs.Lengths.{rows, columns}
 
 -- document 01: "A tile has 16 rows of 54 bits", and as many positions, 54r + c
 abbrev pub positions : ℕ

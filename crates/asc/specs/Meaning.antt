@@ -15,7 +15,7 @@ use Rattle.asc.specs.declared.scan.Scanned.{Scanned}
 use Rattle.asc.specs.declared.scan.Scanned.the-variants.{AllThere, StuckAt}
 use Rattle.asc.specs.Area.{Area, tilesOf, sized}
 use Rattle.asc.specs.Stages.{Stage, stage, Turn, Begins, Whole}
-use Rattle.asc.specs.Content.{packed}
+use Rattle.asc.specs.Content.{rowsPacked}
 
 -- the digits that have come
 abbrev pub contentOf : Stage → List ℕ
@@ -57,7 +57,7 @@ pub record AllSays (a : Area) (s content : List ℕ) : Type 0 where
 pub record YesSays (a : Area) (s bits : List ℕ) : Type 0 where
   pub content : List ℕ
   pub all-says : AllSays a s content
-  pub bits-are : bits ≡ packed content (tilesOf a)
+  pub bits-are : bits ≡ rowsPacked content (tilesOf a)
 
 -- what going through the lines of a text says, with the digits in a room: all is there, or so many lines are in order and no more
 abbrev pub ScanSays : Area → List ℕ → Scanned → List ℕ → Type 0

@@ -7,7 +7,7 @@ use lib.ListN.{length, drop, getD}
 use Rattle.lists.specs.Search.{allFrom}
 use Rattle.texts.specs.Decimal.{decimal, number}
 use Rattle.texts.specs.Lines.{same, wordLength, word}
-use Rattle.asc.specs.Area.{columns}
+use Rattle.ports.specs.Lengths.{columns}
 
 -- ".device" and ".device 1k"
 abbrev pub deviceWord : List ℕ

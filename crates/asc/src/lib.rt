@@ -2,7 +2,8 @@
 // tables or settings: a block is its bits.
 //
 // `read`, `text_length` and `write` take any input and none has a `requires`. specs/Stages.antt has what the lines of a file are, specs/Meaning.antt
-// what each answer of `read` says, proofs/ExactLaws.antt that it fits one answer only, proofs/RoundTrip.antt that a file is read back.
+// what each answer of `read` says and specs/WriteMeaning.antt of `write`, proofs/ExactLaws.antt and proofs/WriteAnswerLaws.antt that it fits one answer
+// only, proofs/RoundTrip.antt that a file is read back.
 ghost use mathlib.Core.Path.{_≡_};
 ghost use Prim.Native.Nat.{_*_, _^_, _<_};
 ghost use mathlib.Core.Bool.{true};
@@ -13,6 +14,7 @@ ghost use Rattle.refusal.specs.Memory.{output};
 ghost use Rattle.asc.specs.Area.{positions, area, areaAt, tilesOf, sized};
 ghost use Rattle.asc.specs.Content.{written};
 ghost use Rattle.asc.specs.Meaning.{AscSays, lineNumber};
+ghost use Rattle.asc.specs.WriteMeaning.{WriteSays};
 ghost use Rattle.asc.specs.Answers.{readAnswer, bitsRead, writeAnswer, lengthAnswer};
 use crate::area::POSITIONS;
 use crate::area::is_sized;
@@ -21,6 +23,8 @@ use ports::lengths::TILE_NUMBERS;
 use ports::size::Size;
 use refusal::Answer;
 use refusal::Refusal;
+use words::stray::first_stray;
+use words::stray::stray_place;
 
 mod area;
 mod bits;
@@ -54,7 +58,7 @@ fn read_into(
     x: u32,
     y: u32,
     text: &[u8],
-    bits: &mut [u8],
+    bits: &mut [u64],
     given: &mut [u8],
     content: &mut [u8],
 ) -> Answer
@@ -74,7 +78,7 @@ fn read_into(
 
 // Reads the bits of the block with its south-west corner at x, y from a file of any length. Grounds 1, 2, 13, in this order (`readAnswer`).
 // Rules out: refusing every file; bits written on a no; a second device, a tile given twice, a tile left out; a last line without its line feed.
-pub fn read(s: Size, x: u32, y: u32, text: &[u8], bits: &mut [u8]) -> Answer
+pub fn read(s: Size, x: u32, y: u32, text: &[u8], bits: &mut [u64]) -> Answer
     ensures answer { λ r. ⌜ r ≡ readAnswer (areaAt s x y) (now (text .entry)) (length (now (bits .entry))) ⌝ }
     ensures bits { λ r. ⌜ now (bits .exit) ≡ output (answerNumber r) (now (bits .entry)) (bitsRead (areaAt s x y) (now (text .entry))) ⌝ }
     ensures says { λ r. ⌜ AscSays (areaAt s x y) (now (text .entry)) (now (bits .entry)) (now (bits .exit)) r ⌝ }
@@ -115,11 +119,12 @@ pub fn text_length(s: Size, x: u32, y: u32) -> TextLength
     TextLength::Bytes(writing::file_length(w, h, x, y) as u32)
 }
 
-// Writes a block as a file, .device first, tiles by index. Grounds 1, 2, in this order (`writeAnswer`).
-// Rules out: a room that is longer than the file; a file written on a no.
-pub fn write(s: Size, x: u32, y: u32, bits: &[u8], text: &mut [u8]) -> Answer
-    ensures answer { λ r. ⌜ r ≡ writeAnswer (areaAt s x y) (length (now (bits .entry))) (length (now (text .entry))) ⌝ }
+// Writes a block as a file, .device first, tiles by index. Grounds 1, 2, 4, in this order (`writeAnswer`); 4 for a bit past a row's columns only.
+// Rules out: a room that is longer than the file; a file written on a no; a stray bit left out of the file in silence.
+pub fn write(s: Size, x: u32, y: u32, bits: &[u64], text: &mut [u8]) -> Answer
+    ensures answer { λ r. ⌜ r ≡ writeAnswer (areaAt s x y) (now (bits .entry)) (length (now (text .entry))) ⌝ }
     ensures text { λ r. ⌜ now (text .exit) ≡ output (answerNumber r) (now (text .entry)) (written (areaAt s x y) (now (bits .entry))) ⌝ }
+    ensures says { λ r. ⌜ WriteSays (areaAt s x y) (now (bits .entry)) (now (text .entry)) (now (text .exit)) r ⌝ }
 {
     let w = s.w;
     let h = s.h;
@@ -132,6 +137,10 @@ pub fn write(s: Size, x: u32, y: u32, bits: &[u8], text: &mut [u8]) -> Answer
     }
     if text.len() != writing::file_length(w, h, x, y) {
         return Answer::Refused(Refusal::WrongLength);
+    }
+    let stray = first_stray(bits);
+    if stray < bits.len() {
+        return Answer::Refused(Refusal::Undecodable(stray_place(stray)));
     }
     writing::put_file(w, h, x, y, bits, text);
     Answer::Done

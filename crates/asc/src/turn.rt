@@ -4,11 +4,12 @@ ghost use Prim.Native.Nat.{ℕ, _+_, _-_, _*_, _<_, _≤_};
 ghost use mathlib.Core.Bool.{true};
 ghost use mathlib.Core.List.{List};
 ghost use lib.ListN.{length};
-ghost use Rattle.asc.specs.Area.{columns, area, tilesOf, sized};
+ghost use Rattle.ports.specs.Lengths.{columns};
+ghost use Rattle.asc.specs.Area.{area, tilesOf, sized};
 ghost use Rattle.asc.specs.Next.{deviceNext, tileNext, dotNext, rowNext, nextOf, stageOf, turnedTo, inside};
 use crate::area::POSITIONS;
-use crate::area::ROWS;
 use crate::lines;
+use ports::lengths::ROWS;
 use texts::lines::is_same;
 use texts::lines::word_length;
 

@@ -5,13 +5,12 @@ ghost use mathlib.Core.Bool.{true};
 ghost use lib.ListN.{length};
 ghost use Rattle.ports.specs.Lengths.{tileNumbers};
 ghost use Rattle.texts.specs.Pieces.{placed};
-ghost use Rattle.asc.specs.Area.{columns, area, tilesOf, sized};
+ghost use Rattle.asc.specs.Area.{area, tilesOf, sized};
 ghost use Rattle.asc.specs.Content.{rowDigits, rowText, rowsLength, rowsText, headText, tileText, written, textLength};
-use crate::area::COLUMNS;
-use crate::area::POSITIONS;
-use crate::area::ROWS;
-use crate::bits::bit_at;
 use crate::text::put_tile_line;
+use digits::digit_of;
+use ports::lengths::COLUMNS;
+use ports::lengths::ROWS;
 use texts::LINE_END;
 use texts::decimal::decimal_length;
 use texts::put;
@@ -38,34 +37,33 @@ pub fn file_length(w: u32, h: u32, x: u32, y: u32) -> usize
     length
 }
 
-// The 54 digits from a position on.
-fn row_digits(bits: &[u8], place: usize) -> [u8; COLUMNS]
-    requires { ⌜ (place + columns ≤ 8 * length (now bits)) × (place < 2 ^ 32) ⌝ }
-    ensures { λ r. ⌜ r ≡ rowDigits (now (bits .entry)) place ⌝ }
+// The 54 digits of a row.
+fn row_digits(word: u64) -> [u8; COLUMNS]
+    ensures { λ r. ⌜ r ≡ rowDigits word ⌝ }
 {
     let mut row = [0; COLUMNS];
     let mut c = 0;
     while c < COLUMNS {
-        row[c] = 48 + bit_at(bits, place + c);
+        row[c] = 48 + digit_of(word, c);
         c += 1;
     }
     row
 }
 
 // A row and its line feed.
-fn put_row(bits: &[u8], place: usize, out: &mut [u8], at: usize) -> usize
-    requires { ⌜ (place + columns ≤ 8 * length (now bits)) × (place < 2 ^ 32) × (at + 55 ≤ length (now out)) ⌝ }
-    ensures next { λ r. ⌜ r ≡ at + length (rowText (now (bits .entry)) place) ⌝ }
-    ensures out { λ r. ⌜ now (out .exit) ≡ placed at (rowText (now (bits .entry)) place) (now (out .entry)) ⌝ }
+fn put_row(word: u64, out: &mut [u8], at: usize) -> usize
+    requires { ⌜ at + 55 ≤ length (now out) ⌝ }
+    ensures next { λ r. ⌜ r ≡ at + length (rowText word) ⌝ }
+    ensures out { λ r. ⌜ now (out .exit) ≡ placed at (rowText word) (now (out .entry)) ⌝ }
 {
-    let row = row_digits(bits, place);
+    let row = row_digits(word);
     let feed = [LINE_END];
     let next = put(out, at, &row);
     put(out, next, &feed)
 }
 
 // The sixteen rows of tile t.
-fn put_rows(bits: &[u8], t: usize, out: &mut [u8], at: usize) -> usize
+fn put_rows(bits: &[u64], t: usize, out: &mut [u8], at: usize) -> usize
     requires { ⌜ (t < 64) × (tileNumbers * t + tileNumbers ≤ length (now bits)) × (at + rowsLength ≤ length (now out)) ⌝ }
     ensures next { λ r. ⌜ r ≡ at + length (rowsText (now (bits .entry)) t) ⌝ }
     ensures out { λ r. ⌜ now (out .exit) ≡ placed at (rowsText (now (bits .entry)) t) (now (out .entry)) ⌝ }
@@ -73,7 +71,7 @@ fn put_rows(bits: &[u8], t: usize, out: &mut [u8], at: usize) -> usize
     let mut next = at;
     let mut r = 0;
     while r < ROWS {
-        next = put_row(bits, POSITIONS * t + COLUMNS * r, out, next);
+        next = put_row(bits[ROWS * t + r], out, next);
         r += 1;
     }
     next
@@ -91,7 +89,16 @@ fn put_head(w: u32, h: u32, x: u32, y: u32, t: u32, out: &mut [u8], at: usize) -
 }
 
 // The line and the rows of tile t.
-fn put_tile(w: u32, h: u32, x: u32, y: u32, t: u32, bits: &[u8], out: &mut [u8], at: usize) -> usize
+fn put_tile(
+    w: u32,
+    h: u32,
+    x: u32,
+    y: u32,
+    t: u32,
+    bits: &[u64],
+    out: &mut [u8],
+    at: usize,
+) -> usize
     requires { ⌜ (sized (area w h x y) ≡ true) × (t < tilesOf (area w h x y)) ×
         (length (now bits) ≡ tileNumbers * tilesOf (area w h x y)) × (at + length (tileText (area w h x y) (now bits) t) ≤ length
         (now out)) ⌝ }
@@ -103,7 +110,7 @@ fn put_tile(w: u32, h: u32, x: u32, y: u32, t: u32, bits: &[u8], out: &mut [u8],
 }
 
 // The whole file, in a room of its length.
-pub fn put_file(w: u32, h: u32, x: u32, y: u32, bits: &[u8], text: &mut [u8])
+pub fn put_file(w: u32, h: u32, x: u32, y: u32, bits: &[u64], text: &mut [u8])
     requires { ⌜ (sized (area w h x y) ≡ true) × (length (now bits) ≡ tileNumbers * tilesOf (area w h x y)) ×
         (length (now text) ≡ textLength (area w h x y)) ⌝ }
     ensures { λ r. ⌜ now (text .exit) ≡ written (area w h x y) (now (bits .entry)) ⌝ }

@@ -31,8 +31,8 @@ returns c =
     let at-put2 = c .before .before in
     let at-put = at-put2 .before .before .before .before .before in
     let at-row-digits = at-put .before .before .before in
-    let at-start = at-row-digits .before .before .before in
-    puts-two (at-start .args .at) (rowDigits (at-start .args .bits .now) (at-start .args .place)) (10 ∷ []) (at-start .args .out .now) (at-put .put .result) (at-put2 .put2 .result) (at-put .put .last .0) (at-put2 .put2 .last .0) (puts-line (at-start .args .at) (rowDigits (at-start .args .bits .now) (at-start .args .place)) (at-row-digits .row-digits .result) (at-start .args .out .now) (at-put .put .result) (at-put .put .last .0) (at-row-digits .row-digits .ensures) (at-put .put .ensures)) (at-put2 .put2 .ensures) (omega (arith, row-text-length (at-start .args .bits .now) (at-start .args .place)))
+    let at-start = at-row-digits .before .before in
+    puts-two (at-start .args .at) (rowDigits (at-start .args .word)) (10 ∷ []) (at-start .args .out .now) (at-put .put .result) (at-put2 .put2 .result) (at-put .put .last .0) (at-put2 .put2 .last .0) (puts-line (at-start .args .at) (rowDigits (at-start .args .word)) (at-row-digits .row-digits .result) (at-start .args .out .now) (at-put .put .result) (at-put .put .last .0) (at-row-digits .row-digits .ensures) (at-put .put .ensures)) (at-put2 .put2 .ensures) (omega (arith, row-text-length (at-start .args .word)))
 
 pub put-row-spec : {M : Type 1} → statement M
 put-row-spec =

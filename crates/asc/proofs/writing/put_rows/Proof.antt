@@ -20,16 +20,21 @@ loop-holds c =
 mul-put-row : tie.Need-mul-put-row Inv-loop μ-loop
 mul-put-row c = search needs
 
-mul-put-row-2 : tie.Need-mul-put-row-2 Inv-loop μ-loop
-mul-put-row-2 c = search needs
-
 add-put-row : tie.Need-add-put-row Inv-loop μ-loop
 add-put-row c = search needs
 
+mul-put-row-2 : tie.Need-mul-put-row-2 Inv-loop μ-loop
+mul-put-row-2 c = search needs
+
+shared-slice-read-put-row : tie.Need-shared-slice-read-put-row Inv-loop μ-loop
+shared-slice-read-put-row c = search needs
+
 put-row-requires : tie.Need-put-row-requires Inv-loop μ-loop
 put-row-requires c κs =
-    let at-loop = c .before .before in
-    (omega arith, omega arith, (let n = rows-next _ _ _ _ _ _ _ (at-loop .loop .inv) in let o = rows-room _ _ _ _ _ _ _ (at-loop .loop .inv) in omega arith))
+    let at-loop = c .before .before .before in
+    let n = rows-next _ _ _ _ _ _ _ (at-loop .loop .inv) in
+    let o = rows-room _ _ _ _ _ _ _ (at-loop .loop .inv) in
+    omega arith
 
 add-r : tie.Need-add-r Inv-loop μ-loop
 add-r c = search needs
@@ -40,7 +45,7 @@ loop-less c = search needs
 loop-again : tie.Need-loop-again Inv-loop μ-loop
 loop-again c =
     let at-put-row = c .before .before in
-    let at-loop-test = at-put-row .before .before in
+    let at-loop-test = at-put-row .before .before .before in
     let at-loop = at-loop-test .before in
     rows-turn _ _ _ _ _ _ _ (at-loop .loop .inv) (at-loop-test .loop-test .taken) _ _ (at-put-row .put-row .ensures)
 
@@ -58,8 +63,9 @@ put-rows-spec =
     μ-loop
     loop-holds
     mul-put-row
-    mul-put-row-2
     add-put-row
+    mul-put-row-2
+    shared-slice-read-put-row
     put-row-requires
     add-r
     loop-less

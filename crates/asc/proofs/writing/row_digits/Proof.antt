@@ -5,27 +5,24 @@ use native.Mathlib.Omega.{arith}
 use borrow.Author.Needs.{needs}
 use Rattle.lists.proofs.TableLaws.{filled-start, filled-step, filled-end}
 use Rattle.lists.specs.Tables.{Filled}
-use Rattle.asc.specs.Content.{bitAt}
+use Rattle.digits.specs.Digits.{digit}
 use Rattle.asc.proofs.writing.row_digits.Statement.{statement}
 use Rattle.asc.proofs.writing.row_digits.Tie as tie
 
 abbrev Inv-loop : tie.InvT-loop
-Inv-loop bits place row₀ c₀ row c = Filled (λ k. 48 + bitAt bits (place + k)) 0 54 c row
+Inv-loop word row₀ c₀ row c = Filled (λ k. 48 + digit word k) 0 54 c row
 
 abbrev μ-loop : tie.MeasureT-loop
-μ-loop bits place row₀ c₀ row c = 54 - c
+μ-loop word row₀ c₀ row c = 54 - c
 
 loop-holds : tie.Need-loop-holds Inv-loop μ-loop
 loop-holds c = filled-start _ _ _ _ refl
 
-add-bit-at : tie.Need-add-bit-at Inv-loop μ-loop
-add-bit-at c = search needs
-
-bit-at-requires : tie.Need-bit-at-requires Inv-loop μ-loop
-bit-at-requires c κs = search needs
+digit-of-requires : tie.Need-digit-of-requires Inv-loop μ-loop
+digit-of-requires c κs = search needs
 
 add-row : tie.Need-add-row Inv-loop μ-loop
-add-row c = omega (arith, c .bit-at .ensures .1)
+add-row c = omega (arith, c .digit-of .ensures)
 
 array-write-row : tie.Need-array-write-row Inv-loop μ-loop
 array-write-row c = search needs
@@ -39,7 +36,7 @@ loop-less c = search needs
 loop-again : tie.Need-loop-again Inv-loop μ-loop
 loop-again c =
     let at-loop = c .before .before in
-    filled-step _ _ _ _ _ _ (at-loop .loop .inv) (omega arith) (ap (λ k. 48 + k) (c .bit-at .ensures .0))
+    filled-step _ _ _ _ _ _ (at-loop .loop .inv) (omega arith) (ap (λ k. 48 + k) (c .digit-of .ensures))
 
 returns : tie.Need-returns Inv-loop μ-loop
 returns c = filled-end _ _ _ _ _ (c .before .loop .inv) (omega arith)
@@ -51,8 +48,7 @@ row-digits-spec =
     Inv-loop
     μ-loop
     loop-holds
-    add-bit-at
-    bit-at-requires
+    digit-of-requires
     add-row
     array-write-row
     add-c

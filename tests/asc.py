@@ -386,7 +386,7 @@ def check_icestorm(files, inputs):
                 count.same(files.read(w, h, x, y, whole(back)), bits, (name, w, h, x, y))
                 inside = {'logic_tile %d %d' % at for at in asc_model.tiles_of(w, h, x, y)}
                 count.same(explained(path).keys(), words.keys() & inside, (name, w, h, x, y))
-                # it takes the chip's size from the tiles that a file has, and its words hang on that: iceunpack's file has them all
+                # it takes the chip's size from the tiles that a file has, and its words depend on that: iceunpack's file has them all
                 count.same(explained(back), {at: said for at, said in words.items() if at in inside}, (name, w, h, x, y))
     return count.done()
 

@@ -52,6 +52,6 @@ deviceText = deviceLine ++ lineEnd
 unfoldable pub written : Area → List ℕ → List ℕ
 written a bits = deviceText ++ joined (tileText a bits) (tilesOf a)
 
--- the length of a file hangs on corner and size alone (proofs/LengthLaws.antt: `written-length`)
+-- the length of a file depends only on corner and size (proofs/LengthLaws.antt: `written-length`)
 unfoldable pub textLength : Area → ℕ
 textLength a = length (written a [])

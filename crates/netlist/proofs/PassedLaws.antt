@@ -1,5 +1,5 @@
--- A lent list that passes ground 12: the main laws. Every wire has one row (`passed-every`, `passed-once`), the list can be run (`passed-fits`), what
--- it gives does not hang on the values' old contents (`passed-local`), and is a bit (`passed-bits`).
+-- A lent list that passes ground 12: the main laws. Every wire has one row (`passed-every`, `passed-once`), the list can be run (`passed-fits`), and what
+-- it gives is a bit (`passed-bits`).
 use mathlib.Core.Path.{_≡_, refl, sym, ap, _∙_}
 use mathlib.Core.Bool.{Bool, true, false, not, _&&_, cond}
 use mathlib.Core.Logic.{_⊎_, ⊎-elim, _≢_}

@@ -1,4 +1,4 @@
--- What a row gives: it hangs on the wires that it reads alone (`value-local`), and is a bit where they are (`value-lt`).
+-- What a row gives: it depends only on the wires that it reads (`value-local`), and is a bit where they are (`value-lt`).
 use mathlib.Core.Path.{_≡_, refl}
 use mathlib.Core.Bool.{Bool, true, false, cond}
 use mathlib.Core.List.{List}

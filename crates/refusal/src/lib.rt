@@ -6,7 +6,7 @@ ghost use mathlib.Core.Path.{_≡_};
 ghost use Rattle.refusal.specs.Grounds.{numberOf, placeOf};
 
 pub enum Refusal {
-    // W or H is not 1 to 8.
+    // W or H is not 1 to 8, or the byte for the column to the east is not 0 or 1.
     WrongSize,
     // A lent length differs from the exact one.
     WrongLength,

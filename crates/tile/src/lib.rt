@@ -151,8 +151,8 @@ pub fn encode_tile(table: &[u16], settings: &[u16], bits: &mut [u64])
     write_groups(table, settings, bits);
 }
 
-// Whether settings are within the limits, without the carry pair. With the limits of a table: whether some bits have these settings (ground 9). All
-// are looked at, for the machine compares many at once.
+// Whether settings are within the limits, without the carry pair. With the limits of a table: whether some bits have these settings (ground 9). No
+// early exit, so the loop vectorises.
 // Rules out: an entry past a group's count; a number past the table's counts that is not 0.
 pub fn settings_fit(limits: &[u16; SETTINGS_LENGTH], settings: &[u16]) -> bool
     requires { ⌜ length (now settings) ≡ settingsLength ⌝ }

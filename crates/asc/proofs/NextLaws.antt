@@ -66,11 +66,6 @@ module _ (a : Area) where
         y-to = ltb-true Y (a .y + a .h) (and-right (leb (a .y) Y) _ r₂);
       }
 
-  pub inside-true : (X Y : ℕ) → InBlock X Y → inside a X Y ≡ true
-  unfolding inside
-  inside-true X Y b =
-      and-true (le-leb (a .x) X (b .x-from)) (and-true (lt-ltb X (a .x + a .w) (b .x-to)) (and-true (le-leb (a .y) Y (b .y-from)) (lt-ltb Y (a .y + a .h) (b .y-to))))
-
   pub inside-not : (X Y : ℕ) → (InBlock X Y → ⊥) → inside a X Y ≡ false
   inside-not X Y h = ⊎-elim (λ e. absurd (h (in-block X Y e))) (λ e. e) (cases (inside a X Y))
 

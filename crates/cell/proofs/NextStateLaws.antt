@@ -80,12 +80,3 @@ ticked-plain before after = refl
 pub ticked-inverted : (before after : ℕ) → ticked true before after ≡ rose after before
 unfolding ticked rose
 ticked-inverted before after = and-comm (eqb before 1) (eqb after 0)
-
--- ---- a bit stays a bit
-
-cond-lt : (b : Bool) (x y : ℕ) → x < 2 → y < 2 → cond b x y < 2
-cond-lt true x y hx hy = hx
-cond-lt false x y hx hy = hy
-
-pub bit-of-lt : (on : Bool) → bitOf on < 2
-bit-of-lt on = cond-lt on 1 0 (omega arith) (omega arith)

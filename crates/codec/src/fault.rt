@@ -4,7 +4,8 @@ ghost use Prim.Native.Nat.{_<_};
 ghost use lib.ListN.{length};
 ghost use Rattle.routing.specs.LogicTile.{logicTile};
 ghost use Rattle.routing.specs.Rules.{TableRules};
-ghost use Rattle.routing.specs.Slots.{Owned, slotsOf, slotCount};
+ghost use Rattle.routing.specs.Slots.{slotCount};
+ghost use Rattle.routing.specs.Claiming.{TableOwned};
 ghost use Rattle.ports.specs.Lengths.{tileNumbers};
 ghost use Rattle.codec.specs.Bits.{bitAt, tileOf};
 ghost use Rattle.codec.specs.Groups.{GroupLent, readGroup};
@@ -14,16 +15,14 @@ use crate::bits::read_bit;
 use crate::groups::GroupRead;
 use crate::groups::read_group;
 use ports::lengths::MAX_POSITIONS;
-use routing::slots::FIELD_SLOTS;
-use routing::slots::GROUP_SLOTS;
+use routing::slots::FIELD_CODES;
+use routing::slots::GROUP_CODES;
 use routing::table::CARRY_CHAIN;
 use routing::table::CARRY_IN_SET;
 use words::stray::PAST_COLUMNS;
 
-// In the ownership map: the CarryInSet field, the first position of group 0. A map's number is one more than the slot's.
-const SET_FIELD: usize = FIELD_SLOTS + CARRY_IN_SET + 1;
-
-const GROUPS: usize = GROUP_SLOTS + 1;
+// The CarryInSet field in the map of owners.
+const SET_FIELD: usize = FIELD_CODES + CARRY_IN_SET;
 
 // Whether reading a group says that position p is at fault.
 pub fn is_group_fault(table: &[u16], g: usize, bits: &[u64], p: usize) -> bool
@@ -65,7 +64,7 @@ fn is_past_at(bits: &[u64], p: usize) -> bool
 // Whether position p is at fault by what claims it; `own` says which slot does.
 // Rules out: a set bit that nothing claims let through; a fault reported at a group's second position.
 fn is_owned_fault(table: &[u16], own: &[u16], bits: &[u64], p: usize) -> bool
-    requires { ⌜ (TableRules logicTile (now table)) × (Owned 864 (slotsOf logicTile (now table)) (slotCount logicTile) (now own)) ×
+    requires { ⌜ (TableRules logicTile (now table)) × (TableOwned logicTile (now table) (slotCount logicTile) (now own)) ×
         (length (now bits) ≡ tileNumbers) × (p < 864) ⌝ }
     ensures { λ r. ⌜ r ≡ ownedFault (now (table .entry)) (tileOf (now (bits .entry))) p ⌝ }
 {
@@ -76,17 +75,17 @@ fn is_owned_fault(table: &[u16], own: &[u16], bits: &[u64], p: usize) -> bool
     if code == SET_FIELD {
         return is_carry_pair(table, bits);
     }
-    if code < GROUPS {
+    if code < GROUP_CODES {
         return false;
     }
-    let g = (code - GROUPS) / MAX_POSITIONS;
+    let g = (code - GROUP_CODES) / MAX_POSITIONS;
     is_group_fault(table, g, bits, p)
 }
 
 // Whether position p is at fault.
 // Rules out: the last column of a row at fault only for what claims it.
 pub fn is_fault_at(table: &[u16], own: &[u16], bits: &[u64], p: usize) -> bool
-    requires { ⌜ (TableRules logicTile (now table)) × (Owned 864 (slotsOf logicTile (now table)) (slotCount logicTile) (now own)) ×
+    requires { ⌜ (TableRules logicTile (now table)) × (TableOwned logicTile (now table) (slotCount logicTile) (now own)) ×
         (length (now bits) ≡ tileNumbers) × (p < 864) ⌝ }
     ensures { λ r. ⌜ r ≡ faultAt (now (table .entry)) (tileOf (now (bits .entry))) p ⌝ }
 {

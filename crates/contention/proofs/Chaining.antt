@@ -156,9 +156,6 @@ module _ (B : Block) (t st : List ℕ) (ok : Routed B t st) (T g : ℕ) (lT : T 
   pub switch-few : maxGroups * T + g < 32768
   switch-few = let f = tiles-le B (ok .size) in let l = group-lt in omega arith
 
-  pub switch-within : maxGroups * T + g < switches B
-  switch-within = let l = group-lt in omega arith
-
   number-next : maxGroups * T + (g + 1) ≡ suc (maxGroups * T + g)
   number-next = omega arith
 

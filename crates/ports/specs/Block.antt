@@ -50,10 +50,7 @@ sized B = ltb (B .east) 2 && allowed (sizeOf B)
 abbrev pub portOf : ℕ → ℕ → ℕ
 portOf t q = portsPerTile * t + q
 
--- how many ports tile T of a block has, and the number of its port q; all tiles are logic tiles
-abbrev pub portsIn : Block → ℕ → ℕ
-portsIn B T = portsPerTile
-
+-- the number of port q of tile T; all tiles are logic tiles
 abbrev pub tilePort : Block → ℕ → ℕ → ℕ
 tilePort B T q = portOf T q
 

@@ -7,7 +7,8 @@ ghost use lib.ListN.{length};
 ghost use Rattle.lists.specs.Tables.{zeros};
 ghost use Rattle.routing.specs.LogicTile.{logicTile};
 ghost use Rattle.routing.specs.Rules.{TableRules};
-ghost use Rattle.routing.specs.Slots.{Owned, slotsOf, slotCount, fieldSlots, passiveSlots, groupSlots};
+ghost use Rattle.routing.specs.Slots.{slotCount, fieldSlots, passiveSlots, groupSlots};
+ghost use Rattle.routing.specs.Claiming.{TableOwned};
 ghost use Rattle.ports.specs.Lengths.{tileNumbers, settingsLength};
 ghost use Rattle.codec.specs.Bits.{bitAt, tileOf};
 ghost use Rattle.codec.specs.Decode.{decode};
@@ -37,7 +38,7 @@ mod reading;
 
 // The lowest position at fault; 864 where the tile can be decoded. `own` is the ownership map of the table.
 pub fn tile_fault(table: &[u16], own: &[u16], bits: &[u64]) -> usize
-    requires { ⌜ (TableRules logicTile (now table)) × (Owned 864 (slotsOf logicTile (now table)) (slotCount logicTile) (now own)) ×
+    requires { ⌜ (TableRules logicTile (now table)) × (TableOwned logicTile (now table) (slotCount logicTile) (now own)) ×
         (length (now bits) ≡ tileNumbers) ⌝ }
     ensures { λ r. ⌜ r ≡ tileFault (now (table .entry)) (tileOf (now (bits .entry))) ⌝ }
 {
@@ -84,7 +85,7 @@ pub fn decode_tile(table: &[u16], bits: &[u64], settings: &mut [u16])
 // The lowest position at fault, with cleared settings; where there is none, 864 with the settings read. Only of a tile that cannot be decoded are
 // all positions looked at.
 pub fn read_tile(table: &[u16], own: &[u16], bits: &[u64], settings: &mut [u16]) -> usize
-    requires { ⌜ (TableRules logicTile (now table)) × (Owned 864 (slotsOf logicTile (now table)) (slotCount logicTile) (now own)) ×
+    requires { ⌜ (TableRules logicTile (now table)) × (TableOwned logicTile (now table) (slotCount logicTile) (now own)) ×
         (length (now bits) ≡ tileNumbers) × (length (now settings) ≡ settingsLength) ⌝ }
     ensures fault { λ r. ⌜ r ≡ tileFault (now (table .entry)) (tileOf (now (bits .entry))) ⌝ }
     ensures settings { λ r. ⌜ (r ≡ 864 → now (settings .exit) ≡ decode (now (table .entry)) (bitAt (now (bits .entry)))) ⌝ }

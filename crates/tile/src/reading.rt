@@ -7,7 +7,8 @@ ghost use lib.Dec.{eqb};
 ghost use lib.ListN.{length};
 ghost use Rattle.routing.specs.LogicTile.{logicTile};
 ghost use Rattle.routing.specs.Rules.{TableRules};
-ghost use Rattle.routing.specs.Slots.{Owned, slotsOf, slotCount};
+ghost use Rattle.routing.specs.Slots.{slotCount};
+ghost use Rattle.routing.specs.Claiming.{TableOwned};
 ghost use Rattle.codec.specs.Bits.{bitAt, tileOf};
 ghost use Rattle.ports.specs.Lengths.{tileNumbers, settingsLength};
 ghost use Rattle.codec.specs.Decode.{decode};
@@ -22,33 +23,27 @@ use codec::settings::group_setting;
 use codec::settings::has_both_carries;
 use ports::lengths::MAX_POSITIONS;
 use ports::lengths::TILE_NUMBERS;
-use routing::slots::FIELD_SLOTS;
-use routing::slots::GROUP_SLOTS;
+use routing::slots::FIELD_CODES;
+use routing::slots::GROUP_CODES;
 use words::stray::PAST_COLUMNS;
-
-// In the ownership map, whose number is one more than the slot's: the first field, after which come the others and the passive bits, as in
-// the settings; and the first position of group 0.
-const FIELDS: usize = FIELD_SLOTS + 1;
-
-const GROUPS: usize = GROUP_SLOTS + 1;
 
 // The set bit at p; whether it is in order. A group is read at its first set bit that is met. The cells are read as a whole, elsewhere.
 fn take_bit(table: &[u16], own: &[u16], bits: &[u64], p: usize, settings: &mut [u16]) -> bool
-    requires { ⌜ (TableRules logicTile (now table)) × (Owned 864 (slotsOf logicTile (now table)) (slotCount logicTile) (now own)) ×
+    requires { ⌜ (TableRules logicTile (now table)) × (TableOwned logicTile (now table) (slotCount logicTile) (now own)) ×
         (length (now bits) ≡ tileNumbers) × (p < 864) × (bitAt (now bits) p ≡ 1) × Known (now table) (now bits) (now settings) ⌝ }
     ensures yes { λ r. ⌜ (r ≡ true → Learned (now (table .entry)) (now (bits .entry)) (now (settings .entry)) (now (settings .exit)) ×
         Taken (now (table .entry)) (now (settings .exit)) p) ⌝ }
     ensures no { λ r. ⌜ (r ≡ false → Undecodable (now (table .entry)) (now (bits .entry))) ⌝ }
 {
     let code = own[p] as usize;
-    if code < FIELDS {
+    if code < FIELD_CODES {
         return code != 0;
     }
-    if code < GROUPS {
-        settings[code - FIELDS] = 1;
+    if code < GROUP_CODES {
+        settings[code - FIELD_CODES] = 1;
         return true;
     }
-    let g = (code - GROUPS) / MAX_POSITIONS;
+    let g = (code - GROUP_CODES) / MAX_POSITIONS;
     if settings[GROUPS_FROM + g] != 0 {
         return true;
     }
@@ -63,7 +58,7 @@ fn take_bit(table: &[u16], own: &[u16], bits: &[u64], p: usize, settings: &mut [
 // The set bits of row i. A row with one past its columns cannot be decoded.
 // Rules out: a set bit past the columns left out.
 fn take_row(table: &[u16], own: &[u16], bits: &[u64], i: usize, settings: &mut [u16]) -> bool
-    requires { ⌜ (TableRules logicTile (now table)) × (Owned 864 (slotsOf logicTile (now table)) (slotCount logicTile) (now own)) ×
+    requires { ⌜ (TableRules logicTile (now table)) × (TableOwned logicTile (now table) (slotCount logicTile) (now own)) ×
         (length (now bits) ≡ tileNumbers) × (i < tileNumbers) × Known (now table) (now bits) (now settings) ⌝ }
     ensures yes { λ r. ⌜ (r ≡ true → Learned (now (table .entry)) (now (bits .entry)) (now (settings .entry)) (now (settings .exit)) ×
         TakenRow (now (table .entry)) (now (bits .entry)) (now (settings .exit)) i) ⌝ }
@@ -87,7 +82,7 @@ fn take_row(table: &[u16], own: &[u16], bits: &[u64], i: usize, settings: &mut [
 // Whether the tile can be decoded; on a yes its settings are read. A tile with no bit set takes no time.
 // Rules out: settings kept from another tile; a yes for a bit that nothing claims, an unlisted group or the carry pair; a no for anything else.
 pub fn try_decode(table: &[u16], own: &[u16], bits: &[u64], settings: &mut [u16]) -> bool
-    requires { ⌜ (TableRules logicTile (now table)) × (Owned 864 (slotsOf logicTile (now table)) (slotCount logicTile) (now own)) ×
+    requires { ⌜ (TableRules logicTile (now table)) × (TableOwned logicTile (now table) (slotCount logicTile) (now own)) ×
         (length (now bits) ≡ tileNumbers) × (length (now settings) ≡ settingsLength) ⌝ }
     ensures answer { λ r. ⌜ r ≡ eqb (tileFault (now (table .entry)) (tileOf (now (bits .entry)))) 864 ⌝ }
     ensures settings { λ r. ⌜ (r ≡ true → now (settings .exit) ≡ decode (now (table .entry)) (bitAt (now (bits .entry)))) ⌝ }

@@ -17,7 +17,7 @@ pub extern "C" fn ice40_read(
     w: u32,
     h: u32,
     table: &[u16],
-    bits: &[u8],
+    bits: &[u64],
     settings: &mut [u16],
 ) -> u64
     ensures answer { λ r. ⌜ r ≡ packed
@@ -37,7 +37,7 @@ pub extern "C" fn ice40_write(
     h: u32,
     table: &[u16],
     settings: &[u16],
-    bits: &mut [u8],
+    bits: &mut [u64],
 ) -> u64
     ensures answer { λ r. ⌜ r ≡ packed
         (answerNumber (writeAnswer (size w h) (now (table .entry)) (now (settings .entry)) (length (now (bits .entry)))))
@@ -51,7 +51,7 @@ pub extern "C" fn ice40_write(
 
 // How many of a tile's bits are set. Grounds 1, 2, 20.
 #[no_mangle]
-pub extern "C" fn ice40_bit_count(w: u32, h: u32, bits: &[u8], tile: u32) -> u64
+pub extern "C" fn ice40_bit_count(w: u32, h: u32, bits: &[u64], tile: u32) -> u64
     ensures { λ r. ⌜ r ≡ packed (bitCountNumber (bitCountAnswer (size w h) (now (bits .entry)) tile))
         (bitCountValue (bitCountAnswer (size w h) (now (bits .entry)) tile)) ⌝ }
 {

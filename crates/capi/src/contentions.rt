@@ -18,7 +18,7 @@ pub extern "C" fn ice40_contentions(
     h: u32,
     east: u32,
     table: &[u16],
-    bits: &[u8],
+    bits: &[u64],
     list: &mut [u16],
     settings: &mut [u16],
     wires: &mut [u16],

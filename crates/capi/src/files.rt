@@ -19,7 +19,7 @@ pub extern "C" fn ice40_asc_read(
     x: u32,
     y: u32,
     text: &[u8],
-    bits: &mut [u8],
+    bits: &mut [u64],
 ) -> u64
     ensures answer { λ r. ⌜ r ≡ packedAnswer (readAnswer (areaAt (size w h) x y) (now (text .entry)) (length (now (bits .entry)))) ⌝ }
     ensures bits { λ r. ⌜ now (bits .exit) ≡ output (groundIn r) (now (bits .entry)) (bitsRead (areaAt (size w h) x y) (now (text .entry))) ⌝ }
@@ -39,17 +39,17 @@ pub extern "C" fn ice40_asc_length(w: u32, h: u32, x: u32, y: u32) -> u64
     }
 }
 
-// Writes a block as a file. Grounds 1, 2.
+// Writes a block as a file. Grounds 1, 2, 4.
 #[no_mangle]
 pub extern "C" fn ice40_asc_write(
     w: u32,
     h: u32,
     x: u32,
     y: u32,
-    bits: &[u8],
+    bits: &[u64],
     text: &mut [u8],
 ) -> u64
-    ensures answer { λ r. ⌜ r ≡ packedAnswer (writeAnswer (areaAt (size w h) x y) (length (now (bits .entry))) (length (now (text .entry)))) ⌝ }
+    ensures answer { λ r. ⌜ r ≡ packedAnswer (writeAnswer (areaAt (size w h) x y) (now (bits .entry)) (length (now (text .entry)))) ⌝ }
     ensures text { λ r. ⌜ now (text .exit) ≡ output (groundIn r) (now (text .entry)) (written (areaAt (size w h) x y) (now (bits .entry))) ⌝ }
 {
     let a = asc::write(Size { w, h }, x, y, bits, text);

@@ -17,6 +17,7 @@ pub mod circuits;
 pub mod comparing;
 pub mod contentions;
 pub mod files;
+pub mod forms;
 pub mod pack;
 
 // The number of the wire that a port of a tile is on, in a block of w by h tiles; east is 1 where the column to the east of it is logic or

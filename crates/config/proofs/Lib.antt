@@ -6,3 +6,4 @@ pub mod EntryLaws  -- read-.., write-..: the answers, ground by ground; lengths-
 pub mod BitCountLaws  -- count-..: the same of a bit count
 pub mod BlocksLaws  -- decoded-at, encoded-at: the tiles of a block; bitless-lowest: the place of ground 9
 pub mod FaultPlaceLaws  -- fault-place-exact, fault-unique: the place of ground 4; no-fault-decodable, decodable-no-fault: where there is none
+pub mod FormsLaws  -- settings-same, read-same, count-same: bytes and their words carry the same settings and answers

@@ -10,6 +10,7 @@ use Rattle.refusal.specs.Grounds.{numberOf, placeOf}
 use Rattle.frames.specs.declared.input.Parsed.{Parsed}
 use Rattle.frames.specs.declared.input.Parsed.the-variants.{Block, Refused}
 use Rattle.frames.specs.Input.{parsed}
+use Rattle.words.specs.Forms.{tilesOfBytes}
 use Rattle.frames.specs.Contents.{tableOf, bitsOf}
 use Rattle.frames.specs.Whole.{Small}
 use Rattle.ports.specs.Block.{block}
@@ -23,7 +24,7 @@ module _ (s : List ℕ) (r : Parsed) (e : r ≡ parsed s) where
   unfolding reportOf
   refused-report refusal q = ap (parsedLines s) (sym q ∙ e)
 
-  pub block-report : (w h e : ℕ) → r ≡ Block w h e → blockLines (block w h e) (tableOf s) (bitsOf s (h * w)) ≡ reportOf s
+  pub block-report : (w h e : ℕ) → r ≡ Block w h e → blockLines (block w h e) (tableOf s) (tilesOfBytes (bitsOf s (h * w))) ≡ reportOf s
   unfolding reportOf
   block-report w h e′ q = ap (parsedLines s) (sym q ∙ e)
 

@@ -6,7 +6,8 @@ use mathlib.Core.List.{List, _++_}
 use Rattle.ports.specs.declared.size.Block.{Block}
 use Rattle.ports.specs.Block.{block, tiles}
 use Rattle.ports.specs.Lengths.{portsPerTile}
-use Rattle.config.specs.Blocks.{decoded, tilesOf}
+use Rattle.words.specs.Forms.{TileBits, tilesOfBytes}
+use Rattle.config.specs.Blocks.{decoded}
 use Rattle.equations.specs.Sources.{sourcesOf}
 use Rattle.block.specs.declared.Built.{Built}
 use Rattle.block.specs.declared.Built.the-variants as built
@@ -35,13 +36,13 @@ abbrev pub builtLines : Block → List ℕ → List ℕ → Built → List ℕ
 builtLines B t st (built.Listed rows) = acceptedLines B t st
 builtLines B t st (built.Refused refusal) = answerLine (builtNumber (built.Refused refusal)) (builtValue (built.Refused refusal))
 
--- the report of a block's bits; every lent length is exact
-unfoldable pub blockLines : Block → List ℕ → List ℕ → List ℕ
-blockLines B t bits = builtLines B t (decoded t (tilesOf bits) (tiles B)) (buildAnswer B t (tilesOf bits) true)
+-- the report of a block's tiles; every lent length is exact
+unfoldable pub blockLines : Block → List ℕ → (ℕ → TileBits) → List ℕ
+blockLines B t tile = builtLines B t (decoded t tile (tiles B)) (buildAnswer B t tile true)
 
--- the report of what was parsed
+-- the report of what was parsed; a frame has a tile's bytes, and stays so (document 02, W7: "keep the bytes at the file edge")
 abbrev pub parsedLines : List ℕ → Parsed → List ℕ
-parsedLines s (parse.Block w h e) = blockLines (block w h e) (contents.tableOf s) (bitsOf s (h * w))
+parsedLines s (parse.Block w h e) = blockLines (block w h e) (contents.tableOf s) (tilesOfBytes (bitsOf s (h * w)))
 parsedLines s (parse.Refused refusal) = answerLine (parsedNumber (parse.Refused refusal)) (parsedPlace (parse.Refused refusal))
 
 -- the whole report

@@ -75,7 +75,7 @@ fn put_lines(sources: &[u16], st: &[u16], n: usize, out: &mut [u8]) -> usize
 fn put_accepted(
     b: Block,
     table: &[u16],
-    bits: &[u8],
+    bits: &[u64],
     settings: &mut [u16],
     wires: &mut [u16],
     sources: &mut [u16],
@@ -102,7 +102,7 @@ fn put_accepted(
 fn put_built(
     b: Block,
     table: &[u16],
-    bits: &[u8],
+    bits: &[u64],
     list: &mut [u16],
     settings: &mut [u16],
     wires: &mut [u16],
@@ -115,8 +115,8 @@ fn put_built(
     requires { ⌜ Small (b .w) (b .h) × (length (now out) ≡ outLength) ⌝ }
     requires { ⌜ BuildLong b (buildLent (now table) (now bits) (now settings)
         (roomLent (now list) (now wires) (now sources) (now rows) (now marks) (now queue))) ⌝ }
-    ensures next { λ r. ⌜ r ≡ 0 + length (blockLines b (now (table .entry)) (now (bits .entry))) ⌝ }
-    ensures out { λ r. ⌜ now (out .exit) ≡ placed 0 (blockLines b (now (table .entry)) (now (bits .entry))) (now (out .entry)) ⌝ }
+    ensures next { λ r. ⌜ r ≡ 0 + length (blockLines b (now (table .entry)) (tilesOf (now (bits .entry)))) ⌝ }
+    ensures out { λ r. ⌜ now (out .exit) ≡ placed 0 (blockLines b (now (table .entry)) (tilesOf (now (bits .entry)))) (now (out .entry)) ⌝ }
 {
     let built = block::build(
         b,
@@ -139,11 +139,11 @@ fn put_built(
 }
 
 // The report of a block's bits.
-pub fn put_block(b: Block, table: &[u16], bits: &[u8], out: &mut [u8]) -> usize
+pub fn put_block(b: Block, table: &[u16], bits: &[u64], out: &mut [u8]) -> usize
     requires { ⌜ Small (b .w) (b .h) × (length (now bits) ≡ bitsLength (sizeOf b)) × (length (now table) ≡ tableLength) ×
         (length (now out) ≡ outLength) ⌝ }
-    ensures next { λ r. ⌜ r ≡ 0 + length (blockLines b (now (table .entry)) (now (bits .entry))) ⌝ }
-    ensures out { λ r. ⌜ now (out .exit) ≡ placed 0 (blockLines b (now (table .entry)) (now (bits .entry))) (now (out .entry)) ⌝ }
+    ensures next { λ r. ⌜ r ≡ 0 + length (blockLines b (now (table .entry)) (tilesOf (now (bits .entry)))) ⌝ }
+    ensures out { λ r. ⌜ now (out .exit) ≡ placed 0 (blockLines b (now (table .entry)) (tilesOf (now (bits .entry)))) (now (out .entry)) ⌝ }
 {
     let tiles = (b.h * b.w) as usize;
     let n = PORTS_PER_TILE as usize * tiles;

@@ -8,13 +8,15 @@ ghost use Prim.Native.Nat.{_+_, _≤_};
 ghost use mathlib.Core.List.{_++_};
 ghost use lib.ListN.{length, drop};
 ghost use Rattle.ports.specs.Block.{size, sizeOf, tiles};
-ghost use Rattle.ports.specs.Lengths.{tableLength, bitsLength};
+ghost use Rattle.ports.specs.Lengths.{tableLength, bitsLength, bytesLength};
+ghost use Rattle.words.specs.Forms.{tilesOfBytes};
 ghost use Rattle.frames.specs.Whole.{Small};
 ghost use Rattle.frames.specs.Contents.{tableOf, bitsOf};
 ghost use Rattle.texts.specs.Pieces.{placed};
 ghost use Rattle.reporting.specs.Report.{outLength, blockLines, reportOf};
 use frames::input::Parsed;
 use ports::lengths::TABLE_LENGTH;
+use ports::lengths::TILE_BYTES;
 use ports::lengths::TILE_NUMBERS;
 use ports::size::Block;
 
@@ -27,7 +29,9 @@ pub const OUTPUT: usize = 51039;
 
 const TABLE: usize = TABLE_LENGTH;
 
-const BITS: usize = 9 * TILE_NUMBERS;
+const BYTES: usize = 9 * TILE_BYTES;
+
+const WORDS: usize = 9 * TILE_NUMBERS;
 
 // Room of zeros, of which callers need the length alone.
 pub fn input_room() -> [u8; INPUT]
@@ -48,36 +52,61 @@ fn table_room() -> [u16; TABLE]
     [0; TABLE]
 }
 
-fn bits_room() -> [u8; BITS]
-    ensures { λ r. ⌜ bitsLength (size 3 3) ≡ length r ⌝ }
+fn bytes_room() -> [u8; BYTES]
+    ensures { λ r. ⌜ bytesLength (size 3 3) ≡ length r ⌝ }
 {
-    [0; BITS]
+    [0; BYTES]
 }
 
-// The report of an input whose frames are in order, in room of the exact lengths.
-fn put_frames(s: &[u8], b: Block, table: &mut [u16], bits: &mut [u8], out: &mut [u8]) -> usize
-    requires { ⌜ Small (b .w) (b .h) × (length (now table) ≡ tableLength) × (length (now bits) ≡ bitsLength (sizeOf b)) ×
-        (length (now out) ≡ outLength) ⌝ }
-    ensures next { λ r. ⌜ r ≡ 0 + length (blockLines b (tableOf (now (s .entry))) (bitsOf (now (s .entry)) (tiles b))) ⌝ }
-    ensures out { λ r. ⌜ now (out .exit) ≡ placed 0 (blockLines b (tableOf (now (s .entry))) (bitsOf (now (s .entry)) (tiles b)))
+fn words_room() -> [u64; WORDS]
+    ensures { λ r. ⌜ bitsLength (size 3 3) ≡ length r ⌝ }
+{
+    [0; WORDS]
+}
+
+// The report of an input whose frames are in order, in room of the exact lengths. The frames have bytes, and all else works on words.
+fn put_frames(
+    s: &[u8],
+    b: Block,
+    table: &mut [u16],
+    bytes: &mut [u8],
+    words: &mut [u64],
+    out: &mut [u8],
+) -> usize
+    requires { ⌜ Small (b .w) (b .h) × (length (now table) ≡ tableLength) × (length (now bytes) ≡ bytesLength (sizeOf b)) ×
+        (length (now words) ≡ bitsLength (sizeOf b)) × (length (now out) ≡ outLength) ⌝ }
+    ensures next { λ r. ⌜ r ≡ 0 + length (blockLines b (tableOf (now (s .entry))) (tilesOfBytes (bitsOf (now (s .entry)) (tiles b)))) ⌝ }
+    ensures out { λ r. ⌜ now (out .exit) ≡ placed 0 (blockLines b (tableOf (now (s .entry))) (tilesOfBytes (bitsOf (now (s .entry)) (tiles b))))
         (now (out .entry)) ⌝ }
 {
     frames::contents::fill_table(s, table);
-    frames::contents::fill_bits(s, (b.h * b.w) as usize, bits);
-    blocks::put_block(b, table, bits, out)
+    let n = (b.h * b.w) as usize;
+    frames::contents::fill_bits(s, n, bytes);
+    words::forms::to_words(n, bytes, words);
+    blocks::put_block(b, table, words, out)
 }
 
 // The report of an input whose frames are in order.
 fn put_input(s: &[u8], b: Block, out: &mut [u8]) -> usize
     requires { ⌜ Small (b .w) (b .h) × (length (now out) ≡ outLength) ⌝ }
-    ensures next { λ r. ⌜ r ≡ 0 + length (blockLines b (tableOf (now (s .entry))) (bitsOf (now (s .entry)) (tiles b))) ⌝ }
-    ensures out { λ r. ⌜ now (out .exit) ≡ placed 0 (blockLines b (tableOf (now (s .entry))) (bitsOf (now (s .entry)) (tiles b)))
+    ensures next { λ r. ⌜ r ≡ 0 + length (blockLines b (tableOf (now (s .entry))) (tilesOfBytes (bitsOf (now (s .entry)) (tiles b)))) ⌝ }
+    ensures out { λ r. ⌜ now (out .exit) ≡ placed 0 (blockLines b (tableOf (now (s .entry))) (tilesOfBytes (bitsOf (now (s .entry)) (tiles b))))
         (now (out .entry)) ⌝ }
 {
-    let end = TILE_NUMBERS * (b.h * b.w) as usize;
+    let n = (b.h * b.w) as usize;
+    let end = TILE_BYTES * n;
+    let last = TILE_NUMBERS * n;
     let mut table = table_room();
-    let mut bits = bits_room();
-    put_frames(s, b, &mut table, &mut bits[..end], out)
+    let mut bytes = bytes_room();
+    let mut words = words_room();
+    put_frames(
+        s,
+        b,
+        &mut table,
+        &mut bytes[..end],
+        &mut words[..last],
+        out,
+    )
 }
 
 // The report of an input: how many bytes it has, at the front of `out`.

@@ -23,7 +23,8 @@ use Rattle.block.specs.DriverMeaning.{FollowNo, FollowSays}
 use Rattle.block.specs.DriverMeaning as following
 use Rattle.block.proofs.MeaningLaws.{build-says}
 use Rattle.block.proofs.DriverMeaningLaws.{follow-says}
-use Rattle.theorem.specs.Calls.{built, followed, settingsRead}
+use Rattle.contention.specs.Entry.{settingsRead}
+use Rattle.theorem.specs.Calls.{built, followed}
 use Rattle.theorem.specs.Order.{at}
 use Rattle.theorem.specs.BlockGrounds.{ListGrounds, BitsGrounds, BuildGrounds, FollowGrounds}
 use Rattle.theorem.proofs.EntryOrder.{no-broken}
@@ -46,14 +47,14 @@ module _ (B : Block) (t bits settings : List ℕ) (room : RoomLent) where
         inr (free, inr (unread, inr (straight, inl (λ clean. clean T (low .within) (low .here), refl, low))))
 
     pub bits-no : Sized B → BuildLong B lent → (refusal : Refusal) → BuildNo B t bits lent refusal
-        → BitsGrounds B t bits st says (numberOf refusal) (placeOf refusal)
+        → BitsGrounds B t (tilesOf bits) st says (numberOf refusal) (placeOf refusal)
     bits-no s L refusal (wrong-size n) = absurd (n s)
     bits-no s L refusal (wrong-length _ n) = absurd (n L)
     bits-no s L refusal (broken part _ _ f) = inl (no-broken t part f, refl, f)
     bits-no s L refusal (undecodable place _ _ rules low) = inr (rules, inl (λ d. d (low .faulty-tile) (low .within) (low .position) (low .faulty), refl, low))
     bits-no s L refusal (unlisted r R n) = inr (R .rules, inr (R .tiles-read .decodable, list-no r n))
 
-    pub bits-yes : Readable B t bits lent → Accepted B t st → (value : ℕ) → says value → BitsGrounds B t bits st says 0 value
+    pub bits-yes : Readable B t bits lent → Accepted B t st → (value : ℕ) → says value → BitsGrounds B t (tilesOf bits) st says 0 value
     bits-yes R A value said =
         inr (
           R .rules,

@@ -63,13 +63,13 @@ module _ (A B : Size) (table first second list before after : List ℕ) where
 
   -- no tile has a position at fault
   clean-all : (bits : List ℕ) → TableRules logicTile table → leb (logicTile .positions * n) (faultPlace table (tilesOf bits) n) ≡ true
-      → AllDecodable table bits n
+      → AllDecodable table (tilesOf bits) n
   clean-all bits rules e = no-fault-decodable table bits rules n (leb-true _ _ e)
 
-  faulted : (bits : List ℕ) {place : ℕ} → LowestFault table (tilesOf bits) n place → AllDecodable table bits n → ⊥
+  faulted : (bits : List ℕ) {place : ℕ} → LowestFault table (tilesOf bits) n place → AllDecodable table (tilesOf bits) n → ⊥
   faulted bits low d = d (low .faulty-tile) (low .within) (low .position) (low .faulty)
 
-  needed : TableRules logicTile table → AllDecodable table first n → AllDecodable table second n → RowsNeeded table old new n (differenceCount old new n)
+  needed : TableRules logicTile table → AllDecodable table (tilesOf first) n → AllDecodable table (tilesOf second) n → RowsNeeded table old new n (differenceCount old new n)
   needed rules d d' = record {
     list = comparedList A table (tilesOf first) (tilesOf second) (rowLength * differenceCount old new n);
     listed = differences-listed table (tilesOf first) (tilesOf second) old new n rules (decoded-reads table first n rules d)
@@ -94,10 +94,10 @@ module _ (A B : Size) (table first second list before after : List ℕ) where
   -- ---- 3 and 4
 
   abbrev SecondGrounds : ℕ → ℕ → Type 0
-  SecondGrounds = Check 4 (AllDecodable table second n) (LowestFault table (tilesOf second) n) RowsGrounds
+  SecondGrounds = Check 4 (AllDecodable table (tilesOf second) n) (LowestFault table (tilesOf second) n) RowsGrounds
 
   abbrev FirstGrounds : ℕ → ℕ → Type 0
-  FirstGrounds = Check 4 (AllDecodable table first n) (LowestFault table (tilesOf first) n) SecondGrounds
+  FirstGrounds = Check 4 (AllDecodable table (tilesOf first) n) (LowestFault table (tilesOf first) n) SecondGrounds
 
   abbrev BitsGrounds : ℕ → ℕ → Type 0
   BitsGrounds = Check 3 (TableRules logicTile table) (FirstBroken logicTile table) FirstGrounds

@@ -14,10 +14,10 @@ use Rattle.contention.specs.declared.ContentionList.the-variants.{Rows, Refused
 use Rattle.contention.specs.declared.lengths.ContentionLent.{ContentionLent}
 use Rattle.contention.specs.Contentions.{rowLength}
 use Rattle.contention.specs.Lengths.{contentionLent}
-use Rattle.contention.specs.Entry.{contentionsNumber, contentionsValue, contentionsList}
+use Rattle.contention.specs.Entry.{contentionsNumber, contentionsValue, contentionsList, settingsRead}
 use Rattle.contention.specs.Meaning.{ContentionsNo, ContentionsSay, wrong-size, wrong-length, broken, undecodable, too-short}
 use Rattle.contention.proofs.MeaningLaws.{contentions-say}
-use Rattle.theorem.specs.Calls.{settingsRead, contended}
+use Rattle.theorem.specs.Calls.{contended}
 use Rattle.theorem.specs.ContentionGrounds.{RowsNeeded, ContentionGrounds}
 use Rattle.theorem.proofs.EntryOrder.{no-broken}
 

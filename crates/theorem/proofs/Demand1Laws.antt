@@ -12,6 +12,7 @@ use Rattle.asc.specs.Area.{areaAt}
 use Rattle.theorem.specs.Demand1.{Demand1}
 use Rattle.theorem.proofs.EntryOrder.{wire-number-order, lookup-order, bit-count-order, read-order, write-order}
 use Rattle.theorem.proofs.CompareOrder.{compare-order, part-order}
+use Rattle.theorem.proofs.FormOrder.{words-order, bytes-order}
 use Rattle.theorem.proofs.FileOrder.{file-read-order, file-length-order, file-write-order}
 use Rattle.theorem.proofs.BlockOrder.{build-order, follow-order}
 use Rattle.theorem.proofs.StepOrder.{step-order}
@@ -38,6 +39,8 @@ demand1 = record {
   file-read = λ S x y. file-read-order (areaAt S x y);
   file-length = λ S x y. file-length-order (areaAt S x y);
   file-write = λ S x y. file-write-order (areaAt S x y);
+  words-of-bytes = words-order;
+  bytes-of-words = bytes-order;
   build = build-order;
   follow = follow-order;
   step = step-order;

@@ -12,7 +12,8 @@ use Rattle.block.specs.Lengths.{buildLent}
 use Rattle.block.specs.Building.{listAnswer}
 use Rattle.block.specs.Meaning.{Readable, ListNo, loop, BuildNo, unlisted}
 use Rattle.block.proofs.MeaningLaws.{build-says}
-use Rattle.theorem.specs.Calls.{built, settingsRead}
+use Rattle.contention.specs.Entry.{settingsRead}
+use Rattle.theorem.specs.Calls.{built}
 use Rattle.theorem.specs.Demand3.{PassesSix, AcceptedBlock, Demand3}
 use Rattle.theorem.proofs.ReadableLaws.{readable-of-four, readable-routed, readable-built}
 use Rattle.theorem.proofs.PassesLaws.{six-exactly}

@@ -36,7 +36,8 @@ use Rattle.block.proofs.RoutedLaws.{routed-of-fit}
 use Rattle.block.proofs.DriverLaws.{port-contended, settings-port, follow-settings}
 use Rattle.block.proofs.MeaningLaws.{list-says, build-says}
 use Rattle.block.proofs.DriverMeaningLaws.{follow-says}
-use Rattle.theorem.specs.Calls.{PassesFour, PassesNine, built, followed, settingsRead}
+use Rattle.contention.specs.Entry.{settingsRead}
+use Rattle.theorem.specs.Calls.{PassesFour, PassesNine, built, followed}
 use Rattle.theorem.proofs.ReadableLaws.{readable-of-four, readable-routed, readable-built}
 
 module _ (B : Block) (t bits settings : List ℕ) (room : RoomLent) where

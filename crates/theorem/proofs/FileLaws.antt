@@ -8,12 +8,13 @@ use Rattle.ports.specs.declared.size.Size.{Size}
 use Rattle.ports.specs.Block.{tileCount}
 use Rattle.config.specs.Blocks.{decoded, encoded, tilesOf}
 use Rattle.config.specs.Entry.{readAnswer, writeAnswer}
-use Rattle.config.proofs.BlocksLaws.{encoded-length, encoded-bytes}
+use Rattle.config.proofs.BlocksLaws.{encoded-length}
+use Rattle.config.proofs.PassedLaws as passed
 use Rattle.config.proofs.RoundTrip.{written-reads}
 use Rattle.asc.specs.Area.{areaAt}
 use Rattle.asc.specs.Content.{written}
 use Rattle.asc.specs.Answers as files
-use Rattle.asc.proofs.ReadLaws.{write-passed}
+use Rattle.asc.proofs.WriteAnswerLaws.{write-passed}
 use Rattle.asc.proofs.RoundTrip.{read-written}
 use Rattle.asc.proofs.AgainLaws.{read-again}
 use Rattle.theorem.specs.Calls.{fileOf}
@@ -21,14 +22,15 @@ use Rattle.theorem.specs.Calls.{fileOf}
 module _ (S : Size) (x y : ℕ) where
   -- settings to bits to a file, and both read back
   pub filed-reads : (table settings bits text : List ℕ) → writeAnswer S table settings (length bits) ≡ Done
-      → files.writeAnswer (areaAt S x y) (length bits) (length text) ≡ Done
+      → files.writeAnswer (areaAt S x y) (encoded table settings (tileCount S)) (length text) ≡ Done
       → (files.readAnswer (areaAt S x y) (fileOf S x y table settings) (length bits) ≡ Done)
       × ((readAnswer S table (files.bitsRead (areaAt S x y) (fileOf S x y table settings)) (length settings) ≡ Done)
       × (decoded table (tilesOf (files.bitsRead (areaAt S x y) (fileOf S x y table settings))) (tileCount S) ≡ settings))
   filed-reads table settings bits text done filed =
-      let p = write-passed (areaAt S x y) (length bits) (length text) filed in
       let e = encoded table settings (tileCount S) in
-      let file = read-written (areaAt S x y) e bits (p .0) (encoded-length table settings (tileCount S)) (encoded-bytes table settings (tileCount S)) (p .1) in
+      let p = write-passed (areaAt S x y) e text filed in
+      let long = passed.write-passed S table settings (length bits) done .lengths .bits-long in
+      let file = read-written (areaAt S x y) e bits (p .0 .right-size) (encoded-length table settings (tileCount S)) (p .1) long in
       let back = written-reads S table settings (length bits) done in (
         file .0,
         (

@@ -1,16 +1,12 @@
 -- The grounds of reading, measuring and writing an ASCII file in their orders. Main laws: `file-read-order`, `file-length-order`, `file-write-order`.
 -- Assumes nothing.
-use Prim.Native.Nat.{ℕ, _*_}
+use Prim.Native.Nat.{ℕ}
 use mathlib.Core.Path.{_≡_, refl, ap}
-use mathlib.Core.Bool.{_&&_}
 use mathlib.Core.Logic.{inl, inr}
 use mathlib.Core.List.{List}
 use native.Mathlib.Omega.{arith}
-use borrow.Author.Tests.{eqb-true, eq-eqb}
-use lib.Dec.{eqb}
 use lib.ListN.{length}
-use Rattle.lists.proofs.CaseLaws.{clash, and-true, equal-and}
-use Rattle.ports.specs.Lengths.{tileNumbers}
+use Rattle.lists.proofs.CaseLaws.{clash}
 use Rattle.refusal.specs.Grounds.{answerNumber, answerValue}
 use Rattle.refusal.specs.Memory.{output}
 use Rattle.refusal.specs.declared.Refusal.{Refusal}
@@ -19,11 +15,13 @@ use Rattle.refusal.specs.declared.Answer.{Answer}
 use Rattle.refusal.specs.declared.Answer.the-variants.{Done, Refused}
 use Rattle.refusal.proofs.GroundsLaws.{unless-cases}
 use Rattle.asc.specs.declared.TextLength.{TextLength}
-use Rattle.asc.specs.Area.{Area, sized, tilesOf}
-use Rattle.asc.specs.Content.{textLength}
+use Rattle.asc.specs.Area.{Area, sized}
 use Rattle.asc.specs.Meaning.{ReadNo, by-size, by-length, by-line, AscSays}
 use Rattle.asc.specs.Answers.{readAnswer, bitsRead, writeAnswer, lengthAnswer, lengthNumber, lengthValue}
+use Rattle.asc.specs.WriteMeaning as writing
+use Rattle.words.proofs.StrayLaws.{fits-no-stray}
 use Rattle.asc.proofs.AnswerLaws.{answer-says}
+use Rattle.asc.proofs.WriteAnswerLaws.{write-says}
 use Rattle.asc.proofs.ExactLaws.{asc-exact}
 use Rattle.theorem.specs.FileGrounds.{FileReadGrounds, FileLengthGrounds, FileWriteGrounds}
 
@@ -68,11 +66,17 @@ module _ (a : Area) (bits text : List ℕ) where
   abbrev WriteOrder : Answer → Type 0
   WriteOrder r = FileWriteGrounds a bits text (answerNumber r) (answerValue r)
 
-  pub file-write-order : WriteOrder (writeAnswer a (length bits) (length text))
-  unfolding writeAnswer
-  file-write-order =
-      unless-cases WriteOrder (sized a) _ _ (λ e. inl (λ t. clash t e, refl, refl))
-      (λ e. unless-cases WriteOrder (eqb (length bits) (tileNumbers * tilesOf a) && eqb (length text) (textLength a)) _ _
-      (λ f. inr (e, inl (λ l. clash (and-true (eq-eqb _ _ (l .0)) (eq-eqb _ _ (l .1))) f, refl, refl)))
-      (λ f. let q = equal-and (length bits) (tileNumbers * tilesOf a) (eqb (length text) (textLength a)) f in
-      inr (e, inr ((q .0, eqb-true (length text) (textLength a) (q .1)), (refl, refl)))))
+  write-no : (refusal : Refusal) → writing.WriteNo a bits (length text) refusal → WriteOrder (Refused refusal)
+  write-no refusal (writing.by-size e) = inl (λ t. clash t e, refl, refl)
+  write-no refusal (writing.by-length s n) =
+      inr (s, inl (λ l. n (record { right-size = s; bits-long = l .0; text-long = l .1 }), refl, refl))
+  write-no refusal (writing.by-stray lent low) =
+      inr (lent .right-size, inr ((lent .bits-long, lent .text-long), inl (λ none. none _ (low .here), refl, low)))
+
+  write-told : (r : Answer) (after : List ℕ) → writing.WriteSays a bits text after r → WriteOrder r
+  write-told Done after z =
+      inr (z .0 .right-size, inr ((z .0 .bits-long, z .0 .text-long), inr (fits-no-stray bits (z .1), (refl, refl))))
+  write-told (Refused refusal) after z = write-no refusal (z .1)
+
+  pub file-write-order : WriteOrder (writeAnswer a bits (length text))
+  file-write-order = write-told (writeAnswer a bits (length text)) _ (write-says a bits text)

@@ -2,6 +2,7 @@
 pub mod Demand1Laws  -- demand1: demand 1, closed
 pub mod EntryOrder  -- the grounds of wire_number, lookup, bit_count, read and write in their orders
 pub mod CompareOrder  -- compare-order, part-order: the grounds of compare and of asking for a tile's part
+pub mod FormOrder  -- words-order, bytes-order: those of both conversions
 pub mod FileOrder  -- those of reading, measuring and writing an ASCII file
 pub mod BlockOrder  -- those of build and follow
 pub mod StepOrder  -- those of step
@@ -11,6 +12,7 @@ pub mod ReportOrder  -- those of a report, with the line that says them
 pub mod OneAnswer  -- check-agrees, bits-agrees: a table of grounds fits one number and place only
 pub mod ReportExact  -- report-exact: only the report says what ReportSays has it say
 pub mod Demand2Laws  -- demand2: demand 2, closed
+pub mod FormsLaws  -- same-forms: bytes and words carry the same settings and answers, closed
 pub mod Demand3Laws  -- demand3: demand 3, closed
 pub mod ReadingLaws  -- reads-exactly, reads-one: when `read` says yes, and that the bits read to one settings only
 pub mod PassesLaws  -- four-exactly, six-exactly: checks pass exactly if `build` gives none of their grounds

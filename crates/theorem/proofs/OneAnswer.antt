@@ -11,7 +11,7 @@ use Rattle.ports.specs.declared.size.Block.{Block}
 use Rattle.ports.specs.Block.{tiles}
 use Rattle.routing.specs.LogicTile.{logicTile}
 use Rattle.routing.specs.Rules.{FirstBroken}
-use Rattle.config.specs.Blocks.{tilesOf}
+use Rattle.words.specs.Forms.{TileBits}
 use Rattle.config.specs.Facts.{LowestFault}
 use Rattle.config.proofs.FaultPlaceLaws.{fault-unique}
 use Rattle.theorem.specs.Order.{Check, Yes}
@@ -49,12 +49,12 @@ one-place k v u a b = a ∙ sym b
 one-broken : (t : List ℕ) → One (FirstBroken logicTile t)
 one-broken t v u a b = one-of v u (λ l. a .broken (b .earlier v l)) (λ l. b .broken (a .earlier u l))
 
-one-fault : (B : Block) (t bits : List ℕ) → One (LowestFault t (tilesOf bits) (tiles B))
-one-fault B t bits = fault-unique t (tilesOf bits) (tiles B)
+one-fault : (B : Block) (t : List ℕ) (tile : ℕ → TileBits) → One (LowestFault t tile (tiles B))
+one-fault B t tile = fault-unique t tile (tiles B)
 
 -- ---- grounds 3 to 8
 
-module _ (B : Block) (t bits st : List ℕ) {C : Type 0} {says says′ : ℕ → Type 0} (one : (v u : ℕ) → says v → says′ u → (v ≡ u) × C) where
+module _ (B : Block) (t : List ℕ) (tile : ℕ → TileBits) (st : List ℕ) {C : Type 0} {says says′ : ℕ → Type 0} (one : (v u : ℕ) → says v → says′ u → (v ≡ u) × C) where
   list-agrees : Agrees C (ListGrounds B t st says) (ListGrounds B t st says′)
   list-agrees =
       check-agrees 5 (λ z. absurd (omega arith)) (λ v u a b. let p = a .least u (b .here) in let q = b .least v (a .here) in omega arith)
@@ -64,7 +64,7 @@ module _ (B : Block) (t bits st : List ℕ) {C : Type 0} {says says′ : ℕ →
       (λ v u a b. let p = a .least u (b .within) (b .here) in let q = b .least v (a .within) (a .here) in omega arith)
       (yes-agrees one))))
 
-  pub bits-agrees : Agrees C (BitsGrounds B t bits st says) (BitsGrounds B t bits st says′)
+  pub bits-agrees : Agrees C (BitsGrounds B t tile st says) (BitsGrounds B t tile st says′)
   bits-agrees =
       check-agrees 3 (λ z. absurd (omega arith)) (one-broken t)
-      (check-agrees 4 (λ z. absurd (omega arith)) (one-fault B t bits) list-agrees)
+      (check-agrees 4 (λ z. absurd (omega arith)) (one-fault B t tile) list-agrees)

@@ -17,7 +17,8 @@ use Rattle.block.specs.Lengths.{buildLent}
 use Rattle.block.specs.Building.{listAnswer}
 use Rattle.block.specs.Meaning.{Readable, ListNo, ListSays, contention, disabled-carry, loop, cell-clock, BuildNo, BuildSays, wrong-size, wrong-length, broken, undecodable, unlisted}
 use Rattle.block.proofs.MeaningLaws.{list-says, build-says}
-use Rattle.theorem.specs.Calls.{PassesFour, Beyond, built, settingsRead}
+use Rattle.contention.specs.Entry.{settingsRead}
+use Rattle.theorem.specs.Calls.{PassesFour, Beyond, built}
 use Rattle.theorem.specs.Demand3.{PassesSix}
 use Rattle.theorem.proofs.ReadableLaws.{readable-of-four, readable-routed, readable-built}
 use Rattle.theorem.proofs.ReadingLaws.{reads-exactly}

@@ -26,7 +26,8 @@ use Rattle.block.specs.Meaning.{Readable}
 use Rattle.block.proofs.LengthLaws.{build-long-exact}
 use Rattle.block.proofs.BuildingLaws.{bits-list, build-bits}
 use Rattle.block.proofs.RoutedLaws.{routed-fits}
-use Rattle.theorem.specs.Calls.{PassesFour, built, settingsRead}
+use Rattle.contention.specs.Entry.{settingsRead}
+use Rattle.theorem.specs.Calls.{PassesFour, built}
 
 module _ (B : Block) (t bits settings : List ℕ) (room : RoomLent) where
   abbrev lent : BuildLent

@@ -8,6 +8,8 @@ use Rattle.lists.proofs.CaseLaws.{eq-or-ne}
 use Rattle.refusal.specs.declared.Refusal.the-variants.{Line}
 use Rattle.ports.specs.declared.size.Block.{Block}
 use Rattle.ports.specs.Block.{block, tiles}
+use Rattle.words.specs.Forms.{tilesOfBytes}
+use Rattle.config.specs.Blocks.{decoded}
 use Rattle.frames.specs.declared.input.Parsed.{Parsed}
 use Rattle.frames.specs.declared.input.Parsed.the-variants as parses
 use Rattle.frames.specs.Contents.{tableOf, bitsOf}
@@ -16,7 +18,6 @@ use Rattle.frames.specs.Meaning.{LineSays, bad-line}
 use Rattle.frames.proofs.ExactLaws.{parsed-exact}
 use Rattle.lines.specs.Lines.{answerLine}
 use Rattle.reporting.specs.Report.{acceptedLines, reportOf}
-use Rattle.theorem.specs.Calls.{settingsRead}
 use Rattle.theorem.specs.Order.{CheckFor}
 use Rattle.theorem.specs.BlockGrounds.{BitsGrounds}
 use Rattle.theorem.specs.ReportGrounds.{Taken, blockTaken, InputGrounds, SizeGiven, ParseGrounds, LinesGrounds, ReportSays}
@@ -61,20 +62,20 @@ module _ (s : List ℕ) where
 
   -- the grounds and the yes of any block
   abbrev st : Block → List ℕ
-  st B = settingsRead B (tableOf s) (bitsOf s (tiles B))
+  st B = decoded (tableOf s) (tilesOfBytes (bitsOf s (tiles B))) (tiles B)
 
   abbrev Given : List ℕ → Block → ℕ → Type 0
   Given report B place = (place ≡ 0) × (report ≡ acceptedLines B (tableOf s) (st B))
 
   abbrev Lines : List ℕ → Block → ℕ → ℕ → Type 0
-  Lines report B = BitsGrounds B (tableOf s) (bitsOf s (tiles B)) (st B) (Given report B)
+  Lines report B = BitsGrounds B (tableOf s) (tilesOfBytes (bitsOf s (tiles B))) (st B) (Given report B)
 
   given-one : (report other : List ℕ) (B : Block) (v u : ℕ) → Given report B v → Given other B u → (v ≡ u) × (report ≡ other)
   given-one report other B v u a b = (a .0 ∙ sym (b .0), a .1 ∙ sym (b .1))
 
   lines-agrees : (report other : List ℕ) (x y : Taken s) → Agrees (report ≡ other) (LinesGrounds report x) (LinesGrounds other y)
   lines-agrees report other x y n v m u a b =
-      bits-agrees (blockTaken x) (tableOf s) (bitsOf s (tiles (blockTaken x))) (st (blockTaken x)) (given-one report other (blockTaken x)) n v m u a
+      bits-agrees (blockTaken x) (tableOf s) (tilesOfBytes (bitsOf s (tiles (blockTaken x)))) (st (blockTaken x)) (given-one report other (blockTaken x)) n v m u a
       (subst (λ (B : Block). Lines other B m u) (sym (one-block x y)) b)
 
   -- ---- the report

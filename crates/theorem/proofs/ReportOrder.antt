@@ -2,6 +2,7 @@
 use Prim.Native.Nat.{ℕ, _*_}
 use mathlib.Core.Path.{_≡_, refl, sym, ap, subst}
 use mathlib.Core.Bool.{true}
+use mathlib.Core.Logic.{_≢_}
 use mathlib.Core.List.{List, [], _++_, append-assoc}
 use native.Mathlib.Omega.{arith}
 use lib.ListN.{length}
@@ -10,8 +11,10 @@ use Rattle.lists.proofs.TableLaws.{zeros-length}
 use Rattle.refusal.specs.Grounds.{numberOf, placeOf}
 use Rattle.ports.specs.declared.size.Block.{Block}
 use Rattle.ports.specs.Block.{Sized, sizeOf, tiles}
-use Rattle.ports.specs.Lengths.{portsPerTile, tableLength, bitsLength, settingsTotal, ports, listLength}
-use Rattle.config.specs.Blocks.{tilesOf}
+use Rattle.ports.specs.Lengths.{portsPerTile, tableLength, bitsLength, bytesLength, settingsTotal, ports, listLength}
+use Rattle.words.specs.Forms.{TileBits, wordsOf}
+use Rattle.words.proofs.FormsLaws.{words-length, tiles-same}
+use Rattle.config.specs.Blocks.{decoded, tilesOf}
 use Rattle.equations.specs.Sources.{sourcesOf}
 use Rattle.block.specs.declared.Built.{Built}
 use Rattle.block.specs.declared.Built.the-variants as builts
@@ -33,7 +36,8 @@ use Rattle.lines.specs.Lines.{answerLine}
 use Rattle.lines.specs.Listing.{switchLines, cellLines}
 use Rattle.reporting.specs.Report.{acceptedLines, builtLines, blockLines, parsedLines, reportOf}
 use Rattle.reporting.proofs.ReportLaws.{small-size}
-use Rattle.theorem.specs.ReportGrounds.{Taken, blockTaken, bitsTaken, settingsTaken, LinesGiven, LinesGrounds, ReportSays}
+use Rattle.theorem.specs.ReportGrounds.{Taken, blockTaken, bytesTaken, tilesTaken, LinesGrounds, ReportSays}
+use Rattle.theorem.specs.BlockGrounds.{BitsGrounds}
 use Rattle.theorem.proofs.BlockOrder.{bits-no, bits-yes}
 use Rattle.theorem.proofs.ParseOrder.{input-no, input-yes}
 
@@ -80,7 +84,7 @@ module _ (s : List ℕ) where
       let h = few .h-few in
       record { w-some = few .w-some; w-few = omega arith; h-some = few .h-some; h-few = omega arith; east-known = east-few s (x .w) (x .h) (x .east) (x .says) }
 
-  lengths-exact : (x : Taken s) → (length (tableOf s) ≡ tableLength) × (length (bitsTaken x) ≡ bitsLength (sizeOf (blockTaken x)))
+  lengths-exact : (x : Taken s) → (length (tableOf s) ≡ tableLength) × (length (bytesTaken x) ≡ bytesLength (sizeOf (blockTaken x)))
   lengths-exact x = (table-long s, bits-long s (tiles (blockTaken x)))
 
   module _ (x : Taken s) where
@@ -90,45 +94,63 @@ module _ (s : List ℕ) where
     abbrev t : List ℕ
     t = tableOf s
 
-    abbrev bits : List ℕ
-    bits = bitsTaken x
+    -- the words of the frames' bytes, which are what is built
+    abbrev words : List ℕ
+    words = wordsOf (tiles B) (bytesTaken x)
+
+    long : BuildLong B (lent B t words)
+    long = lent-long B t words (lengths-exact x .0) (words-length (tiles B) (bytesTaken x))
+
+    -- what a report says behind the frames, for tiles in either form
+    record Said (tile : ℕ → TileBits) (report : List ℕ) : Type 0 where
+      number : ℕ
+      place : ℕ
+      grounds : BitsGrounds B t tile (decoded t tile (tiles B)) (λ (p : ℕ). (p ≡ 0) × (report ≡ acceptedLines B t (decoded t tile (tiles B)))) number place
+      before : List ℕ
+      last-line : report ≡ before ++ answerLine number place
+      only-line : number ≢ 0 → before ≡ []
+
+    abbrev linesFor : (ℕ → TileBits) → List ℕ
+    linesFor tile = builtLines B t (decoded t tile (tiles B)) (buildAnswer B t tile true)
 
     abbrev st : List ℕ
-    st = settingsTaken x
+    st = decoded t (tilesOf words) (tiles B)
 
-    long : BuildLong B (lent B t bits)
-    long = lent-long B t bits (lengths-exact x .0) (lengths-exact x .1)
+    built-said : (r : Built) → BuildSays B t words (lent B t words) r → Said (tilesOf words) (builtLines B t st r)
+    built-said (builts.Listed rows) z = record {
+      number = 0;
+      place = 0;
+      grounds = bits-yes B t words (settingsFor B) (roomFor B) _ (z .0) (z .2) 0 (refl, refl);
+      before = linesBefore B t st;
+      last-line = accepted-last B t st;
+      only-line = λ n. absurd (n refl);
+    }
+    built-said (builts.Refused refusal) z = record {
+      number = numberOf refusal;
+      place = placeOf refusal;
+      grounds = bits-no B t words (settingsFor B) (roomFor B) _ (taken-sized x) long refusal z;
+      before = [];
+      last-line = refl;
+      only-line = λ n. refl;
+    }
 
-    built-report : (r : Built) → BuildSays B t bits (lent B t bits) r → ReportSays s (builtLines B t st r)
-    built-report (builts.Listed rows) z =
-        let all : List ℕ = acceptedLines B t st in
-        record {
-          number = 0;
-          place = 0;
-          grounds = input-yes s (LinesGrounds all) x 0 0 (bits-yes B t bits (settingsFor B) (roomFor B) (LinesGiven all x) (z .0) (z .2) 0 (refl, refl));
-          exact = lengths-exact;
-          before = linesBefore B t st;
-          last-line = accepted-last B t st;
-          only-line = λ n. absurd (n refl);
-        }
-    built-report (builts.Refused refusal) z =
-        let number : ℕ = numberOf refusal in
-        let place : ℕ = placeOf refusal in
-        let line : List ℕ = answerLine number place in
-        record {
-          number = number;
-          place = place;
-          grounds = input-yes s (LinesGrounds line) x number place
-              (bits-no B t bits (settingsFor B) (roomFor B) (LinesGiven line x) (taken-sized x) long refusal z);
-          exact = lengths-exact;
-          before = [];
-          last-line = refl;
-          only-line = λ n. refl;
-        }
+    -- the bytes' tiles are the words' tiles
+    taken-said : Said (tilesTaken x) (linesFor (tilesTaken x))
+    taken-said =
+        subst (λ (tile : ℕ → TileBits). Said tile (linesFor tile)) (tiles-same (tiles B) (bytesTaken x) (lengths-exact x .1))
+        (built-said (buildAnswer B t (tilesOf words) true) (exact-says B t words long))
 
-    taken-report : ReportSays s (blockLines B t bits)
+    taken-report : ReportSays s (blockLines B t (tilesTaken x))
     unfolding blockLines
-    taken-report = built-report (buildAnswer B t (tilesOf bits) true) (exact-says B t bits long)
+    taken-report = record {
+      number = taken-said .number;
+      place = taken-said .place;
+      grounds = input-yes s (LinesGrounds (linesFor (tilesTaken x))) x (taken-said .number) (taken-said .place) (taken-said .grounds);
+      exact = lengths-exact;
+      before = taken-said .before;
+      last-line = taken-said .last-line;
+      only-line = taken-said .only-line;
+    }
 
   parsed-report : (r : Parsed) → parsed s ≡ r → ReportSays s (parsedLines s r)
   parsed-report (parses.Block w h east) e = taken-report (record { w = w; h = h; east = east; says = subst (ParsedSays s) e (parsed-says s) })

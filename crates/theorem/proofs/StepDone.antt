@@ -28,7 +28,8 @@ use Rattle.sim.proofs.ByteLaws.{joined-of-bits}
 use Rattle.sim.proofs.LengthLaws.{step-long-exact}
 use Rattle.sim.proofs.MeaningLaws.{step-says}
 use Rattle.sim.proofs.StepLaws.{run-done, inputs-run, step-inputs}
-use Rattle.theorem.specs.Calls.{settingsRead, listBuilt, stepped, valuesStepped, stateStepped}
+use Rattle.contention.specs.Entry.{settingsRead}
+use Rattle.theorem.specs.Calls.{listBuilt, stepped, valuesStepped, stateStepped}
 use Rattle.theorem.specs.Choice.{StepInputs, StepMeans}
 use Rattle.theorem.proofs.ReadableLaws.{settings-fit, readable-routed}
 use Rattle.theorem.proofs.AcceptedLaws.{own-passes, step-means}

@@ -8,6 +8,7 @@ use Rattle.ports.specs.Lengths.{portsPerTile, ports, stateLength}
 use Rattle.fabric.specs.Count.{wires}
 use Rattle.routing.specs.LogicTile.{logicTile}
 use Rattle.routing.specs.Rules.{TableRules, FirstBroken}
+use Rattle.words.specs.Forms.{TileBits}
 use Rattle.config.specs.Blocks.{tilesOf}
 use Rattle.config.specs.Facts.{LowestFault, LowestBitless}
 use Rattle.netlist.specs.Running.{Bits}
@@ -39,11 +40,11 @@ ListGrounds B t st says =
     (Check 8 (NoCellClock B t st) (LowestFromCell B t st)
     (Yes says))))
 
--- grounds 3 to 8, of what has the exact lengths; `settings` is what the bits read to
-abbrev pub BitsGrounds : Block → (table bits settings : List ℕ) → (says : ℕ → Type 0) → ℕ → ℕ → Type 0
-BitsGrounds B t bits settings says =
+-- grounds 3 to 8, of what has the exact lengths; `settings` is what the tiles read to
+abbrev pub BitsGrounds : Block → List ℕ → (ℕ → TileBits) → (settings : List ℕ) → (says : ℕ → Type 0) → ℕ → ℕ → Type 0
+BitsGrounds B t tile settings says =
     Check 3 (TableRules logicTile t) (FirstBroken logicTile t)
-    (Check 4 (AllDecodable t bits (tiles B)) (LowestFault t (tilesOf bits) (tiles B))
+    (Check 4 (AllDecodable t tile (tiles B)) (LowestFault t tile (tiles B))
     (ListGrounds B t settings says))
 
 -- "building 1 to 8"; a yes has the number of wires
@@ -51,7 +52,7 @@ abbrev pub BuildGrounds : Block → (table bits settings : List ℕ) → BuildLe
 BuildGrounds B t bits settings lent =
     Check 1 (Sized B) at0
     (Check 2 (BuildLong B lent) at0
-    (BitsGrounds B t bits settings (at (wires B))))
+    (BitsGrounds B t (tilesOf bits) settings (at (wires B))))
 
 -- "following a driver 1, 2, 3, 9, 5, 20", place "that number, a tile's first"; a yes has the wire where it ends
 abbrev pub FollowGrounds : Block → (table settings : List ℕ) → (tile port : ℕ) → FollowLent → ℕ → ℕ → Type 0

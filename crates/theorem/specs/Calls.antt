@@ -1,5 +1,5 @@
 -- What the calls answer and write, over what is lent to them: the clauses of their contracts, with a name each.
---   built == what `build` answers        settingsRead == what a yes of `read` writes      listBuilt == what a yes of `build` writes
+--   built == what `build` answers        listBuilt == what a yes of `build` writes; settingsRead of `contention` == what a yes of `read` writes
 --   followed == what `follow` answers    stepped == what `step` answers                    compared == what `compare` answers
 --   contended == what `contentions` answers
 --   valuesStepped, stateStepped == what a yes of `step` writes
@@ -34,7 +34,7 @@ use Rattle.block.specs.Building.{buildAnswer}
 use Rattle.block.specs.Drivers.{followAnswer}
 use Rattle.contention.specs.declared.ContentionList.{ContentionList}
 use Rattle.contention.specs.Lengths.{contentionLent, contentionExact}
-use Rattle.contention.specs.Entry.{contentionsAnswer}
+use Rattle.contention.specs.Entry.{contentionsAnswer, settingsRead}
 use Rattle.stepper.specs.Settling.{settledBy, portValues}
 use Rattle.stepper.specs.Clocking.{nextStates}
 use Rattle.sim.specs.declared.lengths.StepRoomLent.{StepRoomLent}
@@ -60,9 +60,6 @@ pub record PassesFour (B : Block) (table bits settings : List ℕ) (room : RoomL
 abbrev pub compared : (A B : Size) → (table first second list before after : List ℕ) → Compared
 compared A B table first second list before after =
     compareAnswer A B table (tilesOf first) (tilesOf second) (compareExact A (compareLent table first second before after)) (length list)
-
-abbrev pub settingsRead : Block → (table bits : List ℕ) → List ℕ
-settingsRead B table bits = decoded table (tilesOf bits) (tiles B)
 
 -- the ASCII file, at corner x, y, of the bits that a yes of `write` writes for these settings
 abbrev pub fileOf : Size → (x y : ℕ) → (table settings : List ℕ) → List ℕ

@@ -32,8 +32,8 @@ CompareGrounds A B table first second old new lent list =
     (Check 14 (SameSize A B) at0
     (Check 2 (CompareLong A lent) at0
     (Check 3 (TableRules logicTile table) (FirstBroken logicTile table)
-    (Check 4 (AllDecodable table first (tileCount A)) (LowestFault table (tilesOf first) (tileCount A))
-    (Check 4 (AllDecodable table second (tileCount A)) (LowestFault table (tilesOf second) (tileCount A))
+    (Check 4 (AllDecodable table (tilesOf first) (tileCount A)) (LowestFault table (tilesOf first) (tileCount A))
+    (Check 4 (AllDecodable table (tilesOf second) (tileCount A)) (LowestFault table (tilesOf second) (tileCount A))
     (Check 15 ((rows : ℕ) → RowsNeeded table old new (tileCount A) rows → rowLength * rows ≤ length list) (RowsNeeded table old new (tileCount A))
     (Yes (RowsNeeded table old new (tileCount A))))))))))
 

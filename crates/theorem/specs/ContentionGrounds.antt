@@ -25,6 +25,6 @@ ContentionGrounds B t bits settings lent list =
     Check 1 (Sized B) at0
     (Check 2 (ContentionLong B lent) at0
     (Check 3 (TableRules logicTile t) (FirstBroken logicTile t)
-    (Check 4 (AllDecodable t bits (tiles B)) (LowestFault t (tilesOf bits) (tiles B))
+    (Check 4 (AllDecodable t (tilesOf bits) (tiles B)) (LowestFault t (tilesOf bits) (tiles B))
     (Check 15 ((rows : ℕ) → RowsNeeded B t settings rows → rowLength * rows ≤ list) (RowsNeeded B t settings)
     (Yes (RowsNeeded B t settings))))))

@@ -24,16 +24,18 @@ use Rattle.block.specs.Lengths.{buildLent, followLent}
 use Rattle.block.specs.Building.{builtNumber, builtValue}
 use Rattle.block.specs.Drivers.{followedNumber, followedValue}
 use Rattle.contention.specs.Lengths.{contentionLent}
-use Rattle.contention.specs.Entry.{contentionsNumber, contentionsValue}
+use Rattle.contention.specs.Entry.{contentionsNumber, contentionsValue, settingsRead}
 use Rattle.sim.specs.declared.lengths.StepRoomLent.{StepRoomLent}
 use Rattle.sim.specs.Lengths.{inputsLent, stepLent}
+use Rattle.words.specs.Answers.{wordsAnswer, bytesAnswer}
 use Rattle.asc.specs.Area.{areaAt}
 use Rattle.asc.specs.Answers as files
 use Rattle.frames.specs.Input.{parsed, parsedNumber, parsedPlace}
 use Rattle.reporting.specs.Report.{reportOf}
-use Rattle.theorem.specs.Calls.{built, followed, stepped, contended, settingsRead, compared}
+use Rattle.theorem.specs.Calls.{built, followed, stepped, contended, compared}
 use Rattle.theorem.specs.EntryGrounds.{WireGrounds, LookupGrounds, CountGrounds, ReadGrounds, WriteGrounds}
 use Rattle.theorem.specs.CompareGrounds.{CompareGrounds, PartGrounds}
+use Rattle.theorem.specs.FormGrounds.{WordsGrounds, BytesGrounds}
 use Rattle.theorem.specs.FileGrounds.{FileReadGrounds, FileLengthGrounds, FileWriteGrounds}
 use Rattle.theorem.specs.BlockGrounds.{BuildGrounds, FollowGrounds, StepGrounds}
 use Rattle.theorem.specs.ContentionGrounds.{ContentionGrounds}
@@ -64,8 +66,12 @@ pub record Demand1 : Type 0 where
   pub file-length : (S : Size) (x y : ℕ)
       → FileLengthGrounds (areaAt S x y) (files.lengthNumber (files.lengthAnswer (areaAt S x y))) (files.lengthValue (files.lengthAnswer (areaAt S x y)))
   pub file-write : (S : Size) (x y : ℕ) (bits text : List ℕ)
-      → FileWriteGrounds (areaAt S x y) bits text (answerNumber (files.writeAnswer (areaAt S x y) (length bits) (length text)))
-      (answerValue (files.writeAnswer (areaAt S x y) (length bits) (length text)))
+      → FileWriteGrounds (areaAt S x y) bits text (answerNumber (files.writeAnswer (areaAt S x y) bits (length text)))
+      (answerValue (files.writeAnswer (areaAt S x y) bits (length text)))
+  pub words-of-bytes : (S : Size) (bytes words : List ℕ)
+      → WordsGrounds S bytes words (answerNumber (wordsAnswer S (length bytes) (length words))) (answerValue (wordsAnswer S (length bytes) (length words)))
+  pub bytes-of-words : (S : Size) (words bytes : List ℕ)
+      → BytesGrounds S words bytes (answerNumber (bytesAnswer S words (length bytes))) (answerValue (bytesAnswer S words (length bytes)))
   pub build : (B : Block) (table bits settings : List ℕ) (room : RoomLent)
       → BuildGrounds B table bits (settingsRead B table bits) (buildLent table bits settings room)
       (builtNumber (built B table bits settings room)) (builtValue (built B table bits settings room))

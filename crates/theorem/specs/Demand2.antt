@@ -16,7 +16,6 @@ use Rattle.ports.specs.Lengths.{portsPerTile, settingsTotal}
 use Rattle.fabric.specs.declared.WireNumber.the-variants.{Wire}
 use Rattle.fabric.specs.Joins.{Linked, Lowest}
 use Rattle.fabric.specs.WireNumber.{wireNumber}
-use Rattle.codec.specs.Bits.{Bytes}
 use Rattle.codec.specs.Reading.{Decodable, ReadsTo}
 use Rattle.config.specs.Blocks.{settingsAt, tilesOf, decoded, encoded}
 use Rattle.config.specs.Entry.{readAnswer, writeAnswer}
@@ -29,7 +28,8 @@ use Rattle.equations.specs.Switches.{Contention, LowestContention}
 use Rattle.block.specs.declared.Built.the-variants as builts
 use Rattle.block.specs.declared.Followed.the-variants as followeds
 use Rattle.block.specs.declared.lengths.RoomLent.{RoomLent}
-use Rattle.theorem.specs.Calls.{PassesFour, PassesNine, Beyond, built, followed, settingsRead, fileOf}
+use Rattle.contention.specs.Entry.{settingsRead}
+use Rattle.theorem.specs.Calls.{PassesFour, PassesNine, Beyond, built, followed, fileOf}
 
 pub record Demand2 : Type 0 where
   -- "Settings are read as the IceStorm tile documents and the lent routing table say": what each answer of `read` says of bits and settings; a yes
@@ -45,14 +45,14 @@ pub record Demand2 : Type 0 where
   pub written-reads : (S : Size) (table settings : List ℕ) (bits : ℕ) → writeAnswer S table settings bits ≡ Done
       → (readAnswer S table (encoded table settings (tileCount S)) (length settings) ≡ Done)
       × (decoded table (tilesOf (encoded table settings (tileCount S))) (tileCount S) ≡ settings)
-  -- "and bits that were read are written back the same." `Bytes` is what a lent &[u8] is: each number is below 256.
-  pub read-writes : (S : Size) (table bits : List ℕ) (settings : ℕ) → Bytes bits → readAnswer S table bits settings ≡ Done
+  -- "and bits that were read are written back the same": over words, of which a yes of `read` has found no set bit past a row's columns
+  pub read-writes : (S : Size) (table bits : List ℕ) (settings : ℕ) → readAnswer S table bits settings ≡ Done
       → (writeAnswer S table (decoded table (tilesOf bits) (tileCount S)) (length bits) ≡ Done)
       × (encoded table (decoded table (tilesOf bits) (tileCount S)) (tileCount S) ≡ bits)
   -- document 02, W1: "A written file read back at its corner and size gives the same block. Demand 2 then covers this route to the bits as well":
   -- settings that are written to bits, and these to a file, are the same when both are read back; and a file that was read, and is written, reads the same
   pub filed-reads : (S : Size) (x y : ℕ) (table settings bits text : List ℕ) → writeAnswer S table settings (length bits) ≡ Done
-      → files.writeAnswer (areaAt S x y) (length bits) (length text) ≡ Done
+      → files.writeAnswer (areaAt S x y) (encoded table settings (tileCount S)) (length text) ≡ Done
       → (files.readAnswer (areaAt S x y) (fileOf S x y table settings) (length bits) ≡ Done)
       × ((readAnswer S table (files.bitsRead (areaAt S x y) (fileOf S x y table settings)) (length settings) ≡ Done)
       × (decoded table (tilesOf (files.bitsRead (areaAt S x y) (fileOf S x y table settings))) (tileCount S) ≡ settings))

@@ -15,7 +15,8 @@ use Rattle.block.specs.Meaning.{NoDisabledCarry}
 use Rattle.stepper.specs.Settling.{settledBy}
 use Rattle.sim.specs.declared.lengths.StepRoomLent.{StepRoomLent}
 use Rattle.sim.specs.Lengths.{StepRoomLong}
-use Rattle.theorem.specs.Calls.{PassesFour, Beyond, built, settingsRead, listBuilt, stepped, valuesStepped, stateStepped}
+use Rattle.contention.specs.Entry.{settingsRead}
+use Rattle.theorem.specs.Calls.{PassesFour, Beyond, built, listBuilt, stepped, valuesStepped, stateStepped}
 use Rattle.theorem.specs.Choice.{OnlyChoice, StepMeans, StepInputs}
 use Rattle.theorem.specs.Listing.{Listing}
 

@@ -12,6 +12,7 @@ use Rattle.ports.specs.Lengths.{portsPerTile, bitsLength}
 use Rattle.fabric.specs.Joins.{Lowest}
 use Rattle.routing.specs.LogicTile.{logicTile}
 use Rattle.routing.specs.Rules.{TableRules, FirstBroken}
+use Rattle.words.specs.Forms.{TileBits}
 use Rattle.codec.specs.Bits.{bitCount, bitAt}
 use Rattle.codec.specs.Reading.{Decodable, HasBits}
 use Rattle.config.specs.Blocks.{bitsAt, settingsAt, tilesOf}
@@ -19,8 +20,8 @@ use Rattle.config.specs.Facts.{ExactLengths, LowestFault, LowestBitless}
 use Rattle.theorem.specs.Order.{Check, Yes, at, at0}
 
 -- each of n tiles can be decoded; some bits have the settings of each
-abbrev pub AllDecodable : (table bits : List ℕ) → ℕ → Type 0
-AllDecodable table bits n = (T : ℕ) → T < n → Decodable table (tilesOf bits T)
+abbrev pub AllDecodable : List ℕ → (ℕ → TileBits) → ℕ → Type 0
+AllDecodable table tile n = (T : ℕ) → T < n → Decodable table (tile T)
 
 abbrev pub AllHaveBits : (table settings : List ℕ) → ℕ → Type 0
 AllHaveBits table settings n = (T : ℕ) → T < n → HasBits table (settingsAt settings T)
@@ -53,7 +54,7 @@ ReadGrounds S table bits settings =
     Check 1 (Allowed S) at0
     (Check 2 (ExactLengths S (length table) (length bits) (length settings)) at0
     (Check 3 (TableRules logicTile table) (FirstBroken logicTile table)
-    (Check 4 (AllDecodable table bits (tileCount S)) (LowestFault table (tilesOf bits) (tileCount S))
+    (Check 4 (AllDecodable table (tilesOf bits) (tileCount S)) (LowestFault table (tilesOf bits) (tileCount S))
     (Yes at0))))
 
 -- "writing bits 1, 2, 3, 9"

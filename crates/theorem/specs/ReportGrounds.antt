@@ -10,16 +10,17 @@ use mathlib.Core.List.{List, [], _++_}
 use lib.ListN.{length}
 use Rattle.ports.specs.declared.size.Block.{Block}
 use Rattle.ports.specs.Block.{block, sizeOf, tiles}
-use Rattle.ports.specs.Lengths.{tableLength, bitsLength}
+use Rattle.ports.specs.Lengths.{tableLength, bytesLength}
 use Rattle.texts.specs.Pieces.{Stands}
 use Rattle.frames.specs.declared.input.Parsed.{Parsed}
 use Rattle.frames.specs.declared.input.Parsed.the-variants as parses
 use Rattle.frames.specs.Frames.{Frame, line, Proper}
+use Rattle.words.specs.Forms.{TileBits, tilesOfBytes}
+use Rattle.config.specs.Blocks.{decoded}
 use Rattle.frames.specs.Contents.{tableOf, bitsOf}
 use Rattle.frames.specs.Meaning.{with-groups, tiles-left, Turn, Sized, Begins, LineSays, BlockSays}
 use Rattle.lines.specs.Lines.{answerLine}
 use Rattle.reporting.specs.Report.{acceptedLines}
-use Rattle.theorem.specs.Calls.{settingsRead}
 use Rattle.theorem.specs.Order.{Check, CheckFor, Yes, at0}
 use Rattle.theorem.specs.BlockGrounds.{BitsGrounds}
 
@@ -47,15 +48,18 @@ pub record Taken (s : List ℕ) : Type 0 where
   pub east : ℕ
   pub says : BlockSays s w h east
 
--- the block, the bits and the settings of the frames that were taken
+-- the block, the bytes, the tiles and the settings of the frames that were taken: the bytes stay "at the file edge" (document 02, W7)
 abbrev pub blockTaken : {s : List ℕ} → Taken s → Block
 blockTaken x = block (x .w) (x .h) (x .east)
 
-abbrev pub bitsTaken : {s : List ℕ} → Taken s → List ℕ
-bitsTaken {s} x = bitsOf s (tiles (blockTaken x))
+abbrev pub bytesTaken : {s : List ℕ} → Taken s → List ℕ
+bytesTaken {s} x = bitsOf s (tiles (blockTaken x))
+
+abbrev pub tilesTaken : {s : List ℕ} → Taken s → ℕ → TileBits
+tilesTaken x = tilesOfBytes (bytesTaken x)
 
 abbrev pub settingsTaken : {s : List ℕ} → Taken s → List ℕ
-settingsTaken {s} x = settingsRead (blockTaken x) (tableOf s) (bitsTaken x)
+settingsTaken {s} x = decoded (tableOf s) (tilesTaken x) (tiles (blockTaken x))
 
 -- "Programs give 11 as met, also for a count over its limit, and 1 on reading the block frame": 11 of the lines up to the block frame, then 1, then 11 of
 -- the lines behind it. The place of 11 is the "line, from 1 (one past the last if missing)".
@@ -78,7 +82,7 @@ LinesGiven {s} report x place = (place ≡ 0) × (report ≡ acceptedLines (bloc
 
 -- "The report program reads standard input and builds.": 3 to 8 as building gives them. 1 has passed, and 2 is not given (`exact` of `ReportSays`).
 abbrev pub LinesGrounds : {s : List ℕ} → (report : List ℕ) → Taken s → ℕ → ℕ → Type 0
-LinesGrounds {s} report x = BitsGrounds (blockTaken x) (tableOf s) (bitsTaken x) (settingsTaken x) (LinesGiven report x)
+LinesGrounds {s} report x = BitsGrounds (blockTaken x) (tableOf s) (tilesTaken x) (settingsTaken x) (LinesGiven report x)
 
 abbrev pub ReportGrounds : (s report : List ℕ) → ℕ → ℕ → Type 0
 ReportGrounds s report = InputGrounds s (LinesGrounds report)
@@ -89,7 +93,7 @@ pub record ReportSays (s report : List ℕ) : Type 0 where
   pub place : ℕ
   pub grounds : ReportGrounds s report number place
   -- why 2 is not among them: table and bits have the lengths that building asks for
-  pub exact : (x : Taken s) → (length (tableOf s) ≡ tableLength) × (length (bitsTaken x) ≡ bitsLength (sizeOf (blockTaken x)))
+  pub exact : (x : Taken s) → (length (tableOf s) ≡ tableLength) × (length (bytesTaken x) ≡ bytesLength (sizeOf (blockTaken x)))
   -- "08 is number and place": the last line says them
   pub before : List ℕ
   pub last-line : report ≡ before ++ answerLine number place

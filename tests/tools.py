@@ -78,6 +78,13 @@ def contents(path):
         return file.read()
 
 
+def frames_of(name, east, bits):
+    """A bundled input with other bits."""
+    head = contents(data(name + '.in')).split('\n04')[0]
+    w, h, *_ = library.blocks()[name]
+    return head + '\n04%02X%02X%02X\n' % (w, h, east) + ''.join('05%s\n' % bits[108 * t:108 * t + 108].hex().upper() for t in range(w * h))
+
+
 # ---- files to frames
 
 def check_tables(folder):

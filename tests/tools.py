@@ -80,9 +80,8 @@ def contents(path):
 
 def frames_of(name, east, bits):
     """A bundled input with other bits."""
-    head = contents(data(name + '.in')).split('\n04')[0]
-    w, h, *_ = library.blocks()[name]
-    return head + '\n04%02X%02X%02X\n' % (w, h, east) + ''.join('05%s\n' % bits[108 * t:108 * t + 108].hex().upper() for t in range(w * h))
+    head, rest = contents(data(name + '.in')).split('\n04')
+    return head + '\n04%s%02X\n' % (rest[:4], east) + ''.join('05%s\n' % bits[at:at + 108].hex().upper() for at in range(0, len(bits), 108))
 
 
 # ---- files to frames

@@ -102,7 +102,8 @@ def with_settings(w, h, table, bits, many):
     for _ in range(many):
         t, g = model.SETTINGS * random.randrange(w * h), random.randrange(len(groups))
         at, value = random.choice(((t + random.randrange(2), random.randrange(2)), (t + 67 + g, random.randint(0, len(groups[g].entries))),
-                                   (t + 579 + 2 * random.randrange(8), random.randrange(65536)), (t + 580 + 2 * random.randrange(8), random.randrange(16)),
+                                   (t + 579 + 2 * random.randrange(8), random.randrange(65536)),
+                                   (t + 580 + 2 * random.randrange(8), random.randrange(16)),
                                    (t + 3 + random.randrange(table[3] or 1), random.randrange(2))))
         settings[at] = value
     written = model.write(w, h, table, settings)
@@ -151,7 +152,8 @@ def icebox_tiles(folder):
     """The logic tiles that icebox_diff names, of the two files that were asked for last; None where it is not there."""
     if not shutil.which('icebox_diff'):
         return None
-    text = subprocess.run(['icebox_diff', os.path.join(folder, 'old'), os.path.join(folder, 'new')], check=True, stdout=subprocess.PIPE, universal_newlines=True).stdout
+    command = ['icebox_diff', os.path.join(folder, 'old'), os.path.join(folder, 'new')]
+    text = subprocess.run(command, check=True, stdout=subprocess.PIPE, universal_newlines=True).stdout
     return {(int(x), int(y)) for x, y in re.findall(r'^[ +-] \.logic_tile (\d+) (\d+)$', text, re.MULTILINE)}
 
 

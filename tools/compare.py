@@ -115,7 +115,8 @@ def from_frames(paths, corner):
         with about(path):
             check_size(*each.size)
     if old.size != new.size:
-        raise Mistake('ground 14, the sizes differ: %s is of %d by %d tiles, %s of %d by %d' % (file_name(paths[0]), *old.size, file_name(paths[1]), *new.size))
+        raise Mistake('ground 14, the sizes differ: %s is of %d by %d tiles, %s of %d by %d'
+                      % (file_name(paths[0]), *old.size, file_name(paths[1]), *new.size))
     if old.table != new.table:
         raise Mistake('the routing tables differ: settings can be compared under one table alone')
     if old.east != new.east:

@@ -22,6 +22,7 @@ sys.path.insert(0, os.path.dirname(os.path.abspath(__file__)))
 import asc_model  # noqa: E402
 import library  # noqa: E402
 import model  # noqa: E402
+from bits_model import flipped  # noqa: E402
 from contentions import unclaimed  # noqa: E402
 from icebox import make  # noqa: E402
 from library import ROOT, Count, blocks  # noqa: E402
@@ -78,9 +79,9 @@ def expected(size, table, old, new, corner=(0, 0)):
 
 
 def logic_tiles(text):
-    """The bytes of every logic tile of a design, by coordinates, row by row from the south."""
+    """The words of every logic tile of a design, by coordinates, row by row from the south."""
     found = re.findall(r'^\.logic_tile (\d+) (\d+)\n((?:[01]{54}\n){16})', text, re.MULTILINE)
-    tiles = {(int(x), int(y)): asc_model.packed(rows.encode().split()) for x, y, rows in found}
+    tiles = {(int(x), int(y)): tuple(asc_model.words_of_rows(rows.encode().split())) for x, y, rows in found}
     return {at: tiles[at] for at in sorted(tiles, key=lambda at: (at[1], at[0]))}
 
 
@@ -107,7 +108,7 @@ def with_settings(w, h, table, bits, many):
                                    (t + 3 + random.randrange(table[3] or 1), random.randrange(2))))
         settings[at] = value
     written = model.write(w, h, table, settings)
-    return bits if isinstance(written, tuple) else bytes(written)
+    return bits if isinstance(written, tuple) else written
 
 
 def pairs(whole):
@@ -116,8 +117,8 @@ def pairs(whole):
         if one[:2] == other[:2] and one[3] == other[3]:
             yield name, one[4], other[4]
     for name, (w, h, _, table, bits) in whole.items():
-        yield name, bits, bytes(len(bits))
-        yield name, bytes(len(bits)), bits
+        yield name, bits, [0] * len(bits)
+        yield name, [0] * len(bits), bits
         for many in (1, 3, 30):
             yield name, bits, with_settings(w, h, table, bits, many)
 
@@ -140,8 +141,8 @@ def check_frames(reader):
             got = ask(reader, folder, frames_of(name, 0, old), frames_of(name, 0, new))
             count.same(got, (*expected((w, h), table, old, new), listed_by(reader) + '\n'), name)
         w, h, _, table, bits = whole['uart_tx_3x3']
-        got = ask(reader, folder, frames_of('uart_tx_3x3', 0, bits), frames_of('uart_tx_3x3', 1, bytes(len(bits))), '--corner', 5, 10)
-        count.same(got[:2], expected((w, h), table, bits, bytes(len(bits)), (5, 10)), 'a corner')
+        got = ask(reader, folder, frames_of('uart_tx_3x3', 0, bits), frames_of('uart_tx_3x3', 1, [0] * len(bits)), '--corner', 5, 10)
+        count.same(got[:2], expected((w, h), table, bits, [0] * len(bits), (5, 10)), 'a corner')
         count.same(got[2].splitlines()[0].startswith('note: the byte for the column to the east differs'), True, 'the byte for the east')
     return count.done()
 
@@ -188,7 +189,7 @@ def check_blocks(reader):
     return count.done()
 
 
-def flipped(text, tiles, table, first):
+def with_flips(text, tiles, table, first):
     """A design with one bit of each logic tile flipped, such that the tile can still be decoded: one of the first positions, if any will do."""
     for at in tiles:
         start = text.index('.logic_tile %d %d\n' % at)
@@ -218,7 +219,7 @@ def check_flips(reader):
     kinds = set()
     with tempfile.TemporaryDirectory() as folder:
         for k, first in enumerate((table[:3] + table[4:4 + table[3]], [], [])):
-            rows = check_chip(count, reader, folder, text, flipped(text, tiles, table, first), '1k', k, peer=k == 0)
+            rows = check_chip(count, reader, folder, text, with_flips(text, tiles, table, first), '1k', k, peer=k == 0)
             count.same([row[0] for row in rows], list(tiles), k)
             kinds.update(row[1] for row in rows)
     count.same(kinds, {1, 2, 3, 4}, 'kinds of rows')
@@ -252,8 +253,8 @@ def mistakes(folder):
     """Words for the tool that it cannot answer, with its standard input and a part of what it says."""
     whole, tab = contents(data('counter8_2x2.in')), data('1k.tab')
     *_, table, bits = blocks()['counter8_2x2']
-    stray, p = bytearray(bits), unclaimed(table)[0]
-    stray[108 * 3 + p // 8] |= 1 << p % 8
+    p = unclaimed(table)[0]
+    faulty = flipped(bits, [864 * 3 + p])
     lines = whole.splitlines(keepends=True)
     broken = ''.join([lines[0][:2] + lines[0][6:10] * 2 + lines[0][10:]] + lines[1:])
     undecodable = 'ground 4, tile (1,1) cannot be decoded: B%d[%d]: set, and nothing claims it' % divmod(p, 54)
@@ -261,8 +262,8 @@ def mistakes(folder):
     yield [path, '-'], '', 'standard input, line 1'
     yield ['-', path], whole[:-1], 'line end'
     yield [path, '-'], ''.join(lines[:-1]), 'ends before it'
-    yield [path, '-'], frames_of('counter8_2x2', 0, bytes(stray)), 'standard input: ' + undecodable
-    yield ['-', path], frames_of('counter8_2x2', 0, bytes(stray)), 'standard input: ' + undecodable
+    yield [path, '-'], frames_of('counter8_2x2', 0, faulty), 'standard input: ' + undecodable
+    yield ['-', path], frames_of('counter8_2x2', 0, faulty), 'standard input: ' + undecodable
     yield [path, '-'], broken, 'the routing tables differ'
     yield [path, data('uart_tx_3x3.in')], '', 'ground 14, the sizes differ: %s is of 2 by 2 tiles, %s of 3 by 3' % (path, data('uart_tx_3x3.in'))
     yield [path, '-'], whole.replace('\n040202', '\n040209'), 'standard input: a block of 2 by 9: W and H are 1 to 8'
@@ -282,15 +283,15 @@ def mistakes(folder):
     yield [*design, '--table', os.path.join(folder, 'missing')], '', 'No such file'
     yield [design[0], '-', '--table', tab], '', 'standard input: '
     yield [design[0], '-', '--table', tab], contents(design[1]).replace('.device 1k', '.device 384'), 'standard input: the design is for a 384'
-    yield [design[0], '-', '--table', tab], asc_model.text_of(1, 1, 5, 6, bytes(108)).decode(), 'is a logic tile of %s alone' % design[0]
-    yield ['-', design[0], '--table', tab], asc_model.text_of(1, 1, 5, 6, bytes(108)).decode(), 'is a logic tile of %s alone' % design[0]
+    yield [design[0], '-', '--table', tab], asc_model.text_of(1, 1, 5, 6, [0] * model.WORDS).decode(), 'is a logic tile of %s alone' % design[0]
+    yield ['-', design[0], '--table', tab], asc_model.text_of(1, 1, 5, 6, [0] * model.WORDS).decode(), 'is a logic tile of %s alone' % design[0]
     yield [other, '-', '--table', data('8k.tab')], eight('5k'), 'the devices differ: %s is for a 8k, standard input for a 5k' % other
     yield [other, '-', '--table', data('8k.tab'), '--device', '8k'], eight('5k'), 'the table for a 8k'
 
 
 def eight(device):
     """A design of one empty tile for another device."""
-    return asc_model.text_of(1, 1, 5, 6, bytes(108)).decode().replace('.device 1k', '.device ' + device)
+    return asc_model.text_of(1, 1, 5, 6, [0] * model.WORDS).decode().replace('.device 1k', '.device ' + device)
 
 
 def check_mistakes(reader):

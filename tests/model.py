@@ -10,7 +10,6 @@ import heapq
 import os
 import re
 import sys
-from array import array
 
 sys.path.insert(0, os.path.dirname(os.path.abspath(__file__)))
 from bits_model import BYTES, COLUMNS, WORDS, bit, bytes_of, size_wrong, strays, words_of  # noqa: E402
@@ -89,13 +88,14 @@ class Table:
         self.settings = functools.lru_cache(maxsize=4096)(lambda tile: settings_of(numbers, self.groups, tile))
 
 
-@functools.lru_cache(maxsize=64)
-def known_by(data):
-    return Table(array('H', data).tolist())
+MET = []  # tables met last, the latest first, each with what is known of it
 
 
 def known(table):
-    return known_by(array('H', table).tobytes())
+    found = next((k for k, (numbers, _) in enumerate(MET) if numbers == table), None)
+    MET.insert(0, (list(table), Table(list(table))) if found is None else MET.pop(found))
+    del MET[16:]
+    return MET[0][1]
 
 
 def groups_of(table):
@@ -241,9 +241,9 @@ def differences(old, new):
     """The rows of two lists of settings."""
     rows = []
     for t in range(len(old) // SETTINGS):
-        for (kind, index, a), (_, _, b) in zip(settings_of_kinds(old[SETTINGS * t:SETTINGS * (t + 1)]), settings_of_kinds(new[SETTINGS * t:SETTINGS * (t + 1)])):
-            if a != b:
-                rows.append((t, kind, index, a, b))
+        tiles = [settings[SETTINGS * t:SETTINGS * (t + 1)] for settings in (old, new)]
+        if tiles[0] != tiles[1]:  # most tiles are equal
+            rows += [(t, kind, index, a, b) for (kind, index, a), (_, _, b) in zip(*map(settings_of_kinds, tiles)) if a != b]
     return rows
 
 

@@ -41,7 +41,7 @@ fn contentions(block: &Block, length: usize) -> Result<(u32, u32), String> {
     agree(&block.name, "contentions", (answer, x), (other, y))
 }
 
-/// A block with some settings changed, and sometimes a bit flipped or a number of its table changed.
+/// A block with some settings changed, and sometimes a bit flipped, a bit set past the columns or a number of its table changed.
 fn changed(block: &Block, random: &mut Random) -> Block {
     let mut settings = block.settings();
     for _ in 0..random.pick(&[0, 1, 5, 50, 300]) {
@@ -58,7 +58,8 @@ fn changed(block: &Block, random: &mut Random) -> Block {
     let mut block = block.with(&settings);
     match random.below(12) {
         0 => block.flip(random.below(864 * block.tiles())),
-        1 => block.table[random.below(200)] = random.pick(&[0, 65, 404, 506, 863, 864, 65535]),
+        1 => block.stray(random.below(block.bits.len()), random.below(10)),
+        2 => block.table[random.below(200)] = random.pick(&[0, 65, 404, 506, 863, 864, 65535]),
         _ => (),
     }
     block

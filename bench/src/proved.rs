@@ -52,19 +52,19 @@ fn unpack(answer: u64) -> Answer {
     }
 }
 
-pub fn read(w: u32, h: u32, table: &[u16], bits: &[u8], settings: &mut [u16]) -> Answer {
+pub fn read(w: u32, h: u32, table: &[u16], bits: &[u64], settings: &mut [u16]) -> Answer {
     unpack(unsafe {
         ice40_read(w, h, table.as_ptr(), table.len(), bits.as_ptr(), bits.len(), settings.as_mut_ptr(), settings.len())
     })
 }
 
-pub fn write(w: u32, h: u32, table: &[u16], settings: &[u16], bits: &mut [u8]) -> Answer {
+pub fn write(w: u32, h: u32, table: &[u16], settings: &[u16], bits: &mut [u64]) -> Answer {
     unpack(unsafe {
         ice40_write(w, h, table.as_ptr(), table.len(), settings.as_ptr(), settings.len(), bits.as_mut_ptr(), bits.len())
     })
 }
 
-pub fn build(w: u32, h: u32, east: u32, table: &[u16], bits: &[u8], list: &mut [u16], room: &mut Room) -> Answer {
+pub fn build(w: u32, h: u32, east: u32, table: &[u16], bits: &[u64], list: &mut [u16], room: &mut Room) -> Answer {
     let [settings, wires, sources, rows, marks, queue] = &mut room.build;
     unpack(unsafe {
         ice40_build(
@@ -83,7 +83,7 @@ pub fn build(w: u32, h: u32, east: u32, table: &[u16], bits: &[u8], list: &mut [
 }
 
 /// Sizes are pairs of W and H.
-pub fn compare(one: (u32, u32), other: (u32, u32), table: &[u16], first: &[u8], second: &[u8], list: &mut [u32], room: &mut [Vec<u16>; 2]) -> Answer {
+pub fn compare(one: (u32, u32), other: (u32, u32), table: &[u16], first: &[u64], second: &[u64], list: &mut [u32], room: &mut [Vec<u16>; 2]) -> Answer {
     let [before, after] = room;
     unpack(unsafe {
         ice40_compare(
@@ -98,7 +98,7 @@ pub fn compare(one: (u32, u32), other: (u32, u32), table: &[u16], first: &[u8], 
     })
 }
 
-pub fn contentions(w: u32, h: u32, east: u32, table: &[u16], bits: &[u8], list: &mut [u16], room: &mut [Vec<u16>; 4]) -> Answer {
+pub fn contentions(w: u32, h: u32, east: u32, table: &[u16], bits: &[u64], list: &mut [u16], room: &mut [Vec<u16>; 4]) -> Answer {
     let [settings, wires, heads, nexts] = room;
     unpack(unsafe {
         ice40_contentions(
@@ -137,7 +137,7 @@ pub fn step(s: &Step, values: &mut [u8], next: &mut [u8], room: &mut Room) -> An
     })
 }
 
-pub fn asc_read(a: Area, text: &[u8], bits: &mut [u8]) -> Answer {
+pub fn asc_read(a: Area, text: &[u8], bits: &mut [u64]) -> Answer {
     unpack(unsafe { ice40_asc_read(a.w, a.h, a.x, a.y, text.as_ptr(), text.len(), bits.as_mut_ptr(), bits.len()) })
 }
 
@@ -145,6 +145,6 @@ pub fn asc_length(a: Area) -> Answer {
     unpack(unsafe { ice40_asc_length(a.w, a.h, a.x, a.y) })
 }
 
-pub fn asc_write(a: Area, bits: &[u8], text: &mut [u8]) -> Answer {
+pub fn asc_write(a: Area, bits: &[u64], text: &mut [u8]) -> Answer {
     unpack(unsafe { ice40_asc_write(a.w, a.h, a.x, a.y, bits.as_ptr(), bits.len(), text.as_mut_ptr(), text.len()) })
 }

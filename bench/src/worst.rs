@@ -1,5 +1,5 @@
 //! Made-up 8 by 8 blocks that ask most of the reader, with routing tables of their own.
-use crate::baseline::{self, BYTES, PORTS, SETTINGS, TABLE};
+use crate::baseline::{self, PORTS, SETTINGS, TABLE, WORDS};
 use crate::inputs::{Block, Random};
 use std::collections::BTreeMap;
 
@@ -102,7 +102,7 @@ impl Table {
     }
 
     fn block(self, name: &str, settings: &[u16]) -> Block {
-        let mut bits = vec![0; BYTES * TILES];
+        let mut bits = vec![0; WORDS * TILES];
         let side = SIDE as u32;
         assert!(baseline::write(side, side, &self.numbers, settings, &mut bits).is_ok(), "{name}");
         Block { name: name.to_string(), w: side, h: side, east: 0, table: self.numbers, bits }

@@ -35,13 +35,13 @@ fn tile(t: usize, old: &[u16], new: &[u16], rows: &mut Vec<Row>) {
 }
 
 /// Sizes are pairs of W and H.
-pub fn compare(one: (u32, u32), other: (u32, u32), table: &[u16], first: &[u8], second: &[u8], list: &mut [u32]) -> Answer {
+pub fn compare(one: (u32, u32), other: (u32, u32), table: &[u16], first: &[u64], second: &[u64], list: &mut [u32]) -> Answer {
     let n = tiles(one.0, one.1)?;
     tiles(other.0, other.1)?;
     if one != other {
         return Err(no(14, 0));
     }
-    lengths(&[(table.len(), TABLE), (first.len(), BYTES * n), (second.len(), BYTES * n)])?;
+    lengths(&[(table.len(), TABLE), (first.len(), WORDS * n), (second.len(), WORDS * n)])?;
     let claims = table::check(table)?;
     let old = decode(table, &claims, first)?;
     let new = decode(table, &claims, second)?;

@@ -38,9 +38,9 @@ fn places(switches: &[Row], ports: usize) -> (Vec<u16>, usize) {
     (places, rows as usize)
 }
 
-pub fn contentions(w: u32, h: u32, east: u32, table: &[u16], bits: &[u8], list: &mut [u16]) -> Answer {
+pub fn contentions(w: u32, h: u32, east: u32, table: &[u16], bits: &[u64], list: &mut [u16]) -> Answer {
     let n = joined_tiles(w, h, east)?;
-    lengths(&[(table.len(), TABLE), (bits.len(), BYTES * n)])?;
+    lengths(&[(table.len(), TABLE), (bits.len(), WORDS * n)])?;
     let claims = table::check(table)?;
     let settings = decode(table, &claims, bits)?;
     let switches = switches(table, &settings, &wires(w, h, east));

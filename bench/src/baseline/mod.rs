@@ -29,7 +29,9 @@ pub type Answer = Result<u32, No>;
 
 pub const PORTS: usize = 506;
 pub const CELLS: usize = 8;
-pub const BYTES: usize = 108;
+/// Words of a tile, a row each, and the columns of a row.
+pub const WORDS: usize = 16;
+pub const COLUMNS: usize = 54;
 pub const SETTINGS: usize = 595;
 pub const TABLE: usize = 38469;
 pub const ROW: usize = 7;
@@ -88,6 +90,11 @@ fn joined_tiles(w: u32, h: u32, east: u32) -> Result<usize, No> {
     } else {
         Err(no(1, 0))
     }
+}
+
+/// Where a set bit past the columns of a row is at fault, if one is: the lowest such row, at its last column.
+fn stray(bits: &[u64]) -> Option<usize> {
+    bits.iter().position(|row| row >> COLUMNS != 0).map(|r| COLUMNS * r + COLUMNS - 1)
 }
 
 /// Ground 2, from pairs of a length and what it must be.

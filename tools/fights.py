@@ -15,7 +15,7 @@ from itertools import groupby
 import proved
 from asc_to_frames import LONGEST, check_device, east_of, read_block
 from frames import Input, read_table
-from ice40 import NAMES, POSITIONS, Block, check_size, position_name
+from ice40 import NAMES, Block, check_size, position_name
 from rules import broken_rules, pattern_of, set_names, undecodable
 from tool import Mistake, about, add_east, bytes_of, counted, file_name, note, number, run, text_of
 
@@ -50,9 +50,8 @@ class Scene:
 
     def proved_fights(self, library):
         """The same by the library."""
-        bits = b''.join(tile.to_bytes(POSITIONS // 8, 'little') for tile in self.tiles)
         try:
-            return library.contentions(self.block.w, self.block.h, self.block.east, self.table, bits)
+            return library.contentions(self.block.w, self.block.h, self.block.east, proved.table_numbers(self.table), proved.lent_bits(self.tiles))
         except proved.Refused as refused:
             raise Mistake('the library refuses the block with ground %d, place %d, where Python finds nothing wrong' % (refused.ground, refused.place)) from None
 

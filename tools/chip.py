@@ -9,7 +9,6 @@ import functools
 import json
 import os
 import sys
-from array import array
 
 import packed
 from tool import Mistake, about, bytes_of
@@ -46,9 +45,8 @@ class Chip:
         return [(x, y) for y in range(self.height) for x in range(self.width)]
 
     def numbers(self, name, kind='I'):
-        numbers = array(kind)
-        numbers.frombytes(self.parts[name])
-        return numbers
+        """A part as numbers: of four bytes, or of another kind of `array`."""
+        return self.parts[name].cast(kind)
 
     # ---- switches
 

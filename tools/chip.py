@@ -11,11 +11,12 @@ import os
 import sys
 
 import packed
-from tool import Mistake, about, bytes_of
+from tool import Mistake, about, bytes_of, opened
 
 # where Debian's package fpga-icestorm-chipdb and IceStorm's own installation put the databases
 PLACES = ['/usr/share/fpga-icestorm/chipdb', '/usr/local/share/icebox', '/usr/share/icebox']
 LONGEST = 1 << 28  # bytes of a database; the longest has 38 million
+NAME = 'chip-%s'  # of a file in the cache folder, by the SHA-256 of its database
 NO_SHAPE = 255
 KINDS = ['', 'logic', 'io', 'ramb', 'ramt', 'dsp0', 'dsp1', 'dsp2', 'dsp3', 'ipcon']  # of tiles; '' is for none
 
@@ -132,18 +133,23 @@ def database_path(device, told):
     raise Mistake('no %s in %s (Debian has it in fpga-icestorm-chipdb; --chipdb says where it is)' % (name, told or ' or '.join(PLACES)))
 
 
+def worked_out(data):
+    """The parts of a chip from its database, kept for the next time."""
+    import chipdb  # takes in much that a run with a kept chip never needs
+    digest = packed.digest(data)
+    return packed.keep(NAME % digest, chipdb.packed_chip(data, digest))
+
+
 def chip_of(device, told, tell=lambda words: None):
     """The chip of a device. `tell` is told when this takes a while."""
     path = database_path(device, told)
     with about(path):
-        data = bytes_of(path, LONGEST, 'a chip database')
-        digest = packed.digest(data)
-        name = 'chip-%s' % digest
-        parts = packed.kept(name)
+        with opened(path) as file:
+            digest = packed.file_digest(file)
+        parts = packed.kept(NAME % digest)
         if not parts or (parts.facts['database'], parts.facts['order']) != (digest, sys.byteorder):
             tell('working out %s, once' % path)
-            import chipdb  # takes in much that a run with a kept chip never needs
-            parts = packed.keep(name, chipdb.packed_chip(data, digest))
+            parts = worked_out(bytes_of(path, LONGEST, 'a chip database'))
         chip = Chip(parts, path)
     if chip.device != device:
         raise Mistake('%s is for a %s, the design for a %s' % (path, chip.device, device))

@@ -143,7 +143,7 @@ def check_contention(count, chip, changed, choice, given):
 def vlog_drivers(path):
     """The nets that icebox_vlog gives two or more drivers."""
     text = subprocess.run(['icebox_vlog', '-D', path], stdout=subprocess.PIPE, stderr=subprocess.STDOUT, universal_newlines=True).stdout
-    found = {net: drivers for net, count, drivers in re.findall(r'^ *(\S+) has (\d+) drivers: \[(.*)\]', text, re.MULTILINE) if int(count) > 1}
+    found = {net: drivers for net, count, drivers in re.findall(r'^(?://| )*(\w\S*) has (\d+) drivers: \[(.*)\]', text, re.MULTILINE) if int(count) > 1}
     return sorted(sorted(re.findall(r"'([^']+)'", drivers)) for drivers in found.values())
 
 

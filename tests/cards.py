@@ -31,12 +31,20 @@ STEP = 40  # units of the drawing for a tile
 BROWSER = shutil.which('chromium') or shutil.which('chromium-browser')
 ASK = """<script>
 const tiles = [...document.querySelectorAll('.tile')], shown = () => tiles.filter(t => getComputedStyle(t.querySelector('.panel')).display != 'none').map(t => t.id);
-const found = [shown().join()];
-for (const t of tiles) { t.focus(); found.push(shown().join() + (document.activeElement == t ? '' : ' without focus')); }
-const inside = tiles.every(t => { t.focus(); const p = t.querySelector('.panel rect').getBBox(), w = t.querySelector('.panel text').getBBox();
-    return w.x >= p.x && w.x + w.width <= p.x + p.width && w.y + w.height <= p.y + p.height + 1; });
+const found = [shown().join()], outside = [], focused = [];
+for (const t of tiles) {
+    location.hash = t.id;
+    found.push(shown().join());
+    const p = t.querySelector('.panel rect').getBBox(), w = t.querySelector('.panel text').getBBox();
+    if (w.x < p.x || w.x + w.width > p.x + p.width || w.y < p.y || w.y + w.height > p.y + p.height) outside.push(t.id);
+    location.hash = '';
+    t.focus();
+    if (document.activeElement != t || document.hasFocus() && shown().join() != t.id) focused.push(t.id);
+    t.blur();
+}
 document.body.setAttribute('data-found', found.join('|'));
-document.body.setAttribute('data-inside', inside);
+document.body.setAttribute('data-outside', outside.join());
+document.body.setAttribute('data-focused', focused.join());
 </script>"""
 
 
@@ -90,7 +98,9 @@ class Page(html.parser.HTMLParser):
 def browse(path, *options):
     """What chromium prints."""
     with tempfile.TemporaryDirectory() as folder:
-        command = [BROWSER, '--headless', '--no-sandbox', '--disable-gpu', '--user-data-dir=' + folder, *options, 'file://' + path]
+        # it would pass over the many links that the script follows, as a flood
+        switches = ['--headless', '--no-sandbox', '--disable-gpu', '--disable-ipc-flooding-protection', '--user-data-dir=' + folder]
+        command = [BROWSER, *switches, *options, 'file://' + path]
         return subprocess.run(command, stdout=subprocess.PIPE, stderr=subprocess.DEVNULL, timeout=120, universal_newlines=True).stdout
 
 
@@ -132,14 +142,15 @@ def check_explained(count, page, path):
 
 
 def check_browser(count, path, page):
-    """What a browser makes of a page: each tile shows its panel, and that alone, when it is gone to; the words fit the panel; one sheet of paper."""
+    """What a browser makes of a page: each tile shows its panel, and that alone, when a link or the keyboard goes to it; the words fit the panel; it
+    prints on one sheet of paper."""
     asked = path[:-len('.html')] + '_asked.html'
     with open(asked, 'w', encoding='utf-8') as file:
         file.write(contents(path).replace('</body>', ASK + '</body>'))
     body = Page(browse(asked, '--dump-dom')).body
     order = sorted(page.panels, key=lambda at: (-at[1], at[0]))
     count.same(body.get('data-found', '').split('|'), [''] + ['t%d-%d' % at for at in order], path)
-    count.same(body.get('data-inside'), 'true', path)
+    count.same((body.get('data-outside'), body.get('data-focused')), ('', ''), path)
     paper = path[:-len('.html')] + '.pdf'
     browse(path, '--no-pdf-header-footer', '--print-to-pdf=' + paper)
     with open(paper, 'rb') as file:

@@ -18,6 +18,7 @@ MARKS = [(10, -10), (-10, -10), (10, 10), (-10, 10)]  # where in a tile labels o
 SHIFTS = [-11, -3, 5]  # from the middle of a tile, so that wires on one way lie side by side
 FAULTS = 6  # as many are written out; the rest are counted
 LONGEST = 420  # characters of a fault on the page
+SEEN = ('sp4_r_v_b', 'neigh_op', 'logic_op')  # names of wires of the column or the tile beside
 LETTERS = {'io': 'io', 'ramb': 'ram', 'ramt': 'ram', 'ipcon': 'ip'}  # the rest are parts of DSP tiles
 
 
@@ -29,6 +30,14 @@ def cut_short(text, limit=LONGEST):
     return text if len(text) <= limit else text[:limit] + ' ..'
 
 
+def rectangle(left, top, width, height, look=''):
+    return '<rect x="%d" y="%d" width="%d" height="%d"%s/>' % (left, top, width, height, ' class="%s"' % look if look else '')
+
+
+def label(x, y, text, look=''):
+    return '<text x="%d" y="%d"%s>%s</text>' % (x, y, ' class="%s"' % look if look else '', escaped(text))
+
+
 # ---- what stands in a tile
 
 class Tiles:
@@ -38,16 +47,19 @@ class Tiles:
         self.verdict, self.chip, self.table = verdict, verdict.design.chip, table_from(verdict.design.chip.table)
         self.words = {at: self.logic_words(*settings) for at, settings in verdict.settings.items()}
         for at, section, net, pattern in verdict.others:
-            self.words.setdefault(at, []).append('%s <- %s' % (self.chip.name_in(at, net), self.chip.name_in(at, self.chip.source(at, section, pattern))))
+            source = self.chip.source(at, section, pattern)
+            self.words.setdefault(at, []).append('%s <- %s' % (self.chip.name_in(at, net), self.chip.name_in(at, source)))
         self.words = {at: words for at, words in self.words.items() if words}
 
     def logic_words(self, entries, cells):
-        switches = ['%s <- %s' % (NAMES[group.destination], NAMES[group.entries[entry - 1][1]]) for group, entry in zip(self.table.groups, entries) if entry]
-        return self.cell_words(cells) + switches
+        on = [(group, entry) for group, entry in zip(self.table.groups, entries) if entry]
+        return self.cell_words(cells) + ['%s <- %s' % (NAMES[group.destination], NAMES[group.entries[entry - 1][1]]) for group, entry in on]
 
     def cell_words(self, cells):
+        """The cells that are not all zero. `cells` has the table and the flags of each."""
         found = [(i, *cells[2 * i:2 * i + 2]) for i in range(len(cells) // 2)]
-        return ['lutff_%d: table %04X%s' % (i, table, ''.join(', ' + name for k, name in enumerate(FLAGS) if flags >> k & 1)) for i, table, flags in found if table or flags]
+        return ['lutff_%d: %s' % (i, ', '.join(['table %04X' % table] + [name for k, name in enumerate(FLAGS) if flags >> k & 1]))
+                for i, table, flags in found if table or flags]
 
     def cells(self, at):
         """How many cells of a tile are in use."""
@@ -70,45 +82,46 @@ class Drawing:
         left, top = self.corner(x, y)
         return left + STEP // 2 + shift, top + STEP // 2 + shift
 
-    def ground(self, at, kind):
+    def square(self, at, kind):
         """A tile as it lies on the page."""
         look = 'logic' if kind == 'logic' else 'ram' if kind.startswith('ram') else 'rim'
-        return '<rect x="%d" y="%d" width="%d" height="%d" class="%s%s"/>' % (*self.corner(*at), STEP, STEP, look, ' used' * (at in self.tiles.words))
+        return rectangle(*self.corner(*at), STEP, STEP, look + ' used' * (at in self.tiles.words))
 
     def sign(self, at, kind):
         """A letter for a tile's kind, or the number of its cells in use."""
         used, (left, top) = at in self.tiles.words, self.corner(*at)
         sign = str(self.tiles.cells(at) or '·') * used if kind == 'logic' else LETTERS.get(kind, 'dsp')
-        return '<text x="%d" y="%d" class="sign%s">%s</text>' % (left + STEP // 2, top + STEP - 6, ' used' * used, sign) if sign else ''
+        return label(left + STEP // 2, top + STEP - 6, sign, 'sign' + ' used' * used) if sign else ''
 
     def tile(self, at, words):
         """What is shown when a tile in use is pointed at."""
-        left, top = self.corner(*at)
         place = 'tile (%d,%d), %s' % (*at, self.chip.kinds[at])
-        rect = '<rect x="%d" y="%d" width="%d" height="%d"/>' % (left, top, STEP, STEP)
-        return '<g class="tile" tabindex="0" id="t%d-%d" aria-label="%s">%s%s</g>' % (*at, escaped('%s: %s' % (place, '; '.join(words))), rect, self.panel(at, place, words))
+        spoken = escaped('%s: %s' % (place, '; '.join(words)))
+        shown = rectangle(*self.corner(*at), STEP, STEP) + self.panel(at, place, words)
+        return '<g class="tile" tabindex="0" id="t%d-%d" aria-label="%s">%s</g>' % (*at, spoken, shown)
 
     def panel(self, at, place, words):
         """What a tile holds, drawn over the other half of the chip while the tile is pointed at."""
         half = self.width / 2
         left = half + 4 if at[0] < self.chip.width / 2 else 4
-        longest = max(len(word) for word in words + [place])
-        size = min(18, (self.height - 20) / (1.25 * (len(words) + 1)), (half - 24) / (0.61 * longest))
-        lines = ''.join('<tspan x="%.1f" dy="1.25em">%s</tspan>' % (left + 8, escaped(word)) for word in words)
-        return ('<g class="panel"><rect x="%.1f" y="4" width="%.1f" height="%.1f"/><text x="%.1f" y="%.1f" style="font-size: %.1fpx"><tspan class="strong">%s</tspan>%s</text></g>'
-                % (left, half - 8, 1.25 * size * (len(words) + 1.6), left + 8, 8 + size, size, escaped(place), lines))
+        high, wide = 1.25 * len(words) + 1.6, 0.62 * max(len(word) for word in words + [place])  # in units of the letters' size
+        size = min(18, (self.height - 20) / high, (half - 24) / wide)
+        lines = ''.join('<tspan x="%d" dy="1.25em">%s</tspan>' % (left + 8, escaped(word)) for word in words)
+        place = '<tspan class="strong">%s</tspan>' % escaped(place)
+        text = '<text x="%d" y="%d" style="font-size: %.1fpx">%s%s</text>' % (left + 8, 8 + size, size, place, lines)
+        return '<g class="panel">%s%s</g>' % (rectangle(left, 4, half - 8, 12 + size * high), text)
 
     def refused_blocks(self):
         """A frame for each block with a no. Blocks overlap, so that each has its frame a little further in."""
-        refused = [cut for cut, (ground, _) in zip(cover.blocks(self.chip), self.verdict.answers) if ground]
+        refused = [cut for cut, (ground, _) in zip(self.verdict.cuts, self.verdict.answers) if ground]
         for k, cut in enumerate(refused):
             left, top = self.corner(cut.x, cut.y + cut.h - 1)
             inset = 2 + 4 * (k % 3)
-            yield '<rect x="%d" y="%d" width="%d" height="%d" class="refused"/>' % (left + inset, top + inset, STEP * cut.w - 2 * inset, STEP * cut.h - 2 * inset)
+            yield rectangle(left + inset, top + inset, STEP * cut.w - 2 * inset, STEP * cut.h - 2 * inset, 'refused')
 
     def way(self, names):
-        """The tiles that a wire passes, in order. The names sp4_r_v_b are those of the column beside it, from which it is only seen."""
-        tiles = sorted({(x, y) for x, y, name in names if not name.startswith(('sp4_r_v_b', 'neigh_op', 'logic_op'))} or {(x, y) for x, y, _ in names})
+        """The tiles that a wire passes, in order. From those where its name is one of SEEN it is only seen."""
+        tiles = sorted({(x, y) for x, y, name in names if not name.startswith(SEEN)} or {(x, y) for x, y, _ in names})
         way = tiles[:1]
         while len(way) < len(tiles):
             way.append(min((at for at in tiles if at not in way), key=lambda at: (abs(at[0] - way[-1][0]) + abs(at[1] - way[-1][1]), at)))
@@ -127,35 +140,37 @@ class Drawing:
         ways = list(dict.fromkeys(tuple(self.way(names)) for names in fault.wires))
         parts = [self.wire(way, SHIFTS[k % len(SHIFTS)] if len(way) > 1 else 0) for k, way in enumerate(ways)]
         marks = [(tuple(switch['tile']), '%d%s' % (number, chr(ord('a') + k % 26))) for k, switch in enumerate(fault.switches)]
-        parts += [self.mark(at, label) for at, label in marks or [(way[0], str(number)) for way in ways[:1]]]
+        parts += [self.mark(at, text) for at, text in marks or [(way[0], str(number)) for way in ways[:1]]]
         return '<g class="fault" id="f%d"><title>fault %d: %s</title>%s</g>' % (number, number, escaped(cut_short(fault.line())), ''.join(parts))
 
-    def mark(self, at, label):
+    def mark(self, at, text):
         """A label in a tile; up to four have a corner each."""
         right, down = MARKS[self.marked[at] % len(MARKS)]
         self.marked[at] += 1
         x, y = self.centre(*at)
-        return '<g class="mark"><circle cx="%d" cy="%d" r="11"/><text x="%d" y="%d">%s</text></g>' % (x + right, y + down, x + right, y + down + 5, label)
+        return '<g class="mark"><circle cx="%d" cy="%d" r="11"/>%s</g>' % (x + right, y + down, label(x + right, y + down + 5, text))
 
     def coordinates(self):
         for x in range(self.chip.width):
-            yield '<text x="%d" y="%d" class="axis">%d</text>' % (STEP * x + STEP // 2, self.height + 18, x)
+            yield label(STEP * x + STEP // 2, self.height + 18, x, 'axis')
         for y in range(self.chip.height):
-            yield '<text x="-6" y="%d" class="axis side">%d</text>' % (self.centre(0, y)[1] + 5, y)
+            yield label(-6, self.centre(0, y)[1] + 5, y, 'axis side')
 
     def svg(self):
         faults = self.verdict.faults + self.verdict.found
         used = sorted(self.tiles.words, key=lambda at: (-at[1], at[0]))  # as one reads, for the tab key
-        parts = [PATTERNS, *self.coordinates(), *(self.ground(at, kind) for at, kind in self.chip.kinds.items()), *self.refused_blocks(),
-                 *(self.sign(at, kind) for at, kind in self.chip.kinds.items()), *(self.fault(k, fault) for k, fault in enumerate(faults, 1)), *(self.tile(at, self.tiles.words[at]) for at in used)]
-        return '<svg viewBox="%d -4 %d %d" role="group" aria-label="the chip">%s</svg>' % (-MARGIN, self.width + MARGIN + 4, self.height + MARGIN + 4, '\n'.join(parts))
+        parts = [PATTERNS, *self.coordinates(), *(self.square(at, kind) for at, kind in self.chip.kinds.items()), *self.refused_blocks(),
+                 *(self.sign(at, kind) for at, kind in self.chip.kinds.items()), *(self.fault(k, fault) for k, fault in enumerate(faults, 1)),
+                 *(self.tile(at, self.tiles.words[at]) for at in used)]
+        box = '%d -4 %d %d' % (-MARGIN, self.width + MARGIN + 4, self.height + MARGIN + 4)
+        return '<svg viewBox="%s" role="group" aria-label="the chip">%s</svg>' % (box, '\n'.join(parts))
 
 
 # ---- the page
 
 def block_table(verdict):
     """The answer for each block, a cell each, as the blocks lie on the chip."""
-    cuts = cover.blocks(verdict.design.chip)
+    cuts = verdict.cuts
     columns, rows = sorted({(cut.x, cut.w) for cut in cuts}), sorted({(cut.y, cut.h) for cut in cuts}, reverse=True)
     answers = {((cut.x, cut.w), (cut.y, cut.h)): (cover.name(cut), ground) for cut, (ground, _) in zip(cuts, verdict.answers)}
 
@@ -166,7 +181,8 @@ def block_table(verdict):
         return '<td data-block="%s"%s>%s</td>' % (name, ' class="no"' * bool(ground), 'no, ground %d' % ground if ground else 'yes')
 
     head = ''.join('<th scope="col">x %d to %d</th>' % (x, x + w - 1) for x, w in columns)
-    body = ''.join('<tr><th scope="row">y %d to %d</th>%s</tr>' % (row[0], row[0] + row[1] - 1, ''.join(cell(column, row) for column in columns)) for row in rows)
+    rows = [('y %d to %d' % (y, y + h - 1), ''.join(cell(column, (y, h)) for column in columns)) for y, h in rows]
+    body = ''.join('<tr><th scope="row">%s</th>%s</tr>' % row for row in rows)
     return '<table class="blocks"><caption>The proved answer for each block</caption><tr><td></td>%s</tr>%s</table>' % (head, body)
 
 
@@ -177,8 +193,8 @@ def fault_list(verdict):
     return '<ol class="list">%s</ol>%s' % (items, more) if faults else ''
 
 
-KEY = ('A number in a tile says how many of its cells are in use, a dot that only switches are. A frame of dashes is a block with a no. '
-       'A thick line or ring is a wire of the fault whose number it bears; letters are the switches that drive it. Point at a tile in use for what it holds.')
+KEY = ('A number in a tile says how many of its cells are in use, a dot that only switches are. A frame of dashes is a block with a no. A thick '
+       'line or ring is a wire of the fault whose number it bears; letters are the switches that drive it. Point at a tile in use for what it holds.')
 
 
 def page(entry, sentence):
@@ -189,6 +205,7 @@ def page(entry, sentence):
     return '\n'.join([
         '<!DOCTYPE html>', '<html lang="en">', '<head>', '<meta charset="utf-8">', '<meta name="viewport" content="width=device-width">',
         '<title>%s: %s</title>' % (escaped(name), entry.answer), '<style>%s</style>' % STYLE, '</head>', '<body>',
-        '<h1>%s <strong class="answer">%s</strong></h1>' % (escaped(name), entry.answer.upper()), '<p class="uses">%s</p>' % escaped(uses), fault_list(verdict),
+        '<h1>%s <strong class="answer">%s</strong></h1>' % (escaped(name), entry.answer.upper()), '<p class="uses">%s</p>' % escaped(uses),
+        fault_list(verdict),
         '<div class="chip">', Drawing(entry).svg(), '</div>', '<div class="below">', block_table(verdict), '<p class="key">%s</p>' % KEY, '</div>',
         '<p class="proved">%s.</p>' % escaped(sentence), '</body>', '</html>', ''])

@@ -48,4 +48,5 @@ svg text.side { text-anchor: end }
 
 # RAM tiles are hatched
 PATTERNS = ('<defs><pattern id="hatch" width="8" height="8" patternUnits="userSpaceOnUse" patternTransform="rotate(45)">'
-            '<rect width="8" height="8" style="stroke: none; fill: #fff"/><line x1="0" y1="0" x2="0" y2="8" stroke="#bbb" stroke-width="2"/></pattern></defs>')
+            '<rect width="8" height="8" style="stroke: none; fill: #fff"/><line x1="0" y1="0" x2="0" y2="8" stroke="#bbb" stroke-width="2"/>'
+            '</pattern></defs>')

@@ -83,7 +83,8 @@ class Whole(Database):
     def shape(self, kind, numbers):
         """The switches of a kind of tile: for each section its positions and its patterns. Position p is 2^p's in the tile's number."""
         names = {number: words for words, number in self.section_of.items()}
-        return [[[position(bit, self.columns[kind]) for bit in names[number][0]], [pattern_of(pattern) for pattern in names[number][1]]] for number in numbers]
+        sections = [names[number] for number in numbers]
+        return [[[position(bit, self.columns[kind]) for bit in bits], [pattern_of(pattern) for pattern in patterns]] for bits, patterns in sections]
 
     def others(self):
         """The shapes, the shape of each tile, and for all tiles by row and column the destination nets and the source nets."""
@@ -117,9 +118,11 @@ def packed_chip(data, told):
     shapes, of_tile, destinations, sources = whole.others()
     facts = {'database': told, 'order': sys.byteorder, 'device': device, 'width': width, 'height': height, 'columns': whole.columns,
              'sections': [len(shape) for shape in shapes], 'entries': [sum(len(patterns) for _, patterns in shape) for shape in shapes]}
-    parts = {'kinds': grid(width, height, {at: KINDS.index(kind) for at, kind in whole.kinds.items()}, 0), 'shape_of': grid(width, height, of_tile, NO_SHAPE),
+    kinds = {at: KINDS.index(kind) for at, kind in whole.kinds.items()}
+    parts = {'kinds': grid(width, height, kinds, 0), 'shape_of': grid(width, height, of_tile, NO_SHAPE),
              'table': bytes(table_numbers(table_of(whole))), 'logic': whole.logic_nets().tobytes()}
     parts.update(('shape%d' % k, json.dumps(shape).encode()) for k, shape in enumerate(shapes))
-    parts.update(destinations=destinations.tobytes(), sources=sources.tobytes(), starts=whole.starts.tobytes(), xs=whole.xs.tobytes(), ys=whole.ys.tobytes(),
-                 labels=whole.labels.tobytes(), names='\n'.join(whole.label_of).encode())
+    numbers = {'destinations': destinations, 'sources': sources, 'starts': whole.starts, 'xs': whole.xs, 'ys': whole.ys, 'labels': whole.labels}
+    parts.update((name, numbers[name].tobytes()) for name in numbers)
+    parts['names'] = '\n'.join(whole.label_of).encode()
     return packed.pack(facts, parts)

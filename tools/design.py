@@ -51,7 +51,8 @@ class Sections:
         for k, part in found:
             words = part.partition(b'\n')[0].split(b' ')
             if k != found[0][0] or len(words) != 2 or not words[1].isalnum():
-                raise BadLine(self.line(k), '%s: %s' % (shown(b'.' + part.partition(b'\n')[0]), 'a second device' if k != found[0][0] else 'no device'))
+                what = 'a second device' if k != found[0][0] else 'no device'
+                raise BadLine(self.line(k), '%s: %s' % (shown(b'.' + part.partition(b'\n')[0]), what))
         return found[0][1].split()[1].decode('ascii', 'backslashreplace'), self.line(found[0][0])
 
 

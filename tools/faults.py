@@ -9,26 +9,26 @@ from itertools import groupby
 
 import cover
 import proved
+from explain import GROUNDS
 from frames import Group, Table
 from ice40 import NAMES, POSITIONS, Block, position_name
 from rules import pattern_of, undecodable
 from tool import Mistake
 from trail import Trail
 
-GROUNDS = {4: 'a tile cannot be decoded', 5: 'two switches drive one wire', 6: 'a carry that is not enabled is read',
-           7: 'a loop', 8: 'a clock or an asynchronous set/reset comes from a cell'}
 TILE_OWN = ('local_', 'lutff_', 'carry_in', 'glb2local_')  # names of wires that lie in one tile: the same in every block
 
 
 class Fault:
     """One thing that is wrong.
 
-    `ground` is None where no ground is about it; `at` is the place; `words` what is wrong; `trail` what leads to it, a line each; `switches` those that
-    drive the wire; `wires` the wires to be drawn, each its names as (x, y, name); `structure_only` is for a loop that no signal goes round.
+    `ground` is None where no ground is about it; `at` is the place; `words` what is wrong; `trail` what leads to it, a line each; `switches` those
+    that drive the wire; `wires` the wires to be drawn, each its names as (x, y, name); `structure_only` is for a loop that no signal goes
+    round; `where` says where something was found that no block has.
     """
 
-    def __init__(self, ground, at, words, key, cut=None, place=None, trail=(), switches=(), wires=(), structure_only=False):
-        self.ground, self.at, self.words, self.key, self.cut, self.place = ground, at, words, key, cut, place
+    def __init__(self, ground, at, words, key, cut=None, place=None, trail=(), switches=(), wires=(), structure_only=False, where='between blocks'):
+        self.ground, self.at, self.words, self.key, self.cut, self.place, self.where = ground, at, words, key, cut, place, where
         self.trail, self.switches, self.wires, self.structure_only = list(trail), list(switches), list(wires), structure_only
 
     @property
@@ -37,7 +37,7 @@ class Fault:
 
     def line(self):
         """All of it in one line."""
-        head = 'ground %d at %s' % (self.ground, self.at) if self.proved else 'found between blocks, not proved, at %s' % self.at
+        head = 'ground %d at %s' % (self.ground, self.at) if self.proved else 'found %s, not proved, at %s' % (self.where, self.at)
         return '%s: %s%s' % (head, self.words, ': ' + '; '.join(self.trail) if self.trail else '')
 
     def data(self):
@@ -61,6 +61,11 @@ def table_from(numbers):
 @functools.lru_cache(maxsize=16)
 def sized_block(w, h, east):
     return Block(w, h, east=east)
+
+
+def ground_words(ground):
+    """A ground in a few words: the first of explain.py's."""
+    return GROUNDS[ground][0].split(':')[0]
 
 
 def place_of(at, name):
@@ -108,25 +113,25 @@ class Scene:
     def undecodable(self, place):
         t, position = divmod(place, POSITIONS)
         at = self.at[t]
-        words = ['%s: %s' % (position_name(p), words.replace(', line %d of the input' % (g + 3), '')) for p, words in undecodable(self.table, self.tiles[t])
-                 for g in [next((g for g, group in enumerate(self.table.groups) if p in group.positions), 0)]]
-        return Fault(4, place_of(at, position_name(position)), GROUNDS[4], (4, at, position), self.cut, place, words, wires=[[(*at, '')]])
+        words = ['%s: %s' % (position_name(p), words) for p, words in undecodable(self.table, self.tiles[t], in_input=False)]
+        return Fault(4, place_of(at, position_name(position)), ground_words(4), (4, at, position), self.cut, place, words, wires=[[(*at, '')]])
 
     def disabled_carry(self, wire):
-        readers = self.trail.carry_readers(wire)
-        return Fault(6, self.name(wire), GROUNDS[6], (6, self.own_names([wire])), self.cut, wire, ['read by ' + reader for reader in readers], wires=[self.names(wire)])
+        readers = ['read by ' + reader for reader in self.trail.carry_readers(wire)]
+        return Fault(6, self.name(wire), ground_words(6), (6, self.own_names([wire])), self.cut, wire, readers, wires=[self.names(wire)])
 
     def loop(self, wire):
         way, real = self.trail.way_round(wire)
         structure_only = not real and not self.trail.loops(live=True)
-        words = GROUNDS[7] + ' by structure only: no signal goes round it' * structure_only
+        words = ground_words(7) + ' by structure only: no signal goes round it' * structure_only
         way_words = 'each reads the next: ' + ', '.join(self.name(each) for each in way)
-        return Fault(7, self.name(wire), words, (7, self.own_names(way)), self.cut, wire, [way_words], wires=[self.names(each) for each in dict.fromkeys(way)],
-                     structure_only=structure_only)
+        return Fault(7, self.name(wire), words, (7, self.own_names(way)), self.cut, wire, [way_words],
+                     wires=[self.names(each) for each in dict.fromkeys(way)], structure_only=structure_only)
 
     def cell_clock(self, t):
         ways = self.trail.clock_ways(t)
-        return Fault(8, 'tile (%d,%d)' % self.at[t], GROUNDS[8], (8, self.at[t]), self.cut, t, [' <- '.join(self.name(wire) for wire in way) for way in ways],
+        words = [' <- '.join(self.name(wire) for wire in way) for way in ways]
+        return Fault(8, 'tile (%d,%d)' % self.at[t], ground_words(8), (8, self.at[t]), self.cut, t, words,
                      wires=[self.names(wire) for way in ways for wire in way])
 
     def single(self, ground, place):
@@ -158,9 +163,8 @@ class Explainer:
 
     def contention(self, switches, net, cut=None, place=None, at=None):
         key = frozenset((tuple(switch['tile']), switch['group']) for switch in switches)
-        names = self.chip.net(net)
-        many = 'two' if len(switches) == 2 else str(len(switches))
-        return Fault(5 if cut else None, at or place_of(names[0][:2], names[0][2]), GROUNDS[5].replace('two', many), key, cut, place,
+        names, many = self.chip.net(net), 'two' if len(switches) == 2 else len(switches)
+        return Fault(5 if cut else None, at or place_of(names[0][:2], names[0][2]), '%s switches drive one wire' % many, key, cut, place,
                      [' and '.join(switch_words(switch) for switch in switches)], switches, [names])
 
     def block_faults(self, k):
@@ -195,8 +199,9 @@ class Explainer:
                 yield fault
         for at, section, net, pattern in self.verdict.unlisted:
             switch = self.other_switch(at, section, net, pattern)
-            yield Fault(None, place_of(at, switch['bits'][0]), 'a %s tile has a pattern that the database does not list' % switch['kind'], (at, section), trail=[
-                'bits %s, for a switch onto %s' % (' '.join(switch['bits']), switch['destination'])], wires=[[(*at, '')]])
+            yield Fault(None, place_of(at, switch['bits'][0]), 'a pattern that the database does not list', (at, section), wires=[[(*at, '')]],
+                        trail=['%s set, for the switches onto %s' % (' '.join(switch['bits']), switch['destination'])],
+                        where='in a tile of kind %s' % switch['kind'])
 
 
 def distinct(faults):

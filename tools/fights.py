@@ -51,7 +51,8 @@ class Scene:
     def proved_fights(self, library):
         """The same by the library."""
         try:
-            return library.contentions(self.block.w, self.block.h, self.block.east, proved.table_numbers(self.table), proved.lent_bits(self.tiles))
+            table, bits = proved.table_numbers(self.table), proved.lent_bits(self.tiles)
+            return library.contentions(self.block.w, self.block.h, self.block.east, table, bits)
         except proved.Refused as refused:
             raise Mistake('the library refuses the block with ground %d, place %d, where Python finds nothing wrong' % (refused.ground, refused.place)) from None
 

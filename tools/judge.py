@@ -13,21 +13,20 @@ import proved
 from design import BadLine, shown
 from tool import Mistake
 
-LIBRARY_DEVICE = '1k'  # the one whose files the library reads
 UNDECODABLE = 4  # the lowest ground that is about a design
 
 
 class Verdict:
     """The answer for one design.
 
-    `answers` has ground and place of each block, zeros for a yes. `settings` has the entry of each group and the table and flags of each cell,
-    for each logic tile with a bit set that can be decoded. `others` are the enabled switches of tiles that are not logic: tile, section,
-    destination net, pattern. `fought` are the nets on which two enabled switches end, `unlisted` the switches whose pattern the database lacks.
+    `cuts` are the blocks; `answers` has ground and place of each, zeros for a yes. `settings` has the entry of each group and the table and flags
+    of each cell, for each logic tile with a bit set that can be decoded. `others` are the enabled switches of tiles that are not logic: tile,
+    section, destination net, pattern. `fought` are the nets on which two enabled switches end, `unlisted` the switches whose pattern the database lacks.
     `faults` are found in the blocks, `found` besides; both say why (faults.py).
     """
 
-    def __init__(self, design, answers, settings, others, fought):
-        self.design, self.answers, self.settings, self.fought = design, answers, settings, fought
+    def __init__(self, design, cuts, answers, settings, others, fought):
+        self.design, self.cuts, self.answers, self.settings, self.fought = design, cuts, answers, settings, fought
         self.others = [switch for switch in others if switch[2] is not None]
         self.unlisted = [switch for switch in others if switch[2] is None]
         self.faults, self.found = [], []
@@ -58,7 +57,7 @@ class Judge:
 
     def bits(self, design):
         """The bits of each block: those of a 1k by the library from the file, others from Python's tiles."""
-        if design.device != LIBRARY_DEVICE:
+        if design.device != proved.ASC_DEVICE:
             return [proved.lent_bits([design.tiles[at] for at in cover.tiles(cut)]) for cut in self.cuts]
         try:
             return [self.library.asc_bits(design.text, (cut.x, cut.y), cut.w, cut.h) for cut in self.cuts]
@@ -74,7 +73,8 @@ class Judge:
             return 0, 0
         except proved.Refused as refused:
             if refused.ground < UNDECODABLE:  # the table's fault and not the design's
-                raise Mistake('the library refuses the routing table of %s with ground %d, place %d' % (self.chip.path, refused.ground, refused.place)) from None
+                words = 'the library refuses the routing table of %s with ground %d, place %d'
+                raise Mistake(words % (self.chip.path, refused.ground, refused.place)) from None
             return refused.ground, refused.place
 
     def read_tile(self, bits):
@@ -101,7 +101,7 @@ class Judge:
         ends = [net for at, (entries, _) in settings.items() for net in compress(self.nets[at], entries)]
         ends += [net for _, _, net, _ in others if net is not None]
         fought = {net for net, count in Counter(ends).items() if count > 1} if len(set(ends)) < len(ends) else set()
-        verdict = Verdict(design, answers, settings, others, fought)
+        verdict = Verdict(design, self.cuts, answers, settings, others, fought)
         if not verdict.is_yes:
             import faults  # takes in what only a no needs
             faults.explain(self, verdict, bits)

@@ -6,7 +6,8 @@ import sys
 import cover
 from chip import chip_of
 from design import Design
-from judge import LIBRARY_DEVICE, Judge
+from judge import Judge
+from proved import ASC_DEVICE
 from tool import Mistake, bytes_of, counted, file_name
 
 YES, NO, UNKNOWN = 'yes', 'no', 'unknown'
@@ -97,8 +98,9 @@ class Entry:
             return str(self.mistake)
         if self.answer == YES:
             counts = self.verdict.counts()
-            return '%s: %s, %s and %s in use' % (self.verdict.design.device, counted(counts['logic_tiles'], 'logic tile'),
-                                                 counted(counts['logic_switches'] + counts['other_switches'], 'switch', 'es'), counted(counts['cells'], 'cell'))
+            switches = counted(counts['logic_switches'] + counts['other_switches'], 'switch', 'es')
+            tiles, cells = counted(counts['logic_tiles'], 'logic tile'), counted(counts['cells'], 'cell')
+            return '%s: %s, %s and %s in use' % (self.verdict.design.device, tiles, switches, cells)
         faults = self.verdict.faults + self.verdict.found
         more = len(faults) - 1
         return '%s: %s%s' % (self.verdict.design.device, faults[0].line(), ' (and %d more: --json lists them)' % more if more else '')
@@ -107,14 +109,15 @@ class Entry:
         return '%s %s  %s' % (WORDS[self.answer], file_name(self.path), self.words())
 
     def data(self):
-        found = {'file': self.path, 'answer': self.answer, 'device': None, 'read_by': None, 'error': None, 'blocks': [], 'faults': [], 'found': [], 'counts': {}}
+        found = {'file': self.path, 'answer': self.answer, 'device': None, 'read_by': None, 'error': None,
+                 'blocks': [], 'faults': [], 'found': [], 'counts': {}}
         if self.mistake:
             found['error'] = {'line': getattr(self.mistake, 'line', None), 'words': getattr(self.mistake, 'words', str(self.mistake))}
             return found
-        device, cuts = self.verdict.design.device, cover.blocks(self.verdict.design.chip)
+        device = self.verdict.design.device
         blocks = [{'corner': [cut.x, cut.y], 'size': [cut.w, cut.h], 'east': cut.east, 'ground': ground, 'place': place}
-                  for cut, (ground, place) in zip(cuts, self.verdict.answers)]
-        return dict(found, device=device, read_by='library' if device == LIBRARY_DEVICE else 'python', blocks=blocks, counts=self.verdict.counts(),
+                  for cut, (ground, place) in zip(self.verdict.cuts, self.verdict.answers)]
+        return dict(found, device=device, read_by='library' if device == ASC_DEVICE else 'python', blocks=blocks, counts=self.verdict.counts(),
                     faults=[fault.data() for fault in self.verdict.faults], found=[fault.data() for fault in self.verdict.found])
 
 
@@ -132,10 +135,10 @@ def entry_for(shelf, path, wrong):
 def sentence(chip):
     """What was proved for a device's designs and what was looked at besides."""
     count, tiles = len(cover.blocks(chip)), len(chip.logic)
-    how = 'read from the file and judged' if chip.device == LIBRARY_DEVICE else 'judged, from bits that Python read,'
-    return ('%s: the proved library %s each of the %s of up to 8 by 8 that cover the %d logic tiles, each by itself; Python looked besides, with no proof, for two '
-            'switches on one net of the whole chip, those of IO, RAM and other tiles among them; routing table and nets are those of %s, SHA-256 %s' % (
-                chip.device, how, counted(count, 'block'), tiles, chip.path, chip.digest))
+    how = 'read from the file and judged' if chip.device == ASC_DEVICE else 'judged, from bits that Python read,'
+    return ('%s: the proved library %s each of the %s of up to 8 by 8 that cover the %d logic tiles, each by itself; Python looked besides, with no '
+            'proof, for two switches on one net of the whole chip, those of IO, RAM and other tiles among them; routing table and nets are those of '
+            '%s, SHA-256 %s' % (chip.device, how, counted(count, 'block'), tiles, chip.path, chip.digest))
 
 
 def sentences(shelf):
@@ -154,8 +157,8 @@ def status_of(counts):
 
 def document(texts, shelf, counts):
     """The JSON document, of designs that are JSON already."""
-    devices = {device: {'chipdb': chip.path, 'sha256': chip.digest, 'logic_tiles': len(chip.logic), 'blocks': len(cover.blocks(chip)), 'proved': sentence(chip)}
-               for device, chip in shelf.met().items()}
+    devices = {device: {'chipdb': chip.path, 'sha256': chip.digest, 'logic_tiles': len(chip.logic), 'blocks': len(cover.blocks(chip)),
+                        'proved': sentence(chip)} for device, chip in shelf.met().items()}
     head = json.dumps({'format': 1, 'status': status_of(counts), 'counts': counts, 'library': shelf.library.path, 'devices': devices})
     return ['%s, "designs": [' % head[:-1], *(text + ',' for text in texts[:-1]), *texts[-1:], ']}']
 

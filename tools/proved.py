@@ -16,6 +16,7 @@ TILE_BYTES, TILE_PORTS, TILE_GROUPS, TILE_SETTINGS, TILE_LIST = 108, 506, 512, 5
 TABLE_LENGTH, PASSIVE_COUNT, GROUP_COUNT, GROUPS_FROM, GROUP_LENGTH, ENTRIES_FROM = 38469, 3, 68, 69, 75, 10
 SETTINGS_GROUPS, SETTINGS_CELLS = 67, 579  # where a tile's settings have those of its groups and of its cells
 SIZE, ASC_LINE = 1, 13  # grounds for a no
+ASC_DEVICE = '1k'  # the one whose .asc files it reads
 TILES_LIMIT = 64  # of a block
 
 # what each call is lent: how many numbers before the slices, how many slices, and the u16 numbers a tile of those it writes

@@ -38,7 +38,7 @@ import cover  # noqa: E402
 import proved  # noqa: E402
 
 REAL = os.path.join(os.path.dirname(ROOT), 'shared', 'realdata', 'designs')
-TABLE = {'1k': '1k', '384': '384', '5k': '5k', '8k': '8k'}
+TABLE = {'1k': '1k', '384': '384', '5k': '5k', '8k': '8k', 'u4k': '8k', 'lm4k': '8k'}  # the bundled table of each device
 PLACED, DRIVEN = 5, 3  # second switches that are put into a design: of each kind, and for icebox_vlog
 
 
@@ -187,6 +187,26 @@ def check_between(shelf, designs):
                 vlog.same(vlog_drivers(each), [sorted(names)], each)
     print('%-58s %s' % ('placed', ', '.join('%d %s' % (number, what) for what, number in sums.items())))
     return count.done() + vlog.done()
+
+
+def check_patterns(shelf):
+    """Bits of an IO or RAM tile that are no pattern of a switch: found, and marked as not proved."""
+    count = Count('patterns of other tiles that the database does not list')
+    text, tiles = contents(GOOD[0]), shelf_model.tiles_of(contents(GOOD[0]))
+    chip = shelf_model.Chip(database('1k'))
+    for kind in ('io', 'ramb', 'ramt'):
+        found = [(at, bits, patterns) for at, switches in chip.switches.items() if chip.kinds[at] == kind for _, bits, patterns in switches
+                 if len(bits) > 1 and '1' not in ''.join(tiles[at][row][column] for row, column in bits)]
+        for at, bits, patterns in random.sample(found, PLACED):
+            pattern = random.choice([pattern for pattern in map(('{:0%db}' % len(bits)).format, range(1, 1 << len(bits))) if pattern not in patterns] or [None])
+            if pattern is None:
+                continue
+            path = shelf.write('patterns/%d.asc' % count.cases, shelf_model.with_switch(text, tiles, at, bits, pattern))
+            first = bits[pattern.index('1')]
+            words = 'found in a tile of kind %s, not proved, at (%d,%d) B%d[%d]: a pattern that the database does not list' % (kind, *at, *first)
+            status, output, _ = shelf.run(path)
+            count.same((status, words in output), (1, True), output)
+    return count.done()
 
 
 # ---- the story of document 00
@@ -377,12 +397,13 @@ def main():
     parser.add_argument('--designs', metavar='FOLDER', action='append', default=[REAL])
     arguments = parser.parse_args()
     if not os.path.exists(database('1k')):
-        sys.exit('no chip database (Debian has them in fpga-icestorm-chipdb)')
+        print('left out, no chip database (Debian has them in fpga-icestorm-chipdb): all of it')
+        return run_tests([], 1)
     with tempfile.TemporaryDirectory() as folder:
         shelf = Shelf(arguments.library, folder)
         designs = GOOD + sorted(path for each in arguments.designs for path in glob.glob(os.path.join(each, '*.asc'))) + made_designs(folder)
         tests = [(check_cover,), (check_blocks, shelf, designs), (check_between, shelf, [path for path in designs if '_8k' not in path][:6] + designs[-1:]),
-                 (check_story, shelf), (check_bad, shelf), (check_words, shelf), (check_progress, shelf), (check_cache, shelf), (check_speed, shelf), (check_memory, shelf)]
+                 (check_patterns, shelf), (check_story, shelf), (check_bad, shelf), (check_words, shelf), (check_progress, shelf), (check_cache, shelf), (check_speed, shelf), (check_memory, shelf)]
         return run_tests(tests, 1)
 
 

@@ -135,10 +135,11 @@ def entry_for(shelf, path, wrong):
 def sentence(chip):
     """What was proved for a device's designs and what was looked at besides."""
     count, tiles = len(cover.blocks(chip)), len(chip.logic)
+    blocks = 'each of the %d blocks of up to 8 by 8 that cover' % count if count > 1 else 'the one block that covers'
     how = 'read from the file and judged' if chip.device == ASC_DEVICE else 'judged, from bits that Python read,'
-    return ('%s: the proved library %s each of the %s of up to 8 by 8 that cover the %d logic tiles, each by itself; Python looked besides, with no '
-            'proof, for two switches on one net of the whole chip, those of IO, RAM and other tiles among them; routing table and nets are those of '
-            '%s, SHA-256 %s' % (chip.device, how, counted(count, 'block'), tiles, chip.path, chip.digest))
+    return ('%s: the proved library %s %s the %d logic tiles, each by itself; Python looked besides, with no proof, '
+            'for two switches on one net of the whole chip, those of IO, RAM and other tiles among them, and followed no loop, carry or clock from '
+            'block to block; routing table and nets are those of %s, SHA-256 %s' % (chip.device, how, blocks, tiles, chip.path, chip.digest))
 
 
 def sentences(shelf):

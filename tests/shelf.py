@@ -357,6 +357,8 @@ def check_speed(shelf):
     command = [sys.executable, os.path.join(TOOLS, 'shelf.py')]
     start, explain = spent([sys.executable, '-c', 'pass']), spent(['icebox_explain', GOOD[1]])
     one, many = spent(command + [GOOD[1]], shelf.environment()), spent(command + [GOOD[1]] * 20, shelf.environment())
+    bare = [spent([sys.executable, '-S', program, GOOD[1]], shelf.environment()) for program in (shutil.which('icebox_explain'), command[1])]
+    print('seconds with python3 -S: icebox_explain %.3f, the shelf of one design %.3f' % tuple(bare))
     print('seconds: Python alone %.3f, icebox_explain %.3f, the shelf of one design %.3f, of twenty %.3f (%.4f each)' % (start, explain, one, many, many / 20))
     count.same((one - start) * 10 < explain - start, True, (one, start, explain))
     count.same(many / 20 * 10 < explain, True, (many, explain))

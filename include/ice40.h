@@ -10,14 +10,16 @@
  * tiles, 1 would join what is apart. With h = 1 both give the same. A list is a block's own only with the same east.
  *
  * Memory. A slice is a pointer and a length, counted in numbers and not in bytes. Every length is exact: another one is refused with
- * ground 2; only the text that ice40_asc_read reads may have any length. On a no the outputs keep their old contents; the work room comes
- * back zeroed, or untouched under grounds 1 and 2.
+ * ground 2. Three may have any length: the text that ice40_asc_read reads, and the lists of ice40_compare and ice40_contentions, which
+ * ground 15 refuses where the rows do not fit. On a no the outputs keep their old contents; the work room comes back zeroed, or
+ * untouched under grounds 1 and 2.
  *
  *   - Slices that are only read (const) may overlap one another, or be the same.
  *   - A slice that is written, output or work room, must not overlap any other slice of the call, read or written. What a call does
  *     otherwise is not promised: the proofs are about separate slices. The answer may be wrong.
- *   - A slice of length 0 may have any pointer, NULL too. No exact length is 0, so it is refused with ground 2, or with 1 before that; a text
- *     of length 0 that is read is a file without a line, ground 13 at line 1.
+ *   - A slice of length 0 may have any pointer, NULL too. No exact length is 0, so it is refused with ground 2, or with 1 or 14 before that.
+ *     Of the three that may have any length, a text of length 0 is a file without a line, ground 13 at line 1, and a list of length 0 is
+ *     enough where there are no rows.
  *   - Any other pointer is to as many numbers of its type as the length says. The library cannot check that.
  *
  * Threads. The library has no variables: nothing is kept from one call to the next. Calls that share no memory which one of them writes may
@@ -47,8 +49,8 @@
 
 /* ---- the grounds for a no (document 01, 'Grounds for a no', and 02): X(number, NAME, words, what the place is)
  *
- * ICE40_NO_SIZE .. are the numbers. Calls of this version give 1 to 10, 12, 13 and 20, the report program 11 too; 14 to 16 come with the
- * requests of document 02. */
+ * ICE40_NO_SIZE .. are the numbers. Calls of this version give 1 to 10, 12 to 15 and 20, the report program 11 too; nothing gives 16,
+ * which belongs to a request of document 02 that is still to come. */
 #define ICE40_GROUNDS(X) \
     X(1, SIZE, "W or H is not 1 to 8, or not 1 to 3 for the programs, or the byte for the column to the east is not 0 or 1", "") \
     X(2, LENGTH, "a lent length differs from the exact one", "") \
@@ -145,6 +147,19 @@ static inline const char *ice40_place_words(uint32_t ground) {
 #define ICE40_KIND_LOOKUP 6                                  /* in_0 first */
 #define ICE40_KIND_MAJORITY 7                                /* in_1, in_2, carry-in */
 
+/* ---- a list of differences, uint32_t: row r at ICE40_DIFFERENCE_LENGTH * r. Rows rise by tile, kind and index, and zeros follow them */
+#define ICE40_DIFFERENCE_LENGTH 5
+#define ICE40_DIFFERENCE_TILE 0
+#define ICE40_DIFFERENCE_KIND 1
+#define ICE40_DIFFERENCE_INDEX 2
+#define ICE40_DIFFERENCE_OLD 3                               /* a group's 0 or entry from 1; a cell's table plus 65,536 times its flags */
+#define ICE40_DIFFERENCE_NEW 4
+#define ICE40_DIFFERS_FIELD 1                                /* index 0 NegClk, 1 CarryInSet, 2 the chain */
+#define ICE40_DIFFERS_GROUP 2
+#define ICE40_DIFFERS_CELL 3
+#define ICE40_DIFFERS_PASSIVE 4
+#define ICE40_DIFFERENCES_LIMIT(n) (587 * (size_t)(n))       /* the most rows: 3 fields, 512 groups, 8 cells, 64 passive bits a tile */
+
 /* ---- a list of contentions: row r at ICE40_CONTENTION_LENGTH * r. Rows rise by wire, tile and group, and zeros follow them */
 #define ICE40_CONTENTION_LENGTH 3
 #define ICE40_CONTENTION_WIRE 0
@@ -215,15 +230,17 @@ uint64_t ice40_write(uint32_t w, uint32_t h, const uint16_t *table, size_t table
 /* How many of a tile's bits are set. Grounds 1, 2, 20. */
 uint64_t ice40_bit_count(uint32_t w, uint32_t h, const uint8_t *bits, size_t bits_length, uint32_t tile);
 
-/* Every difference between two blocks of one size under one table; the value is the number of rows. Grounds 1, 14, 2, 3, 4, 15, each for the first block
- * before the second. A row is five numbers: tile, 1 for a field, 2 a group, 3 a cell or 4 a passive bit, its index, old and new setting; a cell's is its
- * table plus 65,536 times its flags. The output is list, of any length, with zeros behind the rows; before and after are work room, each as long as the
- * settings of a block. */
+/* Every difference between two blocks of one size under one table; the value is the number of rows, 0 exactly if the bits are equal.
+ * Grounds 1, 14, 2, 3, 4, 15, each for the first block before the second; the place of 15 is the number of rows needed. The output is list,
+ * of any length, with zeros behind the rows; no two blocks need more than ICE40_DIFFERENCE_LENGTH * ICE40_DIFFERENCES_LIMIT(n). The work
+ * room is before and after, each as long as the settings of a block; under 14 it is zeroed whatever its length. */
 uint64_t ice40_compare(uint32_t w1, uint32_t h1, uint32_t w2, uint32_t h2, const uint16_t *table, size_t table_length, const uint8_t *first,
                        size_t first_length, const uint8_t *second, size_t second_length, uint32_t *list, size_t list_length, uint16_t *before,
                        size_t before_length, uint16_t *after, size_t after_length);
 
-/* Where tile's numbers begin in one of two blocks of one size: which is 0 for the first, any other number for the second. Grounds 1, 14, 2, 20. */
+/* Where a tile's numbers begin in one of two blocks of one size: which is 0 for the first, any other number for the second. The index is
+ * the same in both; the caller adds it to the pointer of the one asked for, and a tile has ICE40_BITS_LENGTH(1) numbers. Nothing is decoded.
+ * Grounds 1, 14, 2, 20. */
 uint64_t ice40_tile_part(uint32_t w1, uint32_t h1, uint32_t w2, uint32_t h2, const uint8_t *first, size_t first_length, const uint8_t *second,
                          size_t second_length, uint32_t which, uint32_t tile);
 

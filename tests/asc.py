@@ -157,50 +157,50 @@ def spelt():
     device, tile = '.device 1k\n', tile_text(3, 5)
     good = device + tile
     yield 'plain', good, 0
-    yield 'E1.1 .device behind the tiles', tile + device, 0
-    yield 'E1.1 .comment first', '.comment from nextpnr\nline\n\n' + good, 0
+    yield '.device behind the tiles', tile + device, 0
+    yield '.comment first', '.comment from nextpnr\nline\n\n' + good, 0
     for text, line in (('text\n' + good, 1), (device + 'text\n' + tile, 2), (good + '0' * 54 + '\n', 19), (good + ' \n', 19)):
-        yield 'E1.2 text where none is due', text, line
-    yield 'E1.3 empty lines', '\n\n' + device + '\n' + tile.replace('\n', '\n\n') + '\n\n', 0
-    yield 'E1.3 a blank between rows', device + tile.replace('\n', '\n \n', 1), 3
-    yield 'E1.3 a carriage return is no empty line', device + '\r\n' + tile, 2
+        yield 'text where none is due', text, line
+    yield 'empty lines', '\n\n' + device + '\n' + tile.replace('\n', '\n\n') + '\n\n', 0
+    yield 'a blank between rows', device + tile.replace('\n', '\n \n', 1), 3
+    yield 'a carriage return is no empty line', device + '\r\n' + tile, 2
     for words in ('256 0', '0 256', '03 5', '3 05', '00 5', '3', '3 5 ', '3  5', ' 3 5', '3 5 0', '-3 5', '+3 5', '3,5', 'x y', '', ' ', '3 5\r',
                   '3\t5', '1000 5', '99999999999 5', '4294967299 5', '3 5.', '3 ', '3 0x5', '\xb3 5', '300 5', '3 999', '3 5\0'):
-        yield 'E1.4 .logic_tile ' + words, device + '.logic_tile ' + words + '\n' + tile, 2
-    yield 'E1.4 no coordinates', device + '.logic_tile\n' + tile, 2
+        yield '.logic_tile ' + words, device + '.logic_tile ' + words + '\n' + tile, 2
+    yield 'no coordinates', device + '.logic_tile\n' + tile, 2
     for x, y in ((0, 0), (255, 255), (3, 4), (3, 6), (2, 5), (4, 5), (5, 3), (35, 5), (3, 55)):
-        yield 'E1.4 a tile outside', device + '.logic_tile %d %d\nwhat follows\n' % (x, y) + tile, 0
-    yield 'E1.5 skipped lines', device + '.io_tile 0 0\n\xff\0\x80 \t\r\n ..\n' + '9' * 5000 + '\n' + tile, 0
+        yield 'a tile outside', device + '.logic_tile %d %d\nwhat follows\n' % (x, y) + tile, 0
+    yield 'skipped lines', device + '.io_tile 0 0\n\xff\0\x80 \t\r\n ..\n' + '9' * 5000 + '\n' + tile, 0
     for word in ('.devices 1k', '.Device 8k', '.logic_tiles 3 5', '.device\t8k', '.', '..', '. device 1k', '.logic_tile\t3 5',
                  '.logic_tile_bits', '.dev', '.logic_til', '.DEVICE 8k'):
-        yield 'E1.6 another section, ' + word, device + word + '\nskipped\n' + tile, 0
+        yield 'another section, ' + word, device + word + '\nskipped\n' + tile, 0
     for word in ('.device', '.device ', '.device 1k ', '.device  1k', '.device 1k 1k', '.device 8k', '.device 1K', '.device 1',
                  '.device 1k\r', '.device 1k\0', '.device 01k', '.device 384'):
-        yield 'E1.6 the word and not the shape, ' + word, word + '\n' + tile, 1
-    yield 'E1.7 a blank before the dot', ' ' + good, 1
-    yield 'E1.7 a blank before the dot, skipped', '.comment\n .device 8k\n' + good, 0
+        yield 'the word and not the shape, ' + word, word + '\n' + tile, 1
+    yield 'a blank before the dot', ' ' + good, 1
+    yield 'a blank before the dot, skipped', '.comment\n .device 8k\n' + good, 0
     for text, line in ((good[:-1], 18), (good + '.comment', 19), (good + '.comment\nx', 20), (good + ' ', 19), (good + '.device 8k', 19),
                        ('.', 1), (device + '.io_tile 0 0\n1', 3)):
-        yield 'E1.8 no line feed at the end', text, line
-    yield 'E1.8 nothing but line feeds', '\n\n\n', 4
-    yield 'E1.8 nothing', '', 1
-    yield 'E1.9 fifteen rows, a dot line', device + tile[:-55] + '.comment\n', 18
-    yield 'E1.9 fifteen rows, the end', device + tile[:-55], 18
-    yield 'E1.9 no row, empty lines, the end', device + '.logic_tile 3 5\n\n\n', 5
-    yield 'E1.10 given twice', good + tile, 19
-    yield 'E1.10 given twice, the header alone', good + '.logic_tile 3 5\n', 19
-    yield 'E1.10 outside given twice', device + tile_text(4, 5) + tile_text(4, 5) + tile, 0
-    yield 'E1.11 a second device before a missing tile', device + '.device 1k\n', 2
-    yield 'E1.11 a missing device after a bad row', tile[:-2] + '2\n', 17
-    yield 'E1.11 both missing', '.comment\n', 2
+        yield 'no line feed at the end', text, line
+    yield 'nothing but line feeds', '\n\n\n', 4
+    yield 'nothing', '', 1
+    yield 'fifteen rows, a dot line', device + tile[:-55] + '.comment\n', 18
+    yield 'fifteen rows, the end', device + tile[:-55], 18
+    yield 'no row, empty lines, the end', device + '.logic_tile 3 5\n\n\n', 5
+    yield 'given twice', good + tile, 19
+    yield 'given twice, the header alone', good + '.logic_tile 3 5\n', 19
+    yield 'outside given twice', device + tile_text(4, 5) + tile_text(4, 5) + tile, 0
+    yield 'a second device before a missing tile', device + '.device 1k\n', 2
+    yield 'a missing device after a bad row', tile[:-2] + '2\n', 17
+    yield 'both missing', '.comment\n', 2
     yield 'the tile missing', device, 2
     yield 'the device missing', tile, 18
     for c in (0, 1, 31, 32, 52, 53):
         for digit in '2379a/: \0\r\t\x80':
-            yield 'E1.12 a digit %r' % digit, device + tile[:17 + 54 - 1 - c - 1] + digit + tile[17 + 54 - 1 - c:], 3
+            yield 'a digit %r' % digit, device + tile[:17 + 54 - 1 - c - 1] + digit + tile[17 + 54 - 1 - c:], 3
     for rows in ('0' * 53, '0' * 55, '0' * 54 + '\r', ' ' + '0' * 54, '0' * 54 + ' ', '0' * 27 + ' ' + '0' * 26, '1' * 108):
-        yield 'E1.12 a row of another length', device + '.logic_tile 3 5\n' + rows + '\n' + ZERO_ROWS, 3
-    yield 'E1.12 a byte order mark', '\xef\xbb\xbf' + good, 1
+        yield 'a row of another length', device + '.logic_tile 3 5\n' + rows + '\n' + ZERO_ROWS, 3
+    yield 'a byte order mark', '\xef\xbb\xbf' + good, 1
 
 
 def check_readings(files):
@@ -386,7 +386,7 @@ def check_icestorm(files, inputs):
                 count.same(files.read(w, h, x, y, whole(back)), bits, (name, w, h, x, y))
                 inside = {'logic_tile %d %d' % at for at in asc_model.tiles_of(w, h, x, y)}
                 count.same(explained(path).keys(), words.keys() & inside, (name, w, h, x, y))
-                # it takes the chip's size from the tiles that a file has, and its words hang on that: iceunpack's file has them all
+                # it takes the chip's size from the tiles that a file has, and its words depend on that: iceunpack's file has them all
                 count.same(explained(back), {at: said for at, said in words.items() if at in inside}, (name, w, h, x, y))
     return count.done()
 

@@ -32,8 +32,7 @@ ENTRIES = [
     ('contention', 'src/lib.rt', 'contentions', '1'),
     ('compare', 'src/lib.rt', 'compare', '1'),
     ('compare', 'src/part.rt', 'part_answer', '1'),
-    ('capi', 'src/comparing.rt', 'ice40_compare', '1'),
-    ('capi', 'src/comparing.rt', 'ice40_tile_part', '1'),
+    ('compare', 'src/part.rt', 'tile_part', '1'),
     ('sim', 'src/lib.rt', 'step', '1'),
     ('asc', 'src/lib.rt', 'read', '12'),
     ('asc', 'src/lib.rt', 'text_length', '1'),
@@ -45,6 +44,8 @@ ENTRIES = [
     ('capi', 'src/blocks.rt', 'ice40_read', '1'),
     ('capi', 'src/blocks.rt', 'ice40_write', '1'),
     ('capi', 'src/blocks.rt', 'ice40_bit_count', '1'),
+    ('capi', 'src/comparing.rt', 'ice40_compare', '1'),
+    ('capi', 'src/comparing.rt', 'ice40_tile_part', '1'),
     ('capi', 'src/circuits.rt', 'ice40_build', '1'),
     ('capi', 'src/circuits.rt', 'ice40_follow', '1'),
     ('capi', 'src/circuits.rt', 'ice40_step', '1'),
@@ -354,7 +355,7 @@ class Sources:
     def clauses(self, crate, file, function):
         """The signature and the contract of a function, as text; '' where there is no such function."""
         text = read(os.path.join(CRATES, crate, file))
-        m = re.search(r'^pub (?:extern "C" )?fn ' + function + r'\(.*?^\{', text, re.M | re.S)
+        m = re.search(r'^pub (?:extern "C" )?fn ' + function + r"(?:<'\w+>)?\(.*?^\{", text, re.M | re.S)
         return m.group(0) if m else ''
 
     def contract(self, crate, file, function):

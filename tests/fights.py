@@ -19,7 +19,7 @@ import library  # noqa: E402
 import model  # noqa: E402
 from contentions import Candidates, put, unclaimed  # noqa: E402
 from library import Count, blocks  # noqa: E402
-from tools import BUILT, CUTS, contents, data, read_by, readers, run  # noqa: E402
+from tools import BUILT, CUTS, contents, data, frames_of, read_by, readers, run  # noqa: E402
 
 import ice40  # noqa: E402  (its names and wires are held against the documents by tests/tools.py and tests/words.py)
 
@@ -48,13 +48,6 @@ def expected(w, h, east, table, bits, corner):
 
 def listed_by(reader):
     return 'note: the fights were listed by %s' % ('the proved library' if reader else 'Python, as no library is there (make lib)')
-
-
-def frames_of(name, east, bits):
-    """A bundled input with other bits."""
-    head = contents(data(name + '.in')).split('\n04')[0]
-    w, h, *_ = blocks()[name]
-    return head + '\n04%02X%02X%02X\n' % (w, h, east) + ''.join('05%s\n' % bits[108 * t:108 * t + 108].hex().upper() for t in range(w * h))
 
 
 def with_fights(name, east, many):

@@ -15,10 +15,12 @@ typedef struct {
     uint8_t before[ICE40_PORTS_LENGTH(N)], after[ICE40_PORTS_LENGTH(N)], values[ICE40_PORTS_LENGTH(N)];
     uint8_t text[TEXT], again[ICE40_BITS_LENGTH(N)];
     uint16_t contentions[ICE40_CONTENTION_LENGTH * ICE40_SWITCHES_LENGTH(N)];
-    uint64_t answers[10];
+    uint8_t other[ICE40_BITS_LENGTH(N)]; /* the block with one bit changed */
+    uint32_t differences[ICE40_DIFFERENCE_LENGTH * 2];
+    uint64_t answers[12];
     /* work room */
     uint16_t room_settings[ICE40_SETTINGS_LENGTH(N)], rows[ICE40_LIST_LENGTH(N)], a[ICE40_PORTS_LENGTH(N)], b[ICE40_PORTS_LENGTH(N)];
-    uint16_t c[ICE40_PORTS_LENGTH(N)], d[ICE40_PORTS_LENGTH(N)], nexts[ICE40_SWITCHES_LENGTH(N)];
+    uint16_t c[ICE40_PORTS_LENGTH(N)], d[ICE40_PORTS_LENGTH(N)], nexts[ICE40_SWITCHES_LENGTH(N)], other_settings[ICE40_SETTINGS_LENGTH(N)];
     uint8_t first[ICE40_PORTS_LENGTH(N)], second[ICE40_PORTS_LENGTH(N)];
 } Work;
 
@@ -48,6 +50,16 @@ static uint64_t list_contentions(Work *k, size_t length) {
                              ICE40_SETTINGS_LENGTH(n), k->a, ports, k->b, ports, k->nexts, ICE40_SWITCHES_LENGTH(n));
 }
 
+/* With another block and a list of so many numbers. */
+static uint64_t compare(Work *k, const uint8_t *other, uint32_t *list, size_t length) {
+    return ice40_compare(w, h, w, h, k->table, ICE40_TABLE_LENGTH, k->bits, ICE40_BITS_LENGTH(n), other, ICE40_BITS_LENGTH(n), list, length,
+                         k->room_settings, ICE40_SETTINGS_LENGTH(n), k->other_settings, ICE40_SETTINGS_LENGTH(n));
+}
+
+static uint64_t tile_part(const Work *k, uint32_t which, uint32_t tile) {
+    return ice40_tile_part(w, h, w, h, k->bits, ICE40_BITS_LENGTH(n), k->other, ICE40_BITS_LENGTH(n), which, tile);
+}
+
 static uint64_t write_settings(Work *k, const uint16_t *settings) {
     return ice40_write(w, h, k->table, ICE40_TABLE_LENGTH, settings, ICE40_SETTINGS_LENGTH(n), k->written, ICE40_BITS_LENGTH(n));
 }
@@ -66,6 +78,8 @@ static void call_all(Work *k) {
     k->answers[7] = ice40_asc_write(w, h, X, Y, k->bits, ICE40_BITS_LENGTH(n), k->text, ICE40_VALUE(k->answers[6]));
     k->answers[8] = ice40_asc_read(w, h, X, Y, k->text, ICE40_VALUE(k->answers[6]), k->again, ICE40_BITS_LENGTH(n));
     k->answers[9] = list_contentions(k, ICE40_CONTENTION_LENGTH * ICE40_SWITCHES_LENGTH(n));
+    k->answers[10] = compare(k, k->other, k->differences, ICE40_DIFFERENCE_LENGTH * 2);
+    k->answers[11] = tile_part(k, 1, (uint32_t)n - 1);
 }
 
 static void *call_often(void *work) {
@@ -157,6 +171,26 @@ static void try_contentions(const Work *result) {
     done("contentions");
 }
 
+/* Two blocks that differ in one bit of a table of the last tile, and one tile's part of either. */
+static void try_compare(const Work *result) {
+    Work *k = copy_of(result);
+    const uint32_t *row = k->differences, last = (uint32_t)n - 1;
+    same(k->answers[10] == 1, "one row");
+    same(row[ICE40_DIFFERENCE_TILE] == last && row[ICE40_DIFFERENCE_KIND] == ICE40_DIFFERS_CELL && row[ICE40_DIFFERENCE_INDEX] == 0, "the row's cell");
+    same((row[ICE40_DIFFERENCE_OLD] ^ row[ICE40_DIFFERENCE_NEW]) == 0x8000, "LUT_INIT 15");
+    same((row[ICE40_DIFFERENCE_OLD] & 0xFFFF) == k->settings[ICE40_SETTINGS_LENGTH(last) + ICE40_SETTINGS_CELL_TABLE(0)], "the old table");
+    for (size_t m = ICE40_DIFFERENCE_LENGTH; m < ICE40_DIFFERENCE_LENGTH * 2; m++) same(row[m] == 0, "zeros behind it");
+    same(compare(k, k->other, k->differences, ICE40_DIFFERENCE_LENGTH - 1) == (no(ICE40_NO_LIST_TOO_SHORT) | 1), "a list too short by one: the rows needed");
+    same(compare(k, k->other, NULL, 0) == (no(ICE40_NO_LIST_TOO_SHORT) | 1), "no list");
+    same(compare(k, k->bits, NULL, 0) == 0, "the same bits, which may be one slice, need no list");
+    same(k->answers[11] == ICE40_BITS_LENGTH(last) && tile_part(k, 0, last) == k->answers[11] && tile_part(k, UINT32_MAX, 0) == 0, "a tile's part");
+    same(tile_part(k, 0, (uint32_t)n) == (no(ICE40_NO_OUT_OF_RANGE) | n), "no such tile");
+    same(ice40_tile_part(w, h, 9 - w, 9 - h, k->bits, 0, k->other, 0, 0, 0) == no(ICE40_NO_SIZES_DIFFER), "sizes that differ, before lengths");
+    same(equal(k, result), "nothing else touched");
+    free(k);
+    done("comparing");
+}
+
 /* NULL with length 0 in each place, with a size that is right and one that is not. */
 static void try_null(const Work *result) {
     Work *k = copy_of(result);
@@ -168,6 +202,8 @@ static void try_null(const Work *result) {
         same(ice40_build(x, h, east, NULL, 0, NULL, 0, NULL, 0, NULL, 0, NULL, 0, NULL, 0, NULL, 0, NULL, 0, NULL, 0) == expected, "build");
         same(ice40_follow(x, h, east, NULL, 0, NULL, 0, 0, 0, NULL, 0, NULL, 0, NULL, 0) == expected, "follow");
         same(ice40_contentions(x, h, east, NULL, 0, NULL, 0, NULL, 0, NULL, 0, NULL, 0, NULL, 0, NULL, 0) == expected, "contentions");
+        same(ice40_compare(x, h, x, h, NULL, 0, NULL, 0, NULL, 0, NULL, 0, NULL, 0, NULL, 0) == expected, "compare");
+        same(ice40_tile_part(x, h, x, h, NULL, 0, NULL, 0, 0, 0) == expected, "tile_part");
         same(ice40_step(x, h, east, NULL, 0, NULL, 0, NULL, 0, NULL, 0, NULL, 0, NULL, 0, NULL, 0, NULL, 0, NULL, 0, NULL, 0, NULL, 0, NULL, 0, NULL, 0) == expected,
              "step");
     }
@@ -196,6 +232,8 @@ static void load(Work *k, const char *path) {
     if (fread(k->table, sizeof *k->table, ICE40_TABLE_LENGTH, file) != ICE40_TABLE_LENGTH) exit(2);
     if (fread(k->bits, 1, ICE40_BITS_LENGTH(n), file) != ICE40_BITS_LENGTH(n)) exit(2);
     fclose(file);
+    memcpy(k->other, k->bits, ICE40_BITS_LENGTH(n));
+    k->other[ICE40_BITS_LENGTH(n - 1) + 36 / 8] ^= 1 << 36 % 8; /* B0[36] */
     for (size_t p = 0; p < ports; p++) k->before[p] = p % 3 == 0, k->after[p] = p % 5 == 0;
 }
 
@@ -210,6 +248,7 @@ int main(int argc, char **argv) {
     try_null(result);
     try_files(result);
     try_contentions(result);
+    try_compare(result);
     free(start), free(result);
     return 0;
 }

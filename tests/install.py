@@ -17,7 +17,7 @@ from library import DATA, ROOT, Count, run  # noqa: E402
 from tools import DEBIAN  # noqa: E402
 
 VIEWER = os.path.join(ROOT, 'examples', 'viewer.c')
-TOOLS = ['shelf', 'explain', 'fights', 'names', 'asc-to-frames', 'chipdb-to-frames']
+TOOLS = ['shelf', 'explain', 'fights', 'compare', 'names', 'asc-to-frames', 'chipdb-to-frames']
 
 
 def answer(command, **options):

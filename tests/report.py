@@ -334,7 +334,7 @@ def judged_blocks():
 
 
 def outside_blocks():
-    """Blocks of one column, whose answer hangs on what is joined outside: lines without a byte, then what they give without and with it."""
+    """Blocks of one column, whose answer depends on what is joined outside: lines without a byte, then what they give without and with it."""
     right = RIGHT, [A], [(1, OUT)]  # row 1's sp4_r_v_b_0 is row 0's sp4_r_v_b_13
     yield [right, (RIGHT + 13, [B], [(1, OUT)])], [[B], [A]], (0, 0), (5, RIGHT + 13)
     yield [right, (RIGHT + 12, [B], [(1, OUT)])], [[B], [A]], (0, 0), (0, 0)  # not without the flip

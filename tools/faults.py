@@ -175,7 +175,7 @@ class Explainer:
         scene = Scene(self.chip, self.table, self.design, cut)
         if ground != 5:
             return [scene.single(ground, place)]
-        rows = self.judge.library.contentions(cut.w, cut.h, cut.east, self.chip.table, self.bits[k])
+        rows = self.judge.library.contentions(cut.w, cut.h, cut.east, self.chip.table, scene.tiles)
         found = []
         for wire, fighting in groupby(rows, lambda row: row[0]):
             ends = [(scene.at[t], g) for _, t, g in fighting]

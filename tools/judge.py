@@ -80,7 +80,7 @@ class Judge:
     def read_tile(self, bits):
         """The settings of a tile, or None where it cannot be decoded."""
         try:
-            return self.library.settings(self.chip.table, proved.tile_from(bits))
+            return self.library.settings(self.chip.table, proved.bits_from(bits))
         except proved.Refused:
             return None
 

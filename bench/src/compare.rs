@@ -58,7 +58,7 @@ fn shown(answer: &Answer) -> (u32, u32) {
 }
 
 /// What both answered, if answers and outputs are the same.
-fn agree<T: PartialEq>(name: &str, call: &str, a: (Answer, T), b: (Answer, T)) -> Result<(u32, u32), String> {
+pub fn agree<T: PartialEq>(name: &str, call: &str, a: (Answer, T), b: (Answer, T)) -> Result<(u32, u32), String> {
     let (proved, base) = (shown(&a.0), shown(&b.0));
     if proved != base {
         return Err(format!("{name} {call}: the proved library answers {proved:?}, the baseline {base:?}"));
@@ -149,8 +149,8 @@ pub fn damaged(blocks: &[Block], rounds: usize) -> Result<[usize; 21], String> {
 
 fn damage_bits(case: &mut Case, random: &mut Random) -> Result<(u32, u32), String> {
     for _ in 0..1 + random.below(3) {
-        let p = random.below(8 * case.block.bits.len());
-        case.block.bits[p / 8] ^= 1 << (p % 8);
+        let p = random.below(864 * case.block.tiles());
+        case.block.flip(p);
     }
     read(case)?;
     build(case)

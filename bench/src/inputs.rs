@@ -1,5 +1,5 @@
 //! The blocks that are measured: real ones from files of frames, parts of them, and an empty one.
-use crate::baseline::{BYTES, TABLE};
+use crate::baseline::{self, BYTES, SETTINGS, TABLE};
 use std::fs;
 use std::path::Path;
 
@@ -27,6 +27,29 @@ impl Block {
             bits.extend(&self.bits[from..from + BYTES * s as usize]);
         }
         Block { name: format!("big8_{s}x{s}"), w: s, h: s, east: self.east, table: self.table.clone(), bits }
+    }
+
+    pub fn size(&self) -> (u32, u32) {
+        (self.w, self.h)
+    }
+
+    /// The settings of a block that can be decoded.
+    pub fn settings(&self) -> Vec<u16> {
+        let mut settings = vec![0; SETTINGS * self.tiles()];
+        assert!(baseline::read(self.w, self.h, &self.table, &self.bits, &mut settings).is_ok(), "{}", self.name);
+        settings
+    }
+
+    /// The same block with other settings; as it is where no bits have them.
+    pub fn with(&self, settings: &[u16]) -> Block {
+        let mut block = self.clone();
+        let _ = baseline::write(self.w, self.h, &self.table, settings, &mut block.bits);
+        block
+    }
+
+    /// Flips a bit: position p of the block, 864 a tile.
+    pub fn flip(&mut self, p: usize) {
+        self.bits[p / 8] ^= 1 << (p % 8);
     }
 
     /// The same block beside a column of logic or RAM.

@@ -5,6 +5,8 @@
 mod asc;
 mod build;
 mod codec;
+mod compare;
+mod contentions;
 mod order;
 mod step;
 mod table;
@@ -13,6 +15,8 @@ mod wires;
 pub use asc::{asc_length, asc_read, asc_write, Area};
 pub use build::build;
 pub use codec::{read, write};
+pub use compare::compare;
+pub use contentions::contentions;
 pub use step::{step, Step};
 
 /// A ground's number and place.
@@ -29,6 +33,10 @@ pub const BYTES: usize = 108;
 pub const SETTINGS: usize = 595;
 pub const TABLE: usize = 38469;
 pub const ROW: usize = 7;
+
+/// The length of a row of `compare`'s list, and of `contentions`'.
+pub const CHANGE: usize = 5;
+pub const CONTENTION: usize = 3;
 
 /// Where passive bits, groups and cells stand in a tile's settings.
 const PASSIVES_FROM: usize = 3;

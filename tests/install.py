@@ -14,9 +14,10 @@ import tempfile
 
 sys.path.insert(0, os.path.dirname(os.path.abspath(__file__)))
 from library import DATA, ROOT, Count, run  # noqa: E402
+from tools import DEBIAN  # noqa: E402
 
 VIEWER = os.path.join(ROOT, 'examples', 'viewer.c')
-TOOLS = ['explain', 'fights', 'compare', 'names', 'asc-to-frames', 'chipdb-to-frames']
+TOOLS = ['shelf', 'explain', 'fights', 'compare', 'names', 'asc-to-frames', 'chipdb-to-frames']
 
 
 def answer(command, **options):
@@ -106,6 +107,8 @@ def check_programs(prefix, folder):
         note = 'note: %s/counter8.asc was read by the proved library\nnote: the column to the east, x = 6, is logic; --east 0 was given\n' % DATA
         count.same(answer(cut, shell=True, cwd=folder, env=environment), (0, file.read(), note))
     count.same(answer('ice40-names 1 1 wire 354', shell=True, cwd=folder, env=environment), (0, '(0,0) local_g2_2\n', ''))
+    status, text, errors = answer('ice40-shelf %s/counter8.asc' % DATA, shell=True, cwd=folder, env=dict(environment, XDG_CACHE_HOME=folder))
+    count.same((status, text.startswith('yes  %s/counter8.asc  1k: ' % DATA), errors), (0, True, '') if os.path.isdir(DEBIAN) else (2, False, ''), text)
     count.same(answer('ice40-chipdb-to-frames --help', shell=True, cwd=folder, env=environment)[0], 0)
     return count.done()
 

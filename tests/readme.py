@@ -70,6 +70,11 @@ def is_left_out(command):
     return any(command == words or words.endswith(' ') and command.startswith(words) for words in LEFT_OUT)
 
 
+def says_no(command, printed):
+    """Whether a command that ends with its own status prints a no: explain.py's or the shelf's."""
+    return printed.startswith('no,') or printed.startswith('no  ') and '|' not in command
+
+
 def check_commands(page):
     count = Count('commands of %s, and what they print' % page)
     if not os.path.exists(os.path.join(ROOT, 'target', 'bin', 'report')):
@@ -79,7 +84,7 @@ def check_commands(page):
         for command, shown in commands(contents(page)):
             if is_left_out(command):
                 continue
-            if DEBIAN in command and not os.path.isdir(DEBIAN):
+            if (DEBIAN in command or 'shelf.py' in command) and not os.path.isdir(DEBIAN):
                 shutil.copy(os.path.join(DATA, '1k.tab'), folder)
                 print('left out, no chip database: %s' % command)
                 continue
@@ -89,7 +94,7 @@ def check_commands(page):
                 shown = printed
             elif shown[0] == '..':
                 printed, shown = printed[len(printed) - len(shown) + 1:], shown[1:]
-            count.same((done.returncode, printed, without_notes(done.stderr)), (int(done.stdout.startswith('no,')), shown, ''), command)
+            count.same((done.returncode, printed, without_notes(done.stderr)), (int(says_no(command, done.stdout)), shown, ''), command)
     return count.done()
 
 
@@ -124,7 +129,7 @@ def check_yes_words():
     """README says of a yes what it does not cover."""
     count = Count('README.md on what a yes does not say')
     readme = re.sub(r'\s+', ' ', contents('README.md'))
-    for words in ('two switches in different blocks can drive one wire, and every block gets a yes', 'A span-12 wire lies in thirteen tiles', 'RAM column',
+    for words in ('two switches in different blocks can drive one wire, and every block gets a yes', 'A span-12 wire lies in thirteen tiles', 'on one net there too, but that is not proved', 'RAM column',
                   'always ends with status 0', 'ignores the input', 'seven minutes', '17 to 20 minutes', 'rt version'):
         count.same(words in readme, True, words)
     return count.done()

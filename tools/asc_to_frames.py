@@ -24,7 +24,6 @@ from ice40 import COLUMNS, PROGRAM_LIMIT, ROWS, check_size
 from icestorm import LINE, column_kind, coordinates, sections, table_devices
 from tool import Mistake, about, add_east, bytes_of, counted, file_name, lines_in, note, number, run
 
-LIBRARY_DEVICE = '1k'  # the one whose files the library reads
 LONGEST = 1 << 28  # bytes of a file; a real one has some millions at most
 
 KINDS = {'io': 'an IO tile', 'ramb': 'a RAM tile', 'ramt': 'a RAM tile', 'ipcon': 'an IP connect tile'}  # the rest are parts of DSP tiles
@@ -123,7 +122,7 @@ def library_block(library, text, corner, w, h):
 def library_for(text):
     """The library, where it is there and takes such a file, else None."""
     devices = devices_named(text)
-    return proved.library() if LIBRARY_DEVICE in devices or not devices else None
+    return proved.library() if proved.ASC_DEVICE in devices or not devices else None
 
 
 def reader_words(library, device):
@@ -137,7 +136,7 @@ def read_block(text, corner, w, h):
     """The device of a file's bytes, the bytes of each tile of a block, and what read them, in words."""
     library = library_for(text)
     if library:
-        return LIBRARY_DEVICE, library_block(library, text, corner, w, h), reader_words(library, LIBRARY_DEVICE)
+        return proved.ASC_DEVICE, library_block(library, text, corner, w, h), reader_words(library, proved.ASC_DEVICE)
     device, tiles = read_design(text)
     try:
         block = python_block(tiles, corner, w, h)

@@ -19,24 +19,28 @@ LTIN = Group(PORT['lutff_0/in_2'], [position_at('B0[50]')], [(1, PORT['ltin'])])
 
 
 class Database:
-    """What a chip database says of one logic tile. It is read in one pass, so that a pipe serves too: tiles and bits stand before the nets."""
+    """What the lines of a chip database say of one logic tile. They are read in one pass, so that a pipe serves too: tiles and bits stand
+    before the nets."""
 
-    def __init__(self, path):
+    def __init__(self, lines):
         self.known, self.tiles = set(), set()  # the kinds of section that were met; the coordinates of all logic tiles
         self.bits = {}  # by name, the positions of bits that are no switches
         self.names = {}  # by net, the names that it has in the tile
         self.switches = []  # the tile's sections: a destination net and its bits, then for each source a pattern and a net
-        take = {'.logic_tile': self.add_tile, '.logic_tile_bits': self.add_bits, '.net': self.add_net, '.buffer': self.add_switch,
-                '.routing': self.add_switch}
-        for head, rows in sections(pieces(path, LINE)):
+        self.take = {'.logic_tile': self.add_tile, '.logic_tile_bits': self.add_bits, '.net': self.add_net, '.buffer': self.add_switch,
+                     '.routing': self.add_switch}
+        for head, rows in sections(lines):
             self.known.add(head[0])
-            if head[0] in take:
-                take[head[0]](head, rows)
+            self.add(head, rows)
         for kind in ('.device', '.logic_tile_bits', '.net'):
             if kind not in self.known:
                 raise Mistake('not a chip database: no section %s' % kind)
         if not self.switches:
             raise Mistake('not a chip database: tile (%s,%s) has no switches' % self.tile)
+
+    def add(self, head, rows):
+        if head[0] in self.take:
+            self.take[head[0]](head, rows)
 
     @functools.cached_property
     def tile(self):
@@ -95,8 +99,7 @@ def check_cells(bits):
             raise Mistake('the bits of LC_%d are not where a logic tile has them' % i)
 
 
-def table_of(path, ltin):
-    database = Database(path)
+def table_of(database, ltin=False):
     check_cells(database.bits)
     groups = [group_of(database.names, head, rows) for head, rows in database.switches]
     chain = [group.positions[0] for group in groups if is_chain(group)]
@@ -114,7 +117,7 @@ def main():
                         help='add the switch that the database lacks: ltin (port 505) to lutff_0/in_2, at B0[50]')
     arguments = parser.parse_args()
     with about(arguments.database):
-        return table_frames(table_of(arguments.database, arguments.ltin)), 0
+        return table_frames(table_of(Database(pieces(arguments.database, LINE)), arguments.ltin)), 0
 
 
 if __name__ == '__main__':

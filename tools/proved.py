@@ -1,5 +1,7 @@
 """The proved library, by ctypes, where it is built: it reads a block's bits from an .asc file, so that no unproved text stands between the
-file and them, lists the switches that fight in a block, and lists what differs between two.
+file and them, judges a block, reads a tile's settings, lists the switches that fight in a block, and lists what differs between two.
+
+In Python a tile is one number with position p at weight 2^p. `NUMBER`, `lent_bits` and `tiles_of` alone know the form that a block's bits are lent in.
 
 The library is looked for where `make lib` writes it and beside tools that `make install` put somewhere, or where the environment's
 ICE40_LIBRARY says; if that is empty none is used.
@@ -10,10 +12,14 @@ import os
 from tool import Mistake
 
 VARIABLE = 'ICE40_LIBRARY'
-TILE_BYTES, TILE_PORTS, TILE_GROUPS, TILE_SETTINGS = 108, 506, 512, 595
+TILE_BYTES, TILE_PORTS, TILE_GROUPS, TILE_SETTINGS, TILE_LIST = 108, 506, 512, 595, 3542
 TILE_DIFFERENCES = 3 + 512 + 8 + 64  # fields, groups, cells and passive bits: as many rows as a tile can have
 TABLE_LENGTH, PASSIVE_COUNT, GROUP_COUNT, GROUPS_FROM, GROUP_LENGTH, ENTRIES_FROM = 38469, 3, 68, 69, 75, 10
+SETTINGS_GROUPS, SETTINGS_CELLS = 67, 579  # where a tile's settings have those of its groups and of its cells
 SIZE, ASC_LINE = 1, 13  # grounds for a no
+ASC_DEVICE = '1k'  # the one whose .asc files it reads
+NUMBER, TILE_NUMBERS = ctypes.c_uint8, TILE_BYTES  # the type of the numbers of lent bits, and how many a tile has
+BUILD_ROOM = (TILE_LIST, TILE_SETTINGS, TILE_PORTS, TILE_PORTS, TILE_LIST, TILE_PORTS, TILE_PORTS)  # numbers a tile of what `build` writes
 
 
 class Refused(Exception):
@@ -27,8 +33,8 @@ class Refused(Exception):
 class Library:
     def __init__(self, path):
         library = ctypes.CDLL(path)
-        self.path, self.calls = path, {}
-        for name, numbers, slices in (('asc_read', 4, 2), ('contentions', 3, 7), ('compare', 4, 6)):
+        self.path, self.calls, self.rooms = path, {}, {}
+        for name, numbers, slices in (('asc_read', 4, 2), ('read', 2, 3), ('build', 3, 9), ('contentions', 3, 7), ('compare', 4, 6)):
             call = self.calls[name] = getattr(library, 'ice40_' + name)
             call.restype, call.argtypes = ctypes.c_uint64, [ctypes.c_uint32] * numbers + [ctypes.c_void_p, ctypes.c_size_t] * slices
 
@@ -40,13 +46,31 @@ class Library:
             raise Refused(answer >> 32, answer & 0xFFFFFFFF)
         return answer
 
-    def read_block(self, text, corner, w, h):
-        """The bytes of each tile of a block, by index."""
+    def room(self, n, lengths):
+        """Arrays of so many 16-bit numbers a tile for n tiles. They serve every call that asks for the same: a call needs nothing of what they hold."""
+        return self.rooms.setdefault((n, lengths), [(ctypes.c_uint16 * (length * n))() for length in lengths])
+
+    def asc_bits(self, text, corner, w, h):
+        """The bits of a block of an .asc file, as they are lent."""
         if not all(0 <= n < 1 << 32 for n in corner):
             raise Refused(SIZE, 0)  # as it answers for every corner above 255
         bits = lent_bits([0] * (w * h))
         self.call('asc_read', (w, h, *corner), [text, bits])
-        return [tile.to_bytes(TILE_BYTES, 'little') for tile in tiles_of(bits)]
+        return bits
+
+    def read_block(self, text, corner, w, h):
+        """The bytes of each tile of a block, by index."""
+        return [tile.to_bytes(TILE_BYTES, 'little') for tile in tiles_of(self.asc_bits(text, corner, w, h))]
+
+    def build(self, w, h, east, table, bits):
+        """Judges a block by its lent bits: the number of its rows, or Refused with one of the grounds 1 to 8."""
+        return self.call('build', (w, h, east), [table, bits, *self.room(w * h, BUILD_ROOM)])
+
+    def settings(self, table, bits):
+        """The settings of one tile by its lent bits: the entry of each group, 0 for off, and the table and flags of each cell."""
+        settings, = self.room(1, (TILE_SETTINGS,))
+        self.call('read', (1, 1), [table, bits, settings])
+        return settings[SETTINGS_GROUPS:SETTINGS_GROUPS + table[GROUP_COUNT]], settings[SETTINGS_CELLS:]
 
     def contentions(self, w, h, east, table, tiles):
         """A row (wire, tile, group) for each enabled switch on a wire on which two or more end, rising. The table is `table_numbers`', and a tile is
@@ -81,12 +105,22 @@ def rows_of(numbers, count, length):
 def lent_bits(tiles):
     """The tiles of a block in the form that its bits are lent in."""
     data = b''.join(tile.to_bytes(TILE_BYTES, 'little') for tile in tiles)
-    return (ctypes.c_uint8 * len(data)).from_buffer_copy(data)
+    return (NUMBER * (TILE_NUMBERS * len(tiles))).from_buffer_copy(data)
 
 
 def tiles_of(bits):
     """The tiles of lent bits."""
-    return [int.from_bytes(bits[at:at + TILE_BYTES], 'little') for at in range(0, len(bits), TILE_BYTES)]
+    return [int.from_bytes(bits[at:at + TILE_NUMBERS], 'little') for at in range(0, len(bits), TILE_NUMBERS)]
+
+
+def part_of(bits, t):
+    """The lent bits of one tile of a block, as bytes, which can be a key; `bits_from` makes lent bits of them again."""
+    size = ctypes.sizeof(NUMBER) * TILE_NUMBERS
+    return ctypes.string_at(ctypes.addressof(bits) + size * t, size)
+
+
+def bits_from(part):
+    return (NUMBER * TILE_NUMBERS).from_buffer_copy(part)
 
 
 def table_numbers(table):

@@ -72,15 +72,15 @@ def pattern_of(group, tile):
     return sum((tile >> p & 1) << k for k, p in enumerate(group.positions))
 
 
-def faults(table, tile):
-    """The positions at fault in a tile, each with what claims it and what is wrong, in no order."""
+def faults(table, tile, in_input):
+    """The positions at fault in a tile, each with what claims it and what is wrong, in no order. `in_input` names a group's line of frames too."""
     claimed = CELL_POSITIONS.union(table.fields, table.passive)
     for g, group in enumerate(table.groups):
         claimed.update(group.positions)
         pattern = pattern_of(group, tile)
         if pattern and pattern not in dict(group.entries):
-            yield group.positions[0], 'the first position of group %d, line %d of the input, destination %s: it does not list pattern %02X (%s set)' % (
-                g, g + 3, port_name(group.destination), pattern, set_names(tile, group.positions))
+            yield group.positions[0], 'the first position of group %d%s, destination %s: it does not list pattern %02X (%s set)' % (
+                g, ', line %d of the input' % (g + 3) if in_input else '', port_name(group.destination), pattern, set_names(tile, group.positions))
     for p in range(POSITIONS):
         if tile >> p & 1 and p not in claimed:
             yield p, 'set, and nothing claims it'
@@ -88,9 +88,9 @@ def faults(table, tile):
         yield table.fields[CARRY_IN_SET], 'CarryInSet, set together with %s, the switch from carry_in' % position_name(table.fields[CARRY_IN_SET + 1])
 
 
-def undecodable(table, tile):
+def undecodable(table, tile, in_input=True):
     """The positions at fault in a tile, rising, with their words."""
-    return sorted(faults(table, tile))
+    return sorted(faults(table, tile, in_input))
 
 
 def check_tile(table, tile, name):

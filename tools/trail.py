@@ -177,10 +177,14 @@ class Trail:
         left = peeled(turned(peeled(graph)))
         return [wire for wire in sorted(left) if self.chain(wire, live)][:1]
 
+    def way_round(self, wire):
+        """The way round a loop through a wire, and whether the tables on it use every input that it goes through."""
+        real = self.chain(wire, live=True)
+        return real or self.chain(wire), bool(real)
+
     def loop(self, wire):
         """The way round a loop through a wire, the cells on it with what their tables ignore, and whether it is there by structure only."""
-        real = self.chain(wire, live=True)
-        way = real or self.chain(wire)
+        way, real = self.way_round(wire)
         cells = dict.fromkeys(cell for each in way for cell in self.cell_at(each))
         words = self.structure_words(wire) if not real else 'the tables on it use every input that it goes through' if cells else 'it has no cell'
         return [self.block.wire_name(each) for each in way], [self.table_words(*cell) for cell in cells], words
@@ -213,11 +217,15 @@ class Trail:
         return [t for t in range(len(self.tiles)) if self.clocks(t)]
 
     def clocks(self, t):
-        """The way of a tile's clock and of its set/reset, if they come from a cell."""
+        """The way of a tile's clock and of its set/reset, if they come from a cell, in words."""
+        return [' <- '.join(self.block.wire_name(wire) for wire in way) for way in self.clock_ways(t)]
+
+    def clock_ways(self, t):
+        """The same as wires, from switch to switch."""
         flops = [i for i in range(CELLS) if self.flag(t, i, FLIP_FLOP)]
         ports = ['lutff_global/clk'] * bool(flops) + ['lutff_global/s_r'] * any(self.flag(t, i, ASYNCHRONOUS) for i in flops)
         ways = [self.drivers(self.named(t, name)) for name in ports]
-        return [' <- '.join(self.block.wire_name(wire) for wire in way) for way in ways if self.cell_port(way[-1])]
+        return [way for way in ways if self.cell_port(way[-1])]
 
 
 # ---- what the answer should be

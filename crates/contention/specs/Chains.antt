@@ -6,11 +6,15 @@ use mathlib.Core.Bool.{true, cond}
 use mathlib.Core.List.{List}
 use lib.Dec.{ltb}
 use lib.ListN.{length, getD}
-use Rattle.lists.specs.Search.{first}
+use Rattle.lists.specs.Search.{first, countBelow}
 use Rattle.ports.specs.declared.size.Block.{Block}
 use Rattle.ports.specs.Lengths.{ports}
 use Rattle.equations.specs.Switches.{switches, enabled, target}
 use Rattle.equations.specs.WireRows.{endsOn}
+
+-- at most two of n
+unfoldable pub upToTwo : ℕ → ℕ
+upToTwo n = cond (ltb n 2) n 2
 
 module _ (B : Block) (t st : List ℕ) where
   -- the lowest switch from m on that ends on wire w, and the same as a link
@@ -27,3 +31,7 @@ module _ (B : Block) (t st : List ℕ) where
     pub nexts-long : length nexts ≡ switches B
     pub head : (w : ℕ) → w < ports B → getD heads w 0 ≡ linkFrom w m
     pub next : (s : ℕ) → m ≤ s → s < switches B → enabled B t st s ≡ true → getD nexts s 0 ≡ linkFrom (target B t s) (suc s)
+
+  -- how many switches from m on end on wire w
+  unfoldable pub onFrom : ℕ → ℕ → ℕ
+  onFrom w m = countBelow (endsOn B t st w) (switches B) - countBelow (endsOn B t st w) m

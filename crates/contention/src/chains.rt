@@ -12,7 +12,7 @@ ghost use Rattle.routing.specs.Table.{groupCount};
 ghost use Rattle.equations.specs.Switches.{switches};
 ghost use Rattle.equations.specs.WireRows.{endsOn};
 ghost use Rattle.equations.specs.Routed.{Routed};
-ghost use Rattle.contention.specs.Chains.{Chained};
+ghost use Rattle.contention.specs.Chains.{Chained, upToTwo, onFrom};
 use equations::tiles::group_at;
 use equations::tiles::tile_wire;
 use netlist::row::wide;
@@ -107,4 +107,27 @@ pub fn chain_length(
         n += 1;
     }
     n
+}
+
+// How many switches from m on end on a wire, 2 where they are more: the first two links of its chain.
+pub fn first_links(
+    b: Block,
+    table: &[u16],
+    st: &[u16],
+    heads: &[u16],
+    nexts: &[u16],
+    m: usize,
+    w: usize,
+) -> usize
+    requires { ⌜ Sized b × Chained b (now table) (now st) m (now heads) (now nexts) × (w < ports b) ⌝ }
+    ensures { λ r. ⌜ r ≡ upToTwo (onFrom b (now (table .entry)) (now (st .entry)) w m) ⌝ }
+{
+    let first = wide(heads[w]);
+    if first == 0 {
+        return 0;
+    }
+    if nexts[first - 1] == 0 {
+        return 1;
+    }
+    2
 }

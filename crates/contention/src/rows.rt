@@ -13,6 +13,7 @@ ghost use Rattle.equations.specs.WireRows.{endsOn};
 ghost use Rattle.contention.specs.Contentions.{rowLength, contends, switchRow, contentionCount, contentions};
 ghost use Rattle.contention.specs.Chains.{Chained};
 use crate::chains::chain_length;
+use crate::chains::first_links;
 use netlist::row::wide;
 use ports::lengths::MAX_GROUPS;
 use ports::size::Block;
@@ -24,11 +25,11 @@ fn count_wire(b: Block, table: &[u16], st: &[u16], heads: &[u16], nexts: &[u16],
     requires { ⌜ Sized b × Chained b (now table) (now st) 0 (now heads) (now nexts) × (w < ports b) ⌝ }
     ensures { λ r. ⌜ r ≡ countBelow (contends b (now (table .entry)) (now (st .entry)) w) (switches b) ⌝ }
 {
-    let n = chain_length(b, table, st, heads, nexts, w);
-    if n < 2 {
+    let links = first_links(b, table, st, heads, nexts, 0, w);
+    if links < 2 {
         return 0;
     }
-    n
+    chain_length(b, table, st, heads, nexts, w)
 }
 
 // How many rows there are.
@@ -99,8 +100,8 @@ fn list_wire(
     ensures list { λ r. ⌜ now (list .exit) ≡ sets (now (list .entry)) from
         (rowsWhere (contends b (now (table .entry)) (now (st .entry)) w) (switchRow w) (switches b)) ⌝ }
 {
-    let switches = chain_length(b, table, st, heads, nexts, w);
-    if switches < 2 {
+    let n = first_links(b, table, st, heads, nexts, 0, w);
+    if n < 2 {
         return from;
     }
     list_chain(b, table, st, heads, nexts, w, list, from)

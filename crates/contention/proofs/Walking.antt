@@ -35,6 +35,15 @@ first-later p i (suc m) = go (p i) (first-later p (suc i) m)
     go true h = omega arith
     go false h = omega arith
 
+-- at most two of a few, and of many
+pub up-few : (n : ℕ) → n < 2 → n ≡ upToTwo n
+unfolding upToTwo
+up-few n l = rw (lt-ltb n 2 l)
+
+pub up-many : (n : ℕ) → 2 ≤ n → 2 ≡ upToTwo n
+unfolding upToTwo
+up-many n l = rw (le-ltb n 2 l)
+
 -- a row as the code stores it
 pub three-row : (l : List ℕ) (at a b c : ℕ) → set (set (set l at a) (at + 1) b) (at + 2) c ≡ sets l at (a ∷ b ∷ c ∷ [])
 three-row l at a b c =
@@ -136,6 +145,10 @@ module _ (B : Block) (t st : List ℕ) where
   unfolding onFrom
   on-end w = omega arith
 
+  pub on-le : (w m : ℕ) → onFrom B t st w m ≤ switches B
+  unfolding onFrom
+  on-le w m = let a = count-le (endsOn B t st w) (switches B) in omega arith
+
   pub on-all : (w : ℕ) → onFrom B t st w 0 ≡ countBelow (endsOn B t st w) (switches B)
   unfolding onFrom
   on-all w = let a = count-none-yet (endsOn B t st w) in omega arith
@@ -146,8 +159,9 @@ module _ (B : Block) (t st : List ℕ) where
 
     -- no link, no switch
     pub links-none : first ≡ 0 → 0 ≡ upToTwo (onFrom B t st w m)
-    unfolding upToTwo
-    links-none z = let a = on-gap w m (switches B) (C .upto) (walk-done w m first begun z) ∙ on-end w in rw a
+    links-none z =
+        let a = on-gap w m (switches B) (C .upto) (walk-done w m first begun z) ∙ on-end w in
+        up-few 0 (omega arith) ∙ ap upToTwo (sym a)
 
     module _ (ne : first ≢ 0) where
       abbrev one : Met w m first
@@ -165,53 +179,17 @@ module _ (B : Block) (t st : List ℕ) where
 
         -- a first link that none follows
         pub links-one : next ≡ 0 → 1 ≡ upToTwo (onFrom B t st w m)
-        unfolding upToTwo
         links-one z =
             let a = on-gap w (suc (one .switch)) (switches B) (turned .upto) (walk-done w (suc (one .switch)) next turned z) ∙ on-end w in
-            let b : onFrom B t st w m ≡ 1 = omega (arith, past-one) in
-            rw b
+            let b : 1 ≡ onFrom B t st w m = omega (arith, past-one) in
+            up-few 1 (omega arith) ∙ ap upToTwo b
 
         pub links-two : next ≢ 0 → 2 ≡ upToTwo (onFrom B t st w m)
-        unfolding upToTwo
         links-two n =
             let two = walk-met w (suc (one .switch)) next turned n in
             let a = on-gap w (suc (one .switch)) (two .switch) (two .later) (two .none) ∙ on-hit w (two .switch) (two .within) (two .ends) in
             let b : 2 ≤ onFrom B t st w m = omega (arith, past-one) in
-            rw (le-ltb (onFrom B t st w m) 2 b)
-
-  -- ---- with the number of switches met
-
-  pub record Counted (w n link : ℕ) : Type 0 where
-    pub past : ℕ
-    pub walk : Walk w past link
-    pub met : n ≡ countBelow (endsOn B t st w) past
-
-  pub counted-start : (w link : ℕ) → link ≡ linkFrom B t st w 0 → Counted w 0 link
-  counted-start w link e = record { past = 0; walk = walk-start w link e; met = count-none-yet (endsOn B t st w) }
-
-  module _ (w n link : ℕ) (K : Counted w n link) where
-    pub counted-end : link ≡ 0 → n ≡ countBelow (endsOn B t st w) (switches B)
-    counted-end e =
-        K .met ∙ count-gap (endsOn B t st w) (K .past) (switches B) (K .walk .upto) (walk-done w (K .past) link (K .walk) e)
-
-    module _ (heads nexts : List ℕ) (C : Chained B t st 0 heads nexts) (ne : link ≢ 0) where
-      abbrev meets : Met w (K .past) link
-      meets = walk-met w (K .past) link (K .walk) ne
-
-      more : n + 1 ≡ countBelow (endsOn B t st w) (suc (meets .switch))
-      more =
-          count-hit (endsOn B t st w) (meets .switch) n
-          (K .met ∙ count-gap (endsOn B t st w) (K .past) (meets .switch) (meets .later) (meets .none)) (meets .ends)
-          ∙ ap (countBelow (endsOn B t st w)) (add-one (meets .switch))
-
-      pub counted-inside : link - 1 < length nexts
-      counted-inside = walk-inside w (K .past) link (K .walk) 0 heads nexts C (omega arith) ne
-
-      pub counted-few : n < switches B
-      counted-few = let a = more in let l = meets .within in omega (arith, count-le (endsOn B t st w) (suc (meets .switch)))
-
-      pub counted-turn : (next : ℕ) → next ≡ getD nexts (link - 1) 0 → Counted w (n + 1) next
-      counted-turn next e = record { past = suc (meets .switch); walk = walk-turn w (K .past) link (K .walk) 0 heads nexts C (omega arith) ne next e; met = more }
+            up-many (onFrom B t st w m) b
 
   -- ---- with their rows
 

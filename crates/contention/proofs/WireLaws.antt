@@ -27,28 +27,24 @@ use Rattle.equations.specs.WireRows.{endsOn}
 use Rattle.contention.specs.Contentions.{rowLength, switchRow, contended, contends, contentionAt, contentionRow, contentionCount, contentions}
 use Rattle.contention.specs.Chains.{upToTwo, onFrom}
 use Rattle.contention.proofs.ContentionLaws.{parted-quotient, parted-rest, switch-row-length}
-use Rattle.contention.proofs.Walking.{on-all}
+use Rattle.contention.proofs.Walking.{up-few, up-many, on-all}
 use Rattle.contention.proofs.LengthLaws.{switches-few, ports-few}
 
 module _ (B : Block) (t st : List ℕ) (w : ℕ) where
   -- ---- one wire, from its first two switches
 
   module _ (n : ℕ) (e : n ≡ upToTwo (onFrom B t st w 0)) where
-    few : n < 2 → countBelow (endsOn B t st w) (switches B) < 2
-    unfolding upToTwo
-    few l =
-        ⊎-elim (λ z. z)
-        (λ (z : 2 ≤ countBelow (endsOn B t st w) (switches B)).
-        absurd (let q : n ≡ 2 = e ∙ rw (on-all B t st w, le-ltb (countBelow (endsOn B t st w) (switches B)) 2 z) in omega arith))
-        (lt-or-le (countBelow (endsOn B t st w) (switches B)) 2)
+    abbrev on : ℕ
+    on = countBelow (endsOn B t st w) (switches B)
 
-    many : 2 ≤ n → 2 ≤ countBelow (endsOn B t st w) (switches B)
-    unfolding upToTwo
-    many l =
-        ⊎-elim
-        (λ (z : countBelow (endsOn B t st w) (switches B) < 2).
-        let q : n ≡ countBelow (endsOn B t st w) (switches B) = e ∙ rw (on-all B t st w, lt-ltb (countBelow (endsOn B t st w) (switches B)) 2 z) in omega arith)
-        (λ z. z) (lt-or-le (countBelow (endsOn B t st w) (switches B)) 2)
+    is : n ≡ upToTwo on
+    is = e ∙ ap upToTwo (on-all B t st w)
+
+    few : n < 2 → on < 2
+    few l = ⊎-elim (λ z. z) (λ (z : 2 ≤ on). absurd (let q : 2 ≡ n = up-many on z ∙ sym is in omega arith)) (lt-or-le on 2)
+
+    many : 2 ≤ n → 2 ≤ on
+    many l = ⊎-elim (λ (z : on < 2). let q : on ≡ n = up-few on z ∙ sym is in omega arith) (λ z. z) (lt-or-le on 2)
 
     none : n < 2 → (s : ℕ) → s < switches B → contends B t st w s ≡ false
     unfolding contends contended
@@ -93,15 +89,12 @@ module _ (B : Block) (t st : List ℕ) (w : ℕ) where
       count-more (contentionAt B t st) (switches B * w) (switches B) (contends B t st w) same c d inv e
       ∙ ap (countBelow (contentionAt B t st)) (next-part (switches B) w)
 
-  -- the counts are small
-  pub count-bound : Sized B → w ≤ ports B → countBelow (contentionAt B t st) (switches B * w) ≤ 1061158912
+  -- the count is small
+  count-bound : Sized B → w ≤ ports B → countBelow (contentionAt B t st) (switches B * w) ≤ 1061158912
   count-bound S h =
       let p = ports-few B S in
       let a = mul-le-mul (switches-few B S) (let z : w ≤ 32384 = omega arith in z) in
       omega (arith, count-le (contentionAt B t st) (switches B * w))
-
-  pub wire-bound : Sized B → countBelow (contends B t st w) (switches B) ≤ 32768
-  wire-bound S = omega (arith, count-le (contends B t st w) (switches B), switches-few B S)
 
 module _ (B : Block) (t st : List ℕ) where
   row-length : (x : ℕ) → length (contentionRow B t st x) ≡ rowLength

@@ -1,5 +1,5 @@
 // The enabled switches of each wire as a chain: `heads` has the first link of each wire, `nexts` the next link of each switch. A link is one more than a
-// switch, or 0 where the chain ends. Switches go in from the last one down, so that a chain rises.
+// switch, or 0 where the chain ends. Switches go in from the last one down, so that a chain rises, and the rows are counted as they go in.
 ghost use mathlib.Core.Path.{_≡_};
 ghost use Prim.Native.Nat.{suc, _+_, _*_, _<_};
 ghost use lib.ListN.{length};

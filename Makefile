@@ -20,10 +20,10 @@ REPORT := target/bin/report
 ARCHIVE := target/staticlib/libcapi.a
 STATIC := target/lib/libice40.a
 SHARED := target/lib/libice40.so.$(VERSION)
-TOOLS := explain fights names asc_to_frames chipdb_to_frames
+TOOLS := explain fights compare names asc_to_frames chipdb_to_frames
 SHARE := share/ice40
 TO := $(DESTDIR)$(PREFIX)
-TESTS := believe wire_numbers nets library asc compare circuits contentions report tools words fights header examples install readme
+TESTS := believe wire_numbers nets library asc compare circuits contentions report tools words fights changes header examples install readme
 
 .NOTPARALLEL:
 .PHONY: all lib check test install uninstall clean

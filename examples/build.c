@@ -14,7 +14,8 @@ enum { TILES = ICE40_TILES_LIMIT };
 
 static uint32_t w, h, east, tiles; /* east: whether the column to the east of the block is logic or RAM */
 static uint16_t table[ICE40_TABLE_LENGTH];
-static uint8_t bits[ICE40_BITS_LENGTH(TILES)];
+static uint8_t bytes[ICE40_BYTES_LENGTH(TILES)]; /* as the frames have them */
+static uint64_t bits[ICE40_BITS_LENGTH(TILES)];
 static unsigned line_number, last_kind; /* of the frames that were taken */
 
 static void fail(const char *what, const char *why) {
@@ -68,8 +69,8 @@ static void take_group(const char **frame) {
 
 static void take_tile(const char **frame) {
     if (tiles == w * h) bad_line();
-    uint8_t *tile = bits + ICE40_BITS_LENGTH(tiles++);
-    for (size_t b = 0; b < ICE40_BITS_LENGTH(1); b++) tile[b] = (uint8_t)take(frame, 2);
+    uint8_t *tile = bytes + ICE40_BYTES_LENGTH(tiles++);
+    for (size_t b = 0; b < ICE40_BYTES_LENGTH(1); b++) tile[b] = (uint8_t)take(frame, 2);
 }
 
 /* The size, and a byte for the column to the east, which may be left out. */
@@ -169,6 +170,7 @@ static void print_cells(const uint16_t *settings) {
 int main(int argc, char **argv) {
     if (argc != 2) return fprintf(stderr, "usage: build FRAMES\n"), 2;
     read_input(argv[1]);
+    ice40_words_of_bytes(w, h, bytes, ICE40_BYTES_LENGTH(tiles), bits, ICE40_BITS_LENGTH(tiles)); /* a size that it refuses, building does too */
     uint64_t answer = build();
     if (ICE40_GROUND(answer)) {
         printf("08%02" PRIX32 "%04" PRIX32 "\n", ICE40_GROUND(answer), ICE40_VALUE(answer));

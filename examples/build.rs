@@ -17,12 +17,13 @@ struct Input {
     h: u32,
     east: u32, // whether the column to the east of the block is logic or RAM
     table: Vec<u16>,
-    bits: Vec<u8>,
+    bytes: Vec<u8>, // as the frames have them
+    bits: Vec<u64>,
 }
 
 impl Input {
     fn tiles(&self) -> usize {
-        self.bits.len() / ice40::BITS_LENGTH
+        self.bytes.len() / ice40::BYTES_LENGTH
     }
 
     fn has_size(&self) -> bool {
@@ -31,6 +32,14 @@ impl Input {
 
     fn has_all_tiles(&self) -> bool {
         self.tiles() == (self.w * self.h) as usize
+    }
+
+    /// The bytes that were taken, as the library reads them. A size that this refuses is refused by building too.
+    fn with_bits(mut self) -> Input {
+        self.bits = vec![0; ice40::BITS_LENGTH * self.tiles()];
+        let (bytes, bits) = (&self.bytes, &mut self.bits);
+        unsafe { ice40::ice40_words_of_bytes(self.w, self.h, bytes.as_ptr(), bytes.len(), bits.as_mut_ptr(), bits.len()) };
+        self
     }
 
     /// The wire of a port that is there: the call has no reason for a no.
@@ -99,7 +108,7 @@ impl<'a> Frame<'a> {
                 input.table[ice40::TABLE_GROUP_COUNT] += 1
             }
             4 => self.size(input)?,
-            5 => for _ in 0..ice40::BITS_LENGTH { input.bits.push(self.take(2)? as u8) },
+            5 => for _ in 0..ice40::BYTES_LENGTH { input.bytes.push(self.take(2)? as u8) },
             _ => return None,
         }
         if self.0 == "\n" { Some(kind) } else { None }
@@ -107,16 +116,16 @@ impl<'a> Frame<'a> {
 }
 
 fn parse(text: &str) -> Result<Input, String> {
-    let mut input = Input { w: 0, h: 0, east: 0, table: vec![0; ice40::TABLE_LENGTH], bits: vec![] };
+    let mut input = Input { w: 0, h: 0, east: 0, table: vec![0; ice40::TABLE_LENGTH], bytes: vec![], bits: vec![] };
     let (mut last, mut lines) = (0, 0);
     for line in text.split_inclusive('\n') {
         lines += 1;
         last = Frame(line).add_to(&mut input, last).ok_or_else(|| not_due(lines))?;
         if last == 4 && !input.has_size() {
-            return Ok(input); // no call takes this size: what follows is not looked at
+            return Ok(input.with_bits()); // no call takes this size: what follows is not looked at
         }
     }
-    if last == 5 && input.has_all_tiles() { Ok(input) } else { Err(not_due(lines + 1)) }
+    if last == 5 && input.has_all_tiles() { Ok(input.with_bits()) } else { Err(not_due(lines + 1)) }
 }
 
 fn not_due(line: usize) -> String {

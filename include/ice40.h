@@ -9,6 +9,11 @@
  * that with 1 their names in two rows are one wire; with 0 each row's are wires of their own. On a chip's last column of logic, beside IO
  * tiles, 1 would join what is apart. With h = 1 both give the same. A list is a block's own only with the same east.
  *
+ * Bits. A block's bits are 16 numbers a tile, a row each: bit Br[c] of tile t, its position 54 r + c, is in number 16 t + r at weight 2^c.
+ * Columns 54 to 63 are zero. A set bit there is refused with ground 4, as a fault at column 53 of its row, by the calls that decode bits or
+ * write them out; ice40_bit_count does not count it and ice40_tile_part hands it back. Frames hold a tile as 108 bytes: ice40_words_of_bytes and
+ * ice40_bytes_of_words go from one form to the other.
+ *
  * Memory. A slice is a pointer and a length, counted in numbers and not in bytes. Every length is exact: another one is refused with
  * ground 2. Three may have any length: the text that ice40_asc_read reads, and the lists of ice40_compare and ice40_contentions, which
  * ground 15 refuses where the rows do not fit. On a no the outputs keep their old contents; the work room comes back zeroed, or
@@ -36,9 +41,9 @@
 #include <stdint.h>
 
 #define ICE40_VERSION_MAJOR 0
-#define ICE40_VERSION_MINOR 3
+#define ICE40_VERSION_MINOR 4
 #define ICE40_VERSION_PATCH 0
-#define ICE40_VERSION "0.3.0"
+#define ICE40_VERSION "0.4.0"
 
 #define ICE40_STACK_BYTES 131072
 
@@ -94,7 +99,8 @@ static inline const char *ice40_place_words(uint32_t ground) {
 #define ICE40_LIMIT 8                                        /* the largest w and h */
 #define ICE40_TILES_LIMIT 64                                 /* the largest n */
 #define ICE40_TABLE_LENGTH 38469                             /* uint16_t, whatever n is */
-#define ICE40_BITS_LENGTH(n) (108 * (size_t)(n))             /* uint8_t: position p of tile t is in byte 108 t + p / 8, at weight 2^(p mod 8) */
+#define ICE40_BITS_LENGTH(n) (16 * (size_t)(n))              /* uint64_t: row r of tile t is number 16 t + r, column c at weight 2^c */
+#define ICE40_BYTES_LENGTH(n) (108 * (size_t)(n))            /* uint8_t, frames: position p of tile t is in byte 108 t + p / 8, at weight 2^(p mod 8) */
 #define ICE40_SETTINGS_LENGTH(n) (595 * (size_t)(n))         /* uint16_t */
 #define ICE40_PORTS_LENGTH(n) (506 * (size_t)(n))            /* a number for each port: lent values, work room */
 #define ICE40_LIST_LENGTH(n) (3542 * (size_t)(n))            /* uint16_t */
@@ -220,33 +226,41 @@ uint64_t ice40_wire_number(uint32_t w, uint32_t h, uint32_t east, uint32_t tile,
 uint64_t ice40_lookup(uint16_t table, uint32_t inputs);
 
 /* Reads a block's bits to its settings. Grounds 1, 2, 3, 4. */
-uint64_t ice40_read(uint32_t w, uint32_t h, const uint16_t *table, size_t table_length, const uint8_t *bits, size_t bits_length,
+uint64_t ice40_read(uint32_t w, uint32_t h, const uint16_t *table, size_t table_length, const uint64_t *bits, size_t bits_length,
                     uint16_t *settings, size_t settings_length);
 
 /* Writes a block's settings as bits. Grounds 1, 2, 3, 9. */
 uint64_t ice40_write(uint32_t w, uint32_t h, const uint16_t *table, size_t table_length, const uint16_t *settings, size_t settings_length,
-                     uint8_t *bits, size_t bits_length);
+                     uint64_t *bits, size_t bits_length);
 
-/* How many of a tile's bits are set. Grounds 1, 2, 20. */
-uint64_t ice40_bit_count(uint32_t w, uint32_t h, const uint8_t *bits, size_t bits_length, uint32_t tile);
+/* How many of a tile's 864 bits are set; what stands past a row's columns is not looked at. Grounds 1, 2, 20. */
+uint64_t ice40_bit_count(uint32_t w, uint32_t h, const uint64_t *bits, size_t bits_length, uint32_t tile);
+
+/* A block's bits as numbers, of the bytes that frames hold; the value is 0. Grounds 1, 2. Every byte may have any value: the numbers have no bit
+ * past their columns, and read to what the bytes say. */
+uint64_t ice40_words_of_bytes(uint32_t w, uint32_t h, const uint8_t *bytes, size_t bytes_length, uint64_t *words, size_t words_length);
+
+/* A block's bits as the bytes that frames hold; the value is 0. Each of the two undoes the other. Grounds 1, 2, and 4 for a bit past the columns
+ * of its row, in the lowest tile and its lowest row; there is no table, so that nothing else is ground 4 here. */
+uint64_t ice40_bytes_of_words(uint32_t w, uint32_t h, const uint64_t *words, size_t words_length, uint8_t *bytes, size_t bytes_length);
 
 /* Every difference between two blocks of one size under one table; the value is the number of rows, 0 exactly if the bits are equal.
  * Grounds 1, 14, 2, 3, 4, 15, each for the first block before the second; the place of 15 is the number of rows needed. The output is list,
  * of any length, with zeros behind the rows; no two blocks need more than ICE40_DIFFERENCE_LENGTH * ICE40_DIFFERENCES_LIMIT(n). The work
  * room is before and after, each as long as the settings of a block; under 14 it is zeroed whatever its length. */
-uint64_t ice40_compare(uint32_t w1, uint32_t h1, uint32_t w2, uint32_t h2, const uint16_t *table, size_t table_length, const uint8_t *first,
-                       size_t first_length, const uint8_t *second, size_t second_length, uint32_t *list, size_t list_length, uint16_t *before,
+uint64_t ice40_compare(uint32_t w1, uint32_t h1, uint32_t w2, uint32_t h2, const uint16_t *table, size_t table_length, const uint64_t *first,
+                       size_t first_length, const uint64_t *second, size_t second_length, uint32_t *list, size_t list_length, uint16_t *before,
                        size_t before_length, uint16_t *after, size_t after_length);
 
 /* Where a tile's numbers begin in one of two blocks of one size: which is 0 for the first, any other number for the second. The index is
  * the same in both; the caller adds it to the pointer of the one asked for, and a tile has ICE40_BITS_LENGTH(1) numbers. Nothing is decoded.
  * Grounds 1, 14, 2, 20. */
-uint64_t ice40_tile_part(uint32_t w1, uint32_t h1, uint32_t w2, uint32_t h2, const uint8_t *first, size_t first_length, const uint8_t *second,
+uint64_t ice40_tile_part(uint32_t w1, uint32_t h1, uint32_t w2, uint32_t h2, const uint64_t *first, size_t first_length, const uint64_t *second,
                          size_t second_length, uint32_t which, uint32_t tile);
 
 /* The list of a block's rows, in order; the value is the row count. Grounds 1 to 8. The output is list; the work room follows it: settings,
  * then wires, sources, rows (a list), marks and queue, which but for rows have a number for each port. */
-uint64_t ice40_build(uint32_t w, uint32_t h, uint32_t east, const uint16_t *table, size_t table_length, const uint8_t *bits,
+uint64_t ice40_build(uint32_t w, uint32_t h, uint32_t east, const uint16_t *table, size_t table_length, const uint64_t *bits,
                      size_t bits_length, uint16_t *list, size_t list_length, uint16_t *settings, size_t settings_length, uint16_t *wires,
                      size_t wires_length, uint16_t *sources, size_t sources_length, uint16_t *rows, size_t rows_length, uint16_t *marks,
                      size_t marks_length, uint16_t *queue, size_t queue_length);
@@ -261,7 +275,7 @@ uint64_t ice40_follow(uint32_t w, uint32_t h, uint32_t east, const uint16_t *tab
  * end; the value is the number of rows. Grounds 1 to 4, then 15, whose place is the number of rows needed. The output is list, of any length;
  * no block needs more than ICE40_CONTENTION_LENGTH * ICE40_SWITCHES_LENGTH(n). The work room follows it: settings, wires and heads, which have
  * a number for each port, and nexts, one for each group of each tile. */
-uint64_t ice40_contentions(uint32_t w, uint32_t h, uint32_t east, const uint16_t *table, size_t table_length, const uint8_t *bits,
+uint64_t ice40_contentions(uint32_t w, uint32_t h, uint32_t east, const uint16_t *table, size_t table_length, const uint64_t *bits,
                            size_t bits_length, uint16_t *list, size_t list_length, uint16_t *settings, size_t settings_length,
                            uint16_t *wires, size_t wires_length, uint16_t *heads, size_t heads_length, uint16_t *nexts,
                            size_t nexts_length);
@@ -283,14 +297,14 @@ uint64_t ice40_step(uint32_t w, uint32_t h, uint32_t east, const uint16_t *table
  * of the shape due there (one without a line feed too), another or a second device, or a block tile given twice; one past the last line
  * for what is missing. */
 uint64_t ice40_asc_read(uint32_t w, uint32_t h, uint32_t x, uint32_t y, const uint8_t *text, size_t text_length,
-                        uint8_t *bits, size_t bits_length);
+                        uint64_t *bits, size_t bits_length);
 
 /* How many bytes the file of such a block has, 57,611 at most. Ground 1. */
 uint64_t ice40_asc_length(uint32_t w, uint32_t h, uint32_t x, uint32_t y);
 
-/* Writes a block as a file: .device 1k, then its tiles by index; the value is 0. Grounds 1, 2. The text has exactly the length that
- * ice40_asc_length tells. Read back at its corner and size it gives the same bits. */
-uint64_t ice40_asc_write(uint32_t w, uint32_t h, uint32_t x, uint32_t y, const uint8_t *bits, size_t bits_length,
+/* Writes a block as a file: .device 1k, then its tiles by index; the value is 0. Grounds 1, 2, and 4 as in ice40_bytes_of_words. The text has
+ * exactly the length that ice40_asc_length tells. Read back at its corner and size it gives the same bits. */
+uint64_t ice40_asc_write(uint32_t w, uint32_t h, uint32_t x, uint32_t y, const uint64_t *bits, size_t bits_length,
                          uint8_t *text, size_t text_length);
 
 #ifdef __cplusplus

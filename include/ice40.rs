@@ -5,7 +5,7 @@
 //     mod ice40;
 #![allow(dead_code)]
 
-pub const VERSION: &str = "0.3.0";
+pub const VERSION: &str = "0.4.0";
 pub const STACK_BYTES: usize = 131072;
 
 /// The ground of an answer: 0 for a yes.
@@ -21,7 +21,8 @@ pub fn value(answer: u64) -> u32 {
 // Exact lengths, in numbers; a block has as many of each but the table's for every tile.
 pub const LIMIT: u32 = 8;
 pub const TABLE_LENGTH: usize = 38469;
-pub const BITS_LENGTH: usize = 108;
+pub const BITS_LENGTH: usize = 16;
+pub const BYTES_LENGTH: usize = 108;
 pub const SETTINGS_LENGTH: usize = 595;
 pub const PORTS_LENGTH: usize = 506;
 pub const LIST_LENGTH: usize = 3542;
@@ -99,18 +100,20 @@ pub const PORT_LTIN: u32 = 505;
 extern "C" {
     pub fn ice40_wire_number(w: u32, h: u32, east: u32, tile: u32, port: u32) -> u64;
     pub fn ice40_lookup(table: u16, inputs: u32) -> u64;
-    pub fn ice40_read(w: u32, h: u32, table: *const u16, table_length: usize, bits: *const u8, bits_length: usize,
+    pub fn ice40_read(w: u32, h: u32, table: *const u16, table_length: usize, bits: *const u64, bits_length: usize,
                       settings: *mut u16, settings_length: usize) -> u64;
     pub fn ice40_write(w: u32, h: u32, table: *const u16, table_length: usize, settings: *const u16, settings_length: usize,
-                       bits: *mut u8, bits_length: usize) -> u64;
-    pub fn ice40_bit_count(w: u32, h: u32, bits: *const u8, bits_length: usize, tile: u32) -> u64;
+                       bits: *mut u64, bits_length: usize) -> u64;
+    pub fn ice40_bit_count(w: u32, h: u32, bits: *const u64, bits_length: usize, tile: u32) -> u64;
+    pub fn ice40_words_of_bytes(w: u32, h: u32, bytes: *const u8, bytes_length: usize, words: *mut u64, words_length: usize) -> u64;
+    pub fn ice40_bytes_of_words(w: u32, h: u32, words: *const u64, words_length: usize, bytes: *mut u8, bytes_length: usize) -> u64;
     pub fn ice40_compare(w1: u32, h1: u32, w2: u32, h2: u32, table: *const u16, table_length: usize,
-                         first: *const u8, first_length: usize, second: *const u8, second_length: usize,
+                         first: *const u64, first_length: usize, second: *const u64, second_length: usize,
                          list: *mut u32, list_length: usize, before: *mut u16, before_length: usize,
                          after: *mut u16, after_length: usize) -> u64;
-    pub fn ice40_tile_part(w1: u32, h1: u32, w2: u32, h2: u32, first: *const u8, first_length: usize,
-                           second: *const u8, second_length: usize, which: u32, tile: u32) -> u64;
-    pub fn ice40_build(w: u32, h: u32, east: u32, table: *const u16, table_length: usize, bits: *const u8, bits_length: usize,
+    pub fn ice40_tile_part(w1: u32, h1: u32, w2: u32, h2: u32, first: *const u64, first_length: usize,
+                           second: *const u64, second_length: usize, which: u32, tile: u32) -> u64;
+    pub fn ice40_build(w: u32, h: u32, east: u32, table: *const u16, table_length: usize, bits: *const u64, bits_length: usize,
                        list: *mut u16, list_length: usize, settings: *mut u16, settings_length: usize,
                        wires: *mut u16, wires_length: usize, sources: *mut u16, sources_length: usize,
                        rows: *mut u16, rows_length: usize, marks: *mut u16, marks_length: usize,
@@ -118,7 +121,7 @@ extern "C" {
     pub fn ice40_follow(w: u32, h: u32, east: u32, table: *const u16, table_length: usize, settings: *const u16, settings_length: usize,
                         tile: u32, port: u32, wires: *mut u16, wires_length: usize, sources: *mut u16, sources_length: usize,
                         marks: *mut u16, marks_length: usize) -> u64;
-    pub fn ice40_contentions(w: u32, h: u32, east: u32, table: *const u16, table_length: usize, bits: *const u8, bits_length: usize,
+    pub fn ice40_contentions(w: u32, h: u32, east: u32, table: *const u16, table_length: usize, bits: *const u64, bits_length: usize,
                              list: *mut u16, list_length: usize, settings: *mut u16, settings_length: usize,
                              wires: *mut u16, wires_length: usize, heads: *mut u16, heads_length: usize,
                              nexts: *mut u16, nexts_length: usize) -> u64;
@@ -129,7 +132,7 @@ extern "C" {
                       wires: *mut u16, wires_length: usize, own: *mut u16, own_length: usize,
                       marks: *mut u16, marks_length: usize, first: *mut u8, first_length: usize,
                       second: *mut u8, second_length: usize) -> u64;
-    pub fn ice40_asc_read(w: u32, h: u32, x: u32, y: u32, text: *const u8, text_length: usize, bits: *mut u8, bits_length: usize) -> u64;
+    pub fn ice40_asc_read(w: u32, h: u32, x: u32, y: u32, text: *const u8, text_length: usize, bits: *mut u64, bits_length: usize) -> u64;
     pub fn ice40_asc_length(w: u32, h: u32, x: u32, y: u32) -> u64;
-    pub fn ice40_asc_write(w: u32, h: u32, x: u32, y: u32, bits: *const u8, bits_length: usize, text: *mut u8, text_length: usize) -> u64;
+    pub fn ice40_asc_write(w: u32, h: u32, x: u32, y: u32, bits: *const u64, bits_length: usize, text: *mut u8, text_length: usize) -> u64;
 }

@@ -4,7 +4,7 @@ and with IceStorm's own programs.
 
     python3 tests/asc.py                    needs the Rattle kit (rt), a C compiler and Python 3
     python3 tests/asc.py --rounds 20000     the same with so many random cases (2,000 unless said)
-    python3 tests/asc.py --vectors FOLDER   where w1-asc_read.jsonl and w1-asc_write.jsonl are, if not in ../shared/vectors-02
+    python3 tests/asc.py --vectors FOLDER   where the users' vectors are, if not in ../shared/vectors-02
     python3 tests/asc.py --designs FOLDER   .asc files beyond the two in tests/data, if not in ../shared/realdata/designs
 
 What is written goes through icepack, iceunpack and icebox_explain where they are installed (Debian: fpga-icestorm). It prints a line for each
@@ -13,30 +13,37 @@ group of cases and ends with the number of differences.
 import argparse
 import ctypes
 import glob
-import json
 import os
 import random
 import shutil
 import subprocess
 import sys
 import tempfile
+from array import array
 
 sys.path.insert(0, os.path.dirname(os.path.abspath(__file__)))
 import asc_model  # noqa: E402
 import library  # noqa: E402
-from library import DATA, ROOT, Count  # noqa: E402
+import vectors  # noqa: E402
+from bits_model import COLUMNS, WORDS, words_of  # noqa: E402
+from library import DATA, ROOT, U8, U64, Count, junk  # noqa: E402
 
 sys.path.insert(0, os.path.join(ROOT, 'tools'))
 import asc_to_frames  # noqa: E402
 from tool import Mistake  # noqa: E402
 
-SHARED = os.path.join(os.path.dirname(ROOT), 'shared')
+DESIGNS = os.path.join(os.path.dirname(ROOT), 'shared', 'realdata', 'designs')
 BIG = 100_000_000  # bytes
 DAMAGED = ('uart_tx', 3, 3, 5, 10)  # design, size, corner: each line of it is damaged
 
 
+def room(w, h):
+    """For the bits of a block."""
+    return array(U64, [0] * (WORDS * w * h))
+
+
 class Files:
-    """The three calls, over bytes: each answers as the model does, and says what it left of a refused output."""
+    """The three calls, over texts and words: each answers as the model does, and says what it left of a refused output."""
 
     def __init__(self):
         self.lib = library.Library().lib
@@ -44,27 +51,29 @@ class Files:
             getattr(self.lib, 'ice40_asc_' + name).restype = ctypes.c_uint64
 
     def call(self, name, numbers, *slices):
+        """Slices are bytes, which are only read, or arrays."""
         words = [ctypes.c_uint32(n) for n in numbers]
         for memory in slices:
-            words += [memory, ctypes.c_size_t(len(memory))]
+            words += [memory if isinstance(memory, bytes) else ctypes.c_void_p(memory.buffer_info()[0]), ctypes.c_size_t(len(memory))]
         answer = getattr(self.lib, 'ice40_asc_' + name)(*words)
         return answer >> 32, answer & 0xffffffff
 
-    def fill(self, name, numbers, given, length):
+    def fill(self, name, numbers, given, kind, length):
         """A call with one slice in and one out: its output, or its no. What a no leaves behind must be what was there."""
-        old = b'\x33' * length
-        out = (ctypes.c_char * length).from_buffer_copy(old)
-        lent = (ctypes.c_char * len(given)).from_buffer_copy(given) if len(given) < 1 << 20 else given
-        answer = self.call(name, numbers, lent, out)
+        out = array(kind, [0x33] * length)
+        old = out[:]
+        answer = self.call(name, numbers, given, out)
         if answer == (0, 0):
-            return out.raw
-        return answer if out.raw == old else ('an output changed by a no', answer)
+            return out
+        return answer if out == old else ('an output changed by a no', answer)
 
     def read(self, w, h, x, y, text, length=None):
-        return self.fill('read', (w, h, x, y), text, 108 * w * h if length is None else length)
+        got = self.fill('read', (w, h, x, y), text, U64, WORDS * w * h if length is None else length)
+        return got if isinstance(got, tuple) else got.tolist()
 
     def write(self, w, h, x, y, bits, length):
-        return self.fill('write', (w, h, x, y), bits, length)
+        got = self.fill('write', (w, h, x, y), array(U64, bits), U8, length)
+        return got if isinstance(got, tuple) else got.tobytes()
 
     def length(self, w, h, x, y):
         ground, value = self.call('length', (w, h, x, y))
@@ -88,26 +97,17 @@ def whole(path):
 
 # ---- the users' vectors
 
-def answer_of(given, key):
-    return tuple(given['no']) if 'no' in given else bytes.fromhex(given[key])
-
-
 def check_vectors(files, inputs):
-    wrong = 0
-    for name, out, given in (('read', 'numbers', 'text'), ('write', 'text', 'numbers')):
-        path = os.path.join(inputs.vectors, 'w1-asc_%s.jsonl' % name)
-        if not os.path.exists(path):
-            print("left out, no file of the users' vectors: %s (--vectors FOLDER)" % os.path.relpath(path, ROOT))
-            continue
-        count = Count("the users' vectors for %s: the library and the model" % name)
-        for line in whole(path).splitlines():
-            case = json.loads(line)
-            words = case['args']
-            arguments = *(words[key] for key in 'whxy'), bytes.fromhex(words[given]), words['length']
-            for reader in (files, asc_model):
-                count.same(getattr(reader, name)(*arguments), answer_of(case['answer'], out), arguments[:4])
-        wrong += count.done()
-    return wrong
+    count = Count("the users' vectors for read and write: the library and the model")
+    for case in vectors.cases(inputs.vectors, 'w1-asc_read', 'w7-asc_read'):
+        block, text, length = [case.given[key] for key in 'whxy'], bytes.fromhex(case.given['text']), case.index(case.given['length'])
+        for reader in (files, asc_model):
+            count.same(reader.read(*block, text, length), case.no or case.words(case.answer['numbers']), block)
+    for case in vectors.cases(inputs.vectors, 'w1-asc_write', 'w7-asc_write'):
+        block, bits = [case.given[key] for key in 'whxy'], case.words(case.given['numbers'])
+        for writer in (files, asc_model):
+            count.same(writer.write(*block, bits, case.given['length']), case.no or bytes.fromhex(case.answer['text']), block)
+    return count.done()
 
 
 # ---- sizes, corners and lengths
@@ -123,21 +123,21 @@ def check_sizes(files):
                 for y in (0, 9, 100, 248, 255, 256, (1 << 32) - 1):
                     count.same(files.length(w, h, x, y), asc_model.text_length(w, h, x, y), (w, h, x, y))
                     if not asc_model.is_size(w, h, x, y):
-                        for length in (0, 108):
+                        for length in (0, WORDS):
                             count.same(files.read(w, h, x, y, b'', length), (1, 0), (w, h, x, y))
-                            count.same(files.write(w, h, x, y, bytes(length), length), (1, 0), (w, h, x, y))
+                            count.same(files.write(w, h, x, y, [1 << 63] * length, length), (1, 0), (w, h, x, y))
     for w, h, x, y in ((1, 1, 0, 0), (2, 3, 254, 9), (8, 8, 248, 248)):
-        bits, size = bytes(108 * w * h), asc_model.text_length(w, h, x, y)
+        bits, size = [0] * (WORDS * w * h), asc_model.text_length(w, h, x, y)
         text = asc_model.write(w, h, x, y, bits)
-        for change in (-1, 1, -108, 108, 1 << 16):
+        for change in (-1, 1, -WORDS, WORDS, 92 * w * h, 1 << 16):  # 92 more a tile are its bytes
             count.same(files.read(w, h, x, y, text, max(0, len(bits) + change)), (2, 0), (w, h, change))
             count.same(files.read(w, h, x, y, b'?', max(0, len(bits) + change)), (2, 0), 'before 13')
             count.same(files.write(w, h, x, y, bits, max(0, size + change)), (2, 0), (w, h, change))
-            count.same(files.write(w, h, x, y, bytes(max(0, len(bits) + change)), size), (2, 0), (w, h, change))
+            count.same(files.write(w, h, x, y, [1 << 63] * max(0, len(bits) + change), size), (2, 0), (w, h, change, 'before 4'))
     none = ctypes.c_void_p(), ctypes.c_size_t(0)
-    out = (ctypes.c_char * 108)()
+    out = (ctypes.c_uint64 * WORDS)()
     one = [ctypes.c_uint32(n) for n in (1, 1, 5, 7)]
-    count.same(files.lib.ice40_asc_read(*one, *none, out, ctypes.c_size_t(108)), 13 << 32 | 1, 'no text, NULL')
+    count.same(files.lib.ice40_asc_read(*one, *none, out, ctypes.c_size_t(WORDS)), 13 << 32 | 1, 'no text, NULL')
     count.same(files.lib.ice40_asc_read(*one, *none, *none), 2 << 32, 'no bits, NULL')
     count.same(files.lib.ice40_asc_write(*one, *none, *none), 2 << 32, 'neither')
     return count.done()
@@ -207,7 +207,7 @@ def check_readings(files):
     count = Count('what the readings say, each with its answer written down')
     for words, text, line in spelt():
         text = text.encode('latin-1')
-        expected = (13, line) if line else bytes(108)
+        expected = (13, line) if line else [0] * WORDS
         count.same(files.read(1, 1, 3, 5, text), expected, words)
         count.same(asc_model.read(1, 1, 3, 5, text), expected, 'the model: ' + words)
     return count.done()
@@ -264,7 +264,7 @@ def check_random(files, inputs):
         damage(lines)
         text = '\n'.join(lines + [''] * (random.random() < 0.95)).encode()
         expected = asc_model.read(w, h, x, y, text)
-        met[isinstance(expected, bytes)] = met.get(isinstance(expected, bytes), 0) + 1
+        met[isinstance(expected, list)] = met.get(isinstance(expected, list), 0) + 1
         count.same(files.read(w, h, x, y, text), expected, (w, h, x, y, text[:200]))
     wrong = count.done()
     print('  of them a yes: %d, ground 13: %d' % (met.get(True, 0), met.get(False, 0)))
@@ -280,18 +280,34 @@ def check_round_trip(files, inputs):
     for k in range(max(200, inputs.rounds // 10)):
         w, h = random.randrange(1, 9), random.randrange(1, 9)
         x, y = random.choice((0, 3, 9, 95, 250 - w, 256 - w)), random.choice((0, 9, 94, 256 - h))
-        bits = random.choice((bytes(108 * w * h), b'\xff' * (108 * w * h), bytes(random.getrandbits(8) for _ in range(108 * w * h))))
-        expected = asc_model.write(w, h, x, y, bits)
-        text = files.write(w, h, x, y, bits, files.length(w, h, x, y))
-        count.same(text, expected, (w, h, x, y))
+        rows = random.choice(([0] * (WORDS * w * h), [(1 << 64) - 1] * (WORDS * w * h), junk(WORDS * w * h, U64)))
+        bits, length = [row & (1 << COLUMNS) - 1 for row in rows], files.length(w, h, x, y)
+        text = files.write(w, h, x, y, bits, length)
+        count.same(text, asc_model.write(w, h, x, y, bits), (w, h, x, y))
         count.same(files.read(w, h, x, y, text), bits, (w, h, x, y))
+        stray = library.with_strays(bits, random.choices(range(len(bits)), k=random.randint(1, 3)))
+        count.same(files.write(w, h, x, y, stray, length), asc_model.write(w, h, x, y, stray, length), (w, h, x, y, 'bits past the columns'))
+    return count.done()
+
+
+def check_strays(files):
+    """Ground 4 for each bit past the columns, and the lowest of two."""
+    count = Count('bits past the columns: the writer refuses them, and where')
+    length = asc_model.text_length(2, 1, 5, 7)
+    for r in range(2 * WORDS):
+        for c in range(COLUMNS, 64):
+            bits = [0] * (2 * WORDS)
+            bits[r] = 1 << c
+            count.same(files.write(2, 1, 5, 7, bits, length), (4, 864 * (r // 16) + 54 * (r % 16) + 53), (r, c))
+            bits[-1] |= 1 << 63
+            count.same(files.write(2, 1, 5, 7, bits, length), (4, 864 * (r // 16) + 54 * (r % 16) + 53), (r, c, 'and the last'))
     return count.done()
 
 
 # ---- real designs
 
 def cutter(text):
-    """The Python cutter of tools/ over a design: a block's bytes, or None where it finds no such block."""
+    """The Python cutter of tools/ over a design: a block's words, or None where it finds no such block."""
     _, tiles = asc_to_frames.read_design(text)
     cut = {}
     for at in tiles:
@@ -302,7 +318,7 @@ def cutter(text):
 
     def block(w, h, x, y):
         parts = [cut.get(at) for at in asc_model.tiles_of(w, h, x, y)]
-        return None if None in parts else b''.join(parts)
+        return None if None in parts else words_of(b''.join(parts))
     return block
 
 
@@ -312,15 +328,14 @@ def check_designs(files, inputs):
     for name, text in inputs.texts.items():
         block = cutter(text)
         lines = text.count(b'\n')
-        memory = (ctypes.c_char * len(text)).from_buffer_copy(text)
         for x in range(14):
             for y in range(18):
                 for w, h in ((1, 1), (2, 2), (3, 3), (6, 8), (2, 8)):
                     expected = block(w, h, x, y)
                     blocks += expected is not None
-                    out = (ctypes.c_char * (108 * w * h))()
-                    answer = files.call('read', (w, h, x, y), memory, out)
-                    got = out.raw if answer == (0, 0) else answer
+                    out = room(w, h)
+                    answer = files.call('read', (w, h, x, y), text, out)
+                    got = out.tolist() if answer == (0, 0) else answer
                     count.same(got, (13, lines + 1) if expected is None else expected, (name, w, h, x, y))
     wrong = count.done()
     if not glob.glob(os.path.join(inputs.designs, '*.asc')):
@@ -343,12 +358,12 @@ def check_damaged(files, inputs):
     name, *block = DAMAGED
     count, refused = Count('each line of %s damaged in seven ways, the model' % name), 0
     lines = inputs.texts[name].split(b'\n')
-    out = (ctypes.c_char * len(asc_model.read(*block, inputs.texts[name])))()
+    out = room(*block[:2])
     for k in range(len(lines) - 1):
         for text in damages(lines, k):
             expected = asc_model.read(*block, text)
             answer = files.call('read', block, text, out)
-            count.same(out.raw if answer == (0, 0) else answer, expected, k)
+            count.same(out.tolist() if answer == (0, 0) else answer, expected, k)
             refused += isinstance(expected, tuple)
     wrong = count.done()
     print('  of them refused: %d' % refused)
@@ -421,12 +436,12 @@ def check_big(files, inputs):
 def main():
     parser = argparse.ArgumentParser(description=__doc__, formatter_class=argparse.RawDescriptionHelpFormatter)
     parser.add_argument('--rounds', metavar='N', type=int, default=2000)
-    parser.add_argument('--vectors', metavar='FOLDER', default=os.path.join(SHARED, 'vectors-02'))
-    parser.add_argument('--designs', metavar='FOLDER', default=os.path.join(SHARED, 'realdata', 'designs'))
+    parser.add_argument('--vectors', metavar='FOLDER', default=vectors.FOLDER)
+    parser.add_argument('--designs', metavar='FOLDER', default=DESIGNS)
     arguments = parser.parse_args()
     files, inputs = Files(), Inputs([DATA, arguments.designs], arguments.vectors, arguments.rounds)
     tests = [check_vectors, check_random, check_round_trip, check_designs, check_damaged, check_icestorm, check_big]
-    return library.run([(check_sizes, files), (check_readings, files)] + [(test, files, inputs) for test in tests], 1)
+    return library.run([(check_sizes, files), (check_readings, files), (check_strays, files)] + [(test, files, inputs) for test in tests], 1)
 
 
 if __name__ == '__main__':

@@ -1,12 +1,16 @@
 """A model of reading and writing IceStorm's ASCII files, written from document 02, W1, and apart from the reader's own text: plain Python, slow,
 and proved nowhere.
 
-A block is w by h logic tiles with its south-west one at (x, y) of the chip. A text is bytes. A no is a pair (ground, place); a yes is
-what was asked for.
+A block is w by h logic tiles with its south-west one at (x, y) of the chip, its bits are words, 16 a tile. A text is bytes. A no is a pair
+(ground, place); a yes is what was asked for.
 """
+import os
 import re
+import sys
 
-ROWS, COLUMNS, BYTES = 16, 54, 108
+sys.path.insert(0, os.path.dirname(os.path.abspath(__file__)))
+from bits_model import COLUMNS, WORDS, strays  # noqa: E402
+
 NUMBER = rb'(0|[1-9][0-9]{0,2})'  # "decimal, 0 to 255, no leading zeros"
 HEADER = re.compile(rb'\.logic_tile ' + NUMBER + b' ' + NUMBER)
 ROW = re.compile(b'[01]{%d}' % COLUMNS)
@@ -22,9 +26,9 @@ def tiles_of(w, h, x, y):
     return [(x + i, y + j) for j in range(h) for i in range(w)]
 
 
-def packed(rows):
-    """The bytes of a tile: position 54r + c in byte p / 8, with weight 2^(p mod 8)."""
-    return int(b''.join(rows)[::-1], 2).to_bytes(BYTES, 'little')
+def words_of_rows(rows):
+    """The words of a tile: "column 0 first", column c at weight 2^c."""
+    return [int(row[::-1], 2) for row in rows]
 
 
 class Fault(Exception):
@@ -52,7 +56,7 @@ class Reading:
         if not ROW.fullmatch(line):
             raise Fault
         self.open.append(line)
-        if len(self.open) == ROWS:
+        if len(self.open) == WORDS:
             self.open = None
 
     def dot_line(self, line):
@@ -87,7 +91,7 @@ def read(w, h, x, y, text, length=None):
     """The bits of a block. `length` is that of the lent bits."""
     if not is_size(w, h, x, y):
         return 1, 0
-    if length not in (None, BYTES * w * h):
+    if length not in (None, WORDS * w * h):
         return 2, 0
     reading = Reading(tiles_of(w, h, x, y))
     *lines, rest = text.split(b'\n')
@@ -100,29 +104,27 @@ def read(w, h, x, y, text, length=None):
             return 13, at
     if rest or not reading.whole():  # "each line, skipped too, ends in a line feed"; "one past the last for what is missing"
         return 13, len(lines) + 1
-    return b''.join(packed(rows) for rows in reading.rows.values())
+    return [word for rows in reading.rows.values() for word in words_of_rows(rows)]
 
 
 def text_of(w, h, x, y, bits):
     """ ".device first, tiles by index, no empty lines" """
     lines = ['.device 1k']
     for t, at in enumerate(tiles_of(w, h, x, y)):
-        tile = bits[BYTES * t:BYTES * t + BYTES]
-        digits = ''.join(str(tile[p // 8] >> p % 8 & 1) for p in range(ROWS * COLUMNS))
-        lines += ['.logic_tile %d %d' % at] + [digits[COLUMNS * r:COLUMNS * r + COLUMNS] for r in range(ROWS)]
+        rows = bits[WORDS * t:WORDS * t + WORDS]
+        lines += ['.logic_tile %d %d' % at] + [''.join(str(row >> c & 1) for c in range(COLUMNS)) for row in rows]
     return ''.join(line + '\n' for line in lines).encode()
 
 
 def text_length(w, h, x, y):
     """How long the text of such a block is."""
-    return len(text_of(w, h, x, y, bytes(BYTES * w * h))) if is_size(w, h, x, y) else (1, 0)
+    return len(text_of(w, h, x, y, [0] * (WORDS * w * h))) if is_size(w, h, x, y) else (1, 0)
 
 
 def write(w, h, x, y, bits, length=None):
-    """The text of a block. `length` is that of the lent text."""
+    """The text of a block. `length` is that of the lent text. A stray bit is ground 4, after 1 and 2."""
     if not is_size(w, h, x, y):
         return 1, 0
-    if len(bits) != BYTES * w * h:
+    if len(bits) != WORDS * w * h or length not in (None, text_length(w, h, x, y)):
         return 2, 0
-    text = text_of(w, h, x, y, bits)
-    return text if length in (None, len(text)) else (2, 0)
+    return (4, strays(bits)[0]) if strays(bits) else text_of(w, h, x, y, bits)

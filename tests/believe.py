@@ -37,6 +37,8 @@ ENTRIES = [
     ('asc', 'src/lib.rt', 'read', '12'),
     ('asc', 'src/lib.rt', 'text_length', '1'),
     ('asc', 'src/lib.rt', 'write', '12'),
+    ('words', 'src/lib.rt', 'words_of_bytes', '12'),
+    ('words', 'src/lib.rt', 'bytes_of_words', '12'),
     ('frames', 'src/input.rt', 'parse', '1'),
     ('reporting', 'src/lib.rt', 'report', '1'),
     ('capi', 'src/lib.rt', 'ice40_wire_number', '1'),
@@ -53,7 +55,12 @@ ENTRIES = [
     ('capi', 'src/files.rt', 'ice40_asc_read', '1'),
     ('capi', 'src/files.rt', 'ice40_asc_length', '1'),
     ('capi', 'src/files.rt', 'ice40_asc_write', '1'),
+    ('capi', 'src/forms.rt', 'ice40_words_of_bytes', '1'),
+    ('capi', 'src/forms.rt', 'ice40_bytes_of_words', '1'),
 ]
+
+# Closed statements that stand beside a demand's own.
+BESIDE = {'2': ['theorem/Forms']}
 
 # What a yes of `build` and `step` writes is demand 3's: where a demand's roots are contracts, it is not one of them.
 WRITTEN = {'equations/Settling.blockList', 'stepper/Settling.settledBy', 'stepper/Settling.portValues', 'stepper/Clocking.nextStates'}
@@ -78,6 +85,13 @@ COMPUTED = [
     ('fabric/Wire.wireOf', ['fabric/Joins.Lowest'], ['fabric/wire-exact', 'fabric/wire-lowest']),
     ('fabric/Wire.wiresOf', ['fabric/Joins.Lowest'], ['fabric/wires-at', 'fabric/wire-lowest']),
     ('fabric/Count.ownWire', ['fabric/Joins.Lowest'], ['fabric/wire-own-exact']),
+    # a block's bits in both their forms
+    ('words/Forms.pastColumns', ['words/Stray.Stray'], ['words/stray-exact']),
+    ('words/Stray.firstStray', ['words/Stray.LowestStray'], ['words/first-stray-exact', 'words/first-stray-none']),
+    ('words/Forms.wordsOf', ['words/Forms.SameBits'], ['words/words-same']),
+    ('words/Forms.bytesOf', ['words/Forms.SameBits'], ['words/bytes-same']),
+    ('words/Answers.wordsAnswer', ['words/Meaning.WordsSay'], ['words/words-say']),
+    ('words/Answers.bytesAnswer', ['words/Meaning.BytesSay'], ['words/bytes-say']),
     # the table's rules
     ('routing/TableCheck.tableOk', ['routing/Rules.TableRules'], ['routing/table-exact']),
     ('routing/TableCheck.faultyPart', ['routing/Rules.FirstBroken'], ['routing/faulty-part-exact']),
@@ -130,11 +144,11 @@ COMPUTED = [
 SEARCHES = {'lists/Search.first', 'lists/Search.allFrom', 'lists/Search.someBelow'}
 
 # The order in which the files are best read: what is of a crate that is not named comes last.
-ORDER = ['names', 'ports', 'fabric', 'routing', 'digits', 'codec', 'config', 'refusal', 'cell', 'equations', 'drivers', 'block', 'netlist',
+ORDER = ['names', 'ports', 'fabric', 'routing', 'digits', 'words', 'codec', 'config', 'refusal', 'cell', 'equations', 'drivers', 'block', 'netlist',
          'stepper', 'sim', 'theorem', 'texts', 'asc', 'frames', 'lines', 'reporting', 'capi', 'lists']
 FIRST = ['names/specs/Names.antt', 'ports/src/size.rt', 'ports/specs/Block.antt', 'fabric/specs/Joins.antt', 'routing/specs/TileKind.antt',
-         'routing/specs/LogicTile.antt', 'routing/specs/Table.antt', 'routing/specs/Rules.antt', 'codec/specs/Bits.antt',
-         'codec/specs/Settings.antt', 'codec/specs/Groups.antt', 'codec/specs/Reading.antt', 'config/specs/Blocks.antt',
+         'routing/specs/LogicTile.antt', 'routing/specs/Table.antt', 'routing/specs/Rules.antt', 'words/specs/Packed.antt',
+         'words/specs/Forms.antt', 'codec/specs/Bits.antt', 'codec/specs/Settings.antt', 'codec/specs/Groups.antt', 'codec/specs/Reading.antt', 'config/specs/Blocks.antt',
          'config/specs/Facts.antt', 'cell/specs/Lookup.antt', 'equations/specs/Tiles.antt', 'equations/specs/Switches.antt',
          'equations/specs/Equations.antt', 'refusal/src/lib.rt', 'drivers/src/follow.rt', 'drivers/specs/Following.antt',
          'block/src/lib.rt', 'block/src/lengths.rt', 'block/specs/Lengths.antt', 'frames/specs/Frames.antt', 'frames/specs/Whole.antt']
@@ -402,7 +416,9 @@ def roots_of(sources, demand):
     """The roots of a demand, and where they stand."""
     module = sources.modules.get('theorem/Demand' + demand)
     if module:
-        return list(module.defs), 'theorem/specs/Demand%s.antt' % demand
+        beside = BESIDE.get(demand, [])
+        defs = [d for m in [module] + [sources.modules[name] for name in beside] for d in m.defs]
+        return defs, ' and '.join(['theorem/specs/Demand%s.antt' % demand] + ['%s.antt' % name.replace('/', '/specs/') for name in beside])
     found = []
     for crate, file, function, demands in ENTRIES:
         if demand in demands:

@@ -13,13 +13,10 @@ import sys
 
 sys.path.insert(0, os.path.dirname(os.path.abspath(__file__)))
 import model  # noqa: E402
-from library import U8, U16, Count, Library, blocks, rounds_asked, run  # noqa: E402
+from bits_model import flipped  # noqa: E402
+from library import U8, U16, U64, Count, Library, blocks, junk, rounds_asked, run, with_strays  # noqa: E402
 
 EAST = (0, 1)  # whether the column to the east of a block is logic or RAM
-
-
-def junk(n, top=65536):
-    return [random.randrange(top) for _ in range(n)]
 
 
 def lent_build(n):
@@ -30,7 +27,7 @@ def lent_build(n):
 def build(lib, w, h, east, table, bits):
     """The library's answer and list; the rest of what it was lent must be zeros, or as it was under grounds 1 and 2."""
     lent = [junk(k) for k in lent_build(w * h)]
-    answer, after = lib.call('ice40_build', w, h, east, (U16, table), (U8, bits), *[(U16, numbers) for numbers in lent])
+    answer, after = lib.call('ice40_build', w, h, east, (U16, table), (U64, bits), *[(U16, numbers) for numbers in lent])
     after = after[2:]
     kept = answer[0] in (1, 2)
     room = all(now == old if kept else not any(now) for now, old in zip(after[1:], lent[1:]))
@@ -65,15 +62,14 @@ def building(lib, rounds):
     block = model.parse(open(sample).read())
     check_build(lib, count, *block, 'sample')
     *_, table, bits = block
-    off = bytearray(bits)
-    off[45 // 8] &= ~(1 << 45 % 8)
-    count.same(build(lib, 1, 1, 0, table, bytes(off))[0], (7, 0x150), 'flip-flop off')
-    carry = bytearray(108)
-    for i in (0, 2):
-        carry[model.lc(i, 8) // 8] |= 1 << model.lc(i, 8) % 8
-    count.same(build(lib, 1, 1, 0, table, bytes(carry))[0], (6, 490), 'carry in cells 0 and 2')
+    count.same(build(lib, 1, 1, 0, table, flipped(bits, [45]))[0], (7, 0x150), 'flip-flop off')
+    carry = flipped([0] * model.WORDS, [model.lc(i, 8) for i in (0, 2)])
+    count.same(build(lib, 1, 1, 0, table, carry)[0], (6, 490), 'carry in cells 0 and 2')
+    for c in range(54, 64):
+        stray = bits[:-1] + [bits[-1] | 1 << c]
+        count.same(build(lib, 1, 1, 0, table, stray)[0], (4, 863), 'a bit past the columns')
     wrong += count.done()
-    count = Count('settings changed at random: grounds 5 to 8, or every row')
+    count = Count('settings changed at random: grounds 4 to 8, or every row')
     whole = small_settings()
     for _ in range(rounds):
         w, h, table, settings = random.choice(whole)
@@ -86,7 +82,7 @@ def building(lib, rounds):
             else:
                 settings[at + 580 + 2 * random.randrange(8)] ^= random.choice((1, 1, 2, 8))
         bits = model.write(w, h, table, settings)
-        check_build(lib, count, w, h, random.choice(EAST), table, bits)
+        check_build(lib, count, w, h, random.choice(EAST), table, with_strays(bits, [random.randrange(len(bits))] * (random.random() < 0.05)))
     return wrong + count.done()
 
 
@@ -117,8 +113,8 @@ def following(lib, rounds):
 
 def step(lib, w, h, east, table, settings, rows, state, before, after):
     n = w * h
-    outputs = [junk(506 * n, 256), junk(8 * n, 256)]
-    room = [(U16, junk(506 * n))] * 3 + [(U8, junk(506 * n, 256))] * 2
+    outputs = [junk(506 * n, U8), junk(8 * n, U8)]
+    room = [(U16, junk(506 * n))] * 3 + [(U8, junk(506 * n, U8))] * 2
     answer, lent = lib.call('ice40_step', w, h, east, (U16, table), (U16, settings), (U16, rows), (U8, state), (U8, before), (U8, after),
                             *[(U8, o) for o in outputs], *room)
     values, new, rest = lent[6], lent[7], lent[8:]
@@ -230,7 +226,7 @@ def bad_byte(lib):
     """Ground 1 at place 0 and nothing touched, whatever else is wrong."""
     count = Count('a byte for the east that is not 0 or 1: ground 1, nothing touched')
     w, h, _, table, bits = blocks()['counter8_2x2']
-    slices = {'ice40_build': [(U16, table), (U8, bits)] + [(U16, [7] * k) for k in lent_build(4)],
+    slices = {'ice40_build': [(U16, table), (U64, bits)] + [(U16, [7] * k) for k in lent_build(4)],
               'ice40_follow': [(U16, table), (U16, [7] * 2380), 9, 999] + [(U16, [7] * 2024)] * 3,
               'ice40_step': [(U16, table), (U16, [7] * 2380), (U16, [7] * 14168), (U8, [7] * 32)] + [(U8, [7] * 2024)] * 3 + [(U8, [7] * 32)]
               + [(U16, [7] * 2024)] * 3 + [(U8, [7] * 2024)] * 2}

@@ -1,35 +1,30 @@
 #!/usr/bin/env python3
-"""Compares the library's comparison of two blocks with the model of tests/model.py: real blocks, damaged and random ones, and bad input.
+"""Compares the library's comparison of two blocks with the model of tests/model.py: real blocks, damaged and random ones, bits past
+the columns of a row, and bad input.
 
-    python3 tests/compare.py            needs the Rattle kit (rt), a C compiler and Python 3
-    python3 tests/compare.py 20000      the same with so many random cases (1,000 unless said)
+    python3 tests/compare.py                    needs the Rattle kit (rt), a C compiler and Python 3
+    python3 tests/compare.py 20000              the same with so many random cases (1,000 unless said)
+    python3 tests/compare.py --vectors FOLDER   where the users' vectors are, if not in ../shared/vectors-02
 
-The users' vectors, ../shared/vectors-02/w4-compare.jsonl and w4-part.jsonl, are run where they are there. It prints a line for each group of cases
-and ends with the number of differences.
+It prints a line for each group of cases and ends with the number of differences.
 """
-import ctypes
-import json
 import os
 import random
 import sys
 
 sys.path.insert(0, os.path.dirname(os.path.abspath(__file__)))
 import model  # noqa: E402
-from library import ROOT, U16, U8, Count, Library, blocks, rounds_asked, run  # noqa: E402
+import vectors  # noqa: E402
+from bits_model import flipped  # noqa: E402
+from library import U16, U32, U64, Count, Library, asked, blocks, fullest, junk, run, with_strays  # noqa: E402
 
-U32 = ctypes.c_uint32
-VECTORS = os.path.join(os.path.dirname(ROOT), 'shared', 'vectors-02')
 LIMIT = 587 * 64  # more rows than any two blocks have
 
 
-def junk(n, top=65536):
-    return [random.randrange(top) for _ in range(n)]
-
-
 def lent_for(size, length):
-    """A list of `length` numbers and the work room for a block of this size, all full."""
-    n = size[0] * size[1]
-    return junk(length, 1 << 32), junk(model.SETTINGS * n), junk(model.SETTINGS * n)
+    """A list of `length` numbers and the work room for a block of this size, all full; some for a size that no block has."""
+    n = min(size[0] * size[1], 64)
+    return junk(length, U32), junk(model.SETTINGS * n), junk(model.SETTINGS * n)
 
 
 def memory_after(ground, old_list, rows, before, after):
@@ -48,7 +43,7 @@ def check(lib, count, one, other, table, first, second, lent, what=''):
     expected = model.compare(one, other, table, first, second, len(old_list), len(before), len(after))
     rows = expected if isinstance(expected, list) else None
     answer = (0, len(rows)) if rows is not None else expected
-    got, slices = lib.call('ice40_compare', *one, *other, (U16, table), (U8, first), (U8, second), (U32, old_list), (U16, before), (U16, after))
+    got, slices = lib.call('ice40_compare', *one, *other, (U16, table), (U64, first), (U64, second), (U32, old_list), (U16, before), (U16, after))
     kept = (list(table), list(first), list(second))
     count.same((got, tuple(slices[3:])), (answer, memory_after(answer[0], old_list, rows, before, after)), what)
     count.same(tuple(slices[:3]), kept, what)
@@ -57,69 +52,51 @@ def check(lib, count, one, other, table, first, second, lent, what=''):
 
 def check_part(lib, count, one, other, first, second, which, tile, what=''):
     expected = model.part(one, other, len(first), len(second), tile)
-    got, slices = lib.call('ice40_tile_part', *one, *other, (U8, first), (U8, second), which, tile)
+    got, slices = lib.call('ice40_tile_part', *one, *other, (U64, first), (U64, second), which, tile)
     count.same((got, slices), (expected if isinstance(expected, tuple) else (0, expected), [list(first), list(second)]), what)
     return got
 
 
-def block_of(given):
-    return (given['w'], given['h']), bytes.fromhex(given['numbers'])
+# ---- the users' vectors
 
-
-def cases(name):
-    path = os.path.join(VECTORS, name)
-    return [json.loads(line) for line in open(path)] if os.path.exists(path) else []
-
-
-def vectors(lib):
-    """The users' vectors. They name the tile of ground 4, as it was before W5: its place is 864 times that plus a position."""
+def check_vectors(lib, folder):
+    """The older ones name the tile of ground 4, as it was before W5: its place is 864 times that plus a position."""
     count = Count("the users' vectors of comparing")
-    for case in cases('w4-compare.jsonl'):
-        given, answer = case['args'], case['answer']
-        (one, first), (other, second) = block_of(given['first']), block_of(given['second'])
-        table = model.parse('\n'.join(given['table']))[3]
-        old_list, before, after = lent_for(one, given['length'])
-        got, slices = lib.call('ice40_compare', *one, *other, (U16, table), (U8, first), (U8, second), (U32, old_list), (U16, before), (U16, after))
+    for case in vectors.cases(folder, 'w4-compare', 'w7-compare'):
+        (one, first), (other, second) = case.block('first'), case.block('second')
+        table, lent = case.table(), lent_for(one, case.given['length'])
+        got, slices = lib.call('ice40_compare', *one, *other, (U16, table), (U64, first), (U64, second), (U32, lent[0]), (U16, lent[1]), (U16, lent[2]))
         ground, place = got
-        expected = tuple(answer['no']) if 'no' in answer else (0, answer['count'])
-        count.same((ground, place // 864 if ground == 4 else place), expected, answer.get('no'))
-        rows = [answer['list'][k:k + 5] for k in range(0, 5 * answer['count'], 5)] if 'list' in answer else None
-        count.same(tuple(slices[3:]), memory_after(ground, old_list, rows, before, after), answer.get('no'))
-        if 'list' in answer:
-            count.same(slices[3], answer['list'])
-        check(lib, count, one, other, table, first, second, (old_list, before, after))
+        count.same((ground, place // 864 if ground == 4 and case.bytes else place), case.no or (0, case.answer['count']), case.no)
+        rows = None if case.no else case.rows(5)
+        count.same(tuple(slices[3:]), memory_after(ground, lent[0], rows, *lent[1:]), case.no)
+        check(lib, count, one, other, table, first, second, lent)
     wrong = count.done()
     count = Count("the users' vectors of asking for a tile")
-    for case in cases('w4-part.jsonl'):
-        given, answer = case['args'], case['answer']
-        (one, first), (other, second) = block_of(given['first']), block_of(given['second'])
-        got = check_part(lib, count, one, other, first, second, given['from_second'], given['tile'])
-        count.same(got, tuple(answer['no']) if 'no' in answer else (0, answer['from']), answer.get('no'))
-        if 'numbers' in answer:
-            chosen = second if given['from_second'] else first
-            count.same(chosen[got[1]:got[1] + model.BYTES].hex().upper(), answer['numbers'])
+    for case in vectors.cases(folder, 'w4-part', 'w7-part'):
+        (one, first), (other, second) = case.block('first'), case.block('second')
+        got = check_part(lib, count, one, other, first, second, case.given['from_second'], case.given['tile'])
+        count.same(got, case.no or (0, case.index(case.answer['from'])), case.no)
+        if not case.no:
+            chosen = second if case.given['from_second'] else first
+            count.same(chosen[got[1]:got[1] + model.WORDS], case.words(case.answer['numbers']))
     return wrong + count.done()
 
 
-def flipped(bits, flips):
-    bits = bytearray(bits)
-    for p in flips:
-        bits[p // 8] ^= 1 << p % 8
-    return bytes(bits)
-
+# ---- blocks
 
 def real(lib):
     """Each real block against itself, against an empty one, and with each bit of its fullest tile flipped."""
     count = Count('real blocks: against themselves and an empty block')
     for name, (w, h, _, table, bits) in blocks().items():
-        for first, second in ((bits, bits), (bits, bytes(len(bits))), (bytes(len(bits)), bits)):
+        for first, second in ((bits, bits), (bits, [0] * len(bits)), ([0] * len(bits), bits)):
             rows = check(lib, count, (w, h), (w, h), table, first, second, lent_for((w, h), 5 * LIMIT // 64 * w * h), name)
             count.same(isinstance(rows, list) and (not rows) == (first == second), True, name)
     wrong = count.done()
     count = Count('each bit of a real tile flipped: one row, or ground 4')
     for name in ('uart_tx_3x3', 'big8_8x8'):
         w, h, _, table, bits = blocks()[name]
-        t = max(range(w * h), key=lambda t: sum(bin(b).count('1') for b in bits[108 * t:108 * t + 108]))
+        t = fullest(w, h, bits)
         for p in range(864 * t, 864 * t + 864):
             rows = check(lib, count, (w, h), (w, h), table, bits, flipped(bits, [p]), lent_for((w, h), 9), p)
             count.same(rows[0] == 4 if isinstance(rows, tuple) else len(rows) == 1, True, p)
@@ -131,16 +108,19 @@ def pair_of(whole):
     w, h, _, table, bits = random.choice(whole)
     made = []
     for _ in range(2):
-        settings = list(model.read(w, h, table, random.choice((bits, bits, bytes(len(bits))))))
+        settings = list(model.read(w, h, table, random.choice((bits, bits, [0] * len(bits)))))
         for _ in range(random.choice((0, 1, 3, 40, 300))):
             t = random.randrange(w * h) * model.SETTINGS
             k = random.choice((random.randrange(3), random.randrange(model.SETTINGS), random.randrange(67, 330), 579 + random.randrange(16)))
             settings[t + k] = random.choice((0, 1, 2, random.randrange(16), random.randrange(65536)))
         written = model.write(w, h, table, settings)
-        made.append(bits if isinstance(written, tuple) else bytes(written))
+        made.append(bits if isinstance(written, tuple) else written)
     if random.random() < .2:
         side = random.randrange(2)
-        made[side] = flipped(made[side], [random.randrange(8 * len(bits)) for _ in range(random.choice((1, 2, 5)))])
+        made[side] = flipped(made[side], [random.randrange(864 * w * h) for _ in range(random.choice((1, 2, 5)))])
+    if random.random() < .1:
+        side = random.randrange(2)
+        made[side] = with_strays(made[side], [random.randrange(len(bits)) for _ in range(random.choice((1, 2)))])
     return (w, h), table, made
 
 
@@ -172,23 +152,24 @@ def refusals(lib, rounds):
         one = (w, h) if random.random() < .6 else (sizes(), sizes())
         other = one if random.random() < .6 else (sizes(), sizes())
         n = one[0] * one[1] if one[0] < 9 and one[1] < 9 else 1
-        lengths = [model.TABLE, model.BYTES * n, model.BYTES * n, model.SETTINGS * n, model.SETTINGS * n]
+        lengths = [model.TABLE, model.WORDS * n, model.WORDS * n, model.SETTINGS * n, model.SETTINGS * n]
         for k in range(5):
             if random.random() < .1:
-                lengths[k] = max(0, lengths[k] + random.choice((-1, 1, -lengths[k], 108, 595)))
+                lengths[k] = max(0, lengths[k] + random.choice((-1, 1, -lengths[k], 16, 108, 595)))
         tables = [table, [1] + table[1:], [0] * model.TABLE]
         chosen = (random.choice(tables) + [0] * 1000)[:lengths[0]]
-        first, second = ((bits + bytes(70000))[:lengths[1]], (random.choice((bits, bytes(len(bits)), b'\xff' * len(bits))) + bytes(70000))[:lengths[2]])
-        lent = (junk(random.choice((0, 3, 5000)), 1 << 32), junk(lengths[3]), junk(lengths[4]))
+        others = bits, [0] * len(bits), [(1 << 54) - 1] * len(bits), [1 << 63] * len(bits)
+        first, second = ((block + [0] * 9000)[:length] for block, length in zip((bits, random.choice(others)), lengths[1:3]))
+        lent = (junk(random.choice((0, 3, 5000)), U32), junk(lengths[3]), junk(lengths[4]))
         check(lib, count, one, other, chosen, first, second, lent)
         check_part(lib, count, one, other, first, second, random.randrange(2), random.choice((0, 1, 8, 9, 63, 64, 0xffffffff)))
     return count.done()
 
 
 def main():
-    lib = Library()
-    rounds = rounds_asked(1000)
-    return run([(vectors, lib), (real, lib), (randomly, lib, rounds), (refusals, lib, rounds)], 4)
+    arguments, lib = asked(__doc__, 1000), Library()
+    rounds = arguments.rounds
+    return run([(check_vectors, lib, arguments.vectors), (real, lib), (randomly, lib, rounds), (refusals, lib, rounds)], 4)
 
 
 if __name__ == '__main__':

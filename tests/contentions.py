@@ -4,22 +4,21 @@ contentions put in: two and more switches on a wire, in one tile and across tile
 
     python3 tests/contentions.py                    needs the Rattle kit (rt), a C compiler and Python 3
     python3 tests/contentions.py --rounds 20000     the same with so many random cases (1,000 unless said)
-    python3 tests/contentions.py --vectors FOLDER   where w6-fights.jsonl is, if not in ../shared/vectors-02
+    python3 tests/contentions.py --vectors FOLDER   where the users' vectors are, if not in ../shared/vectors-02
 
 It prints a line for each group of cases and ends with the number of differences.
 """
 import argparse
-import json
 import os
 import random
 import sys
 
 sys.path.insert(0, os.path.dirname(os.path.abspath(__file__)))
 import model  # noqa: E402
-from circuits import EAST, build, junk  # noqa: E402
-from library import ROOT, U8, U16, Count, Library, blocks, run  # noqa: E402
-
-SHARED = os.path.join(os.path.dirname(ROOT), 'shared')
+import vectors  # noqa: E402
+from bits_model import flipped  # noqa: E402
+from circuits import EAST, build  # noqa: E402
+from library import U16, U64, Count, Library, blocks, junk, run, with_strays  # noqa: E402
 
 
 def work_room(n):
@@ -31,7 +30,7 @@ def ask(lib, w, h, east, table, bits, room, lengths=None):
     """The library's rows or its no. What it leaves must be what it promises: zeros behind the rows, the old list after a no, and the work
     room zeroed, or as it was under grounds 1 and 2."""
     lent = [junk(k) for k in [room] + (work_room(w * h) if lengths is None else lengths)]
-    answer, after = lib.call('ice40_contentions', w, h, east, (U16, table), (U8, bits), *[(U16, numbers) for numbers in lent])
+    answer, after = lib.call('ice40_contentions', w, h, east, (U16, table), (U64, bits), *[(U16, numbers) for numbers in lent])
     listed, *rest = after[2:]
     if any(now != old if answer[0] in (1, 2) else any(now) for now, old in zip(rest, lent[1:])):
         return 'a work room that is not as promised', answer
@@ -43,32 +42,13 @@ def ask(lib, w, h, east, table, bits, room, lengths=None):
 
 # ---- the users' vectors
 
-def vector(case):
-    """What a line of the vectors asks, and its answer."""
-    words = case['args']
-    *_, table, _ = model.parse('\n'.join(words['table']))
-    block = words['block']
-    bits = bytes.fromhex(block['numbers'])
-    asked = block['w'], block['h'], words['east'], table, bits, words['length']
-    if 'no' in case['answer']:
-        return asked, tuple(case['answer']['no'])
-    rows = case['answer']['list']
-    if any(rows[3 * case['answer']['count']:]):
-        raise ValueError('a vector without zeros behind its rows')
-    return asked, [tuple(rows[3 * k:3 * k + 3]) for k in range(case['answer']['count'])]
-
-
-def vectors(lib, folder):
-    path = os.path.join(folder, 'w6-fights.jsonl')
-    if not os.path.exists(path):
-        print("left out, no file of the users' vectors: %s (--vectors FOLDER)" % os.path.relpath(path, ROOT))
-        return 0
+def check_vectors(lib, folder):
     count = Count("the users' vectors: the library and the model")
-    for line in open(path):
-        asked, expected = vector(json.loads(line))
-        count.same(ask(lib, *asked), expected, asked[:3])
-        if expected != (2, 0):  # the model takes exact lengths
-            count.same(model.contentions(*asked), expected, asked[:3])
+    for case in vectors.cases(folder, 'w6-fights', 'w7-fights'):
+        (w, h), bits = case.block('block')
+        asked = w, h, case.given['east'], case.table(), bits, case.given['length']
+        count.same(ask(lib, *asked), case.rows(3), asked[:3])
+        count.same(model.contentions(*asked), case.rows(3), asked[:3])
     return count.done()
 
 
@@ -190,21 +170,21 @@ def injected(lib, rounds):
 
 
 def changed(lib, rounds):
-    count = Count('settings changed at random, bits flipped')
+    count = Count('settings changed at random, bits flipped, bits past the columns')
     whole = [block for block in blocks().values() if block[0] * block[1] <= 9]
     for _ in range(rounds):
         w, h, _, table, bits = random.choice(whole)
         if random.random() < 0.2:
-            bits = bytearray(bits)
-            p = random.randrange(8 * len(bits))
-            bits[p // 8] ^= 1 << p % 8
+            bits = flipped(bits, [random.randrange(864 * w * h)])
         else:
             settings = model.read(w, h, table, bits)
             for _ in range(random.choice((1, 5, 50, 300))):
                 g = random.randrange(table[68])
                 settings[model.SETTINGS * random.randrange(w * h) + 67 + g] = random.randint(0, table[69 + 75 * g + 10])
             bits = model.write(w, h, table, settings)
-        check(lib, count, w, h, random.choice(EAST), table, bytes(bits))
+        if random.random() < 0.1:
+            bits = with_strays(bits, [random.randrange(len(bits))])
+        check(lib, count, w, h, random.choice(EAST), table, bits)
     return count.done()
 
 
@@ -244,16 +224,16 @@ def bad_input(lib):
     w, h, _, table, bits = next(b for b in blocks().values() if b[0] * b[1] == 4)
     room = work_room(4)
     for size in ((0, 1), (1, 0), (9, 1), (1, 9), (0, 0), (65536, 65536), (4294967295, 4294967295)):
-        count.same(ask(lib, *size, 0, [], b'', 3, [1, 2, 3, 4]), (1, 0), size)
+        count.same(ask(lib, *size, 0, [], [], 3, [1, 2, 3, 4]), (1, 0), size)
         count.same(ask(lib, *size, 2, table, bits, 3, room), (1, 0), size)
     for east in (2, 3, 255, 256, 65536, 4294967295):
         count.same(ask(lib, w, h, east, table, bits, 30, room), (1, 0), east)
-        count.same(ask(lib, w, h, east, [], b'', 30, [0] * 4), (1, 0), east)
+        count.same(ask(lib, w, h, east, [], [], 30, [0] * 4), (1, 0), east)
     for change in (-1, 1):
         for k in range(4):
             lengths = [n + (change if k == i else 0) for i, n in enumerate(room)]
             count.same(ask(lib, w, h, 1, table, bits, 30, lengths), (2, 0), lengths)
-        count.same(ask(lib, w, h, 1, table, bits[:-1] if change < 0 else bits + b'\0', 30), (2, 0))
+        count.same(ask(lib, w, h, 1, table, bits[:-1] if change < 0 else bits + [0], 30), (2, 0))
         count.same(ask(lib, w, h, 1, table[:-1] if change < 0 else table + [0], bits, 30), (2, 0))
     for at, number in ((1, table[0]), (3, 65), (68, 513), (69, 404)):
         broken = list(table)
@@ -266,10 +246,10 @@ def bad_input(lib):
 def main():
     parser = argparse.ArgumentParser(description=__doc__, formatter_class=argparse.RawDescriptionHelpFormatter)
     parser.add_argument('--rounds', metavar='N', type=int, default=1000)
-    parser.add_argument('--vectors', metavar='FOLDER', default=os.path.join(SHARED, 'vectors-02'))
+    parser.add_argument('--vectors', metavar='FOLDER', default=vectors.FOLDER)
     arguments = parser.parse_args()
     lib = Library()
-    return run([(vectors, lib, arguments.vectors), (real, lib), (injected, lib, arguments.rounds), (changed, lib, arguments.rounds // 2), (crowded, lib), (bad_input, lib)], 6)
+    return run([(check_vectors, lib, arguments.vectors), (real, lib), (injected, lib, arguments.rounds), (changed, lib, arguments.rounds // 2), (crowded, lib), (bad_input, lib)], 6)
 
 
 if __name__ == '__main__':

@@ -241,7 +241,8 @@ def benchmark(folder):
                    check=True)
     frames, asc = os.path.join(DATA, 'sample.in'), os.path.join(DATA, 'counter8.asc')
     commands = [[program, DATA, *words.split()] for words in ('proved nosuch build 1', 'proved big8_8x8 nosuch 1', 'nosuch big8_8x8 build 1', 'proved big8_8x8 build -1',
-                                                              'proved big8_8x8 build x', 'proved loop_8x8 step 1', 'proved')]
+                                                              'proved big8_8x8 build x', 'proved loop_8x8 step 1', 'proved',
+                                                              'proved nosuch compare 1', 'nosuch big8_8x8 contentions 1', 'proved big8_8x8 contentions x')]
     commands += [[program], [program, folder]]
     time = [sys.executable, os.path.join(ROOT, 'bench', 'report_time')]
     commands += [time, [*time, program, frames, asc + '.none'], [*time, program, frames + '.none', asc], [*time, program + '.none', frames, asc], [*time, frames, frames, asc],
@@ -249,7 +250,8 @@ def benchmark(folder):
     for command in commands:
         status, output, errors = answer(command)
         count.same((status, output, errors.count('\n')), (COULD_NOT, '', 1), (command, errors))
-    count.same(answer([program, DATA, 'proved', 'counter8_1x1', 'build', '1']), (0, '', ''))
+    for words in (['counter8_1x1', 'build'], ['big8_8x8, one bit', 'compare'], ['big8_8x8', 'contentions']):
+        count.same(answer([program, DATA, 'proved', *words, '1']), (0, '', ''), words)
     return count.done()
 
 

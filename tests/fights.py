@@ -17,9 +17,10 @@ sys.path.insert(0, os.path.dirname(os.path.abspath(__file__)))
 import asc_model  # noqa: E402
 import library  # noqa: E402
 import model  # noqa: E402
+from bits_model import flipped  # noqa: E402
 from contentions import Candidates, put, unclaimed  # noqa: E402
 from library import Count, blocks  # noqa: E402
-from tools import BUILT, CUTS, contents, data, read_by, readers, run  # noqa: E402
+from tools import BUILT, CUTS, contents, data, frames_of, read_by, readers, run  # noqa: E402
 
 import ice40  # noqa: E402  (its names and wires are held against the documents by tests/tools.py and tests/words.py)
 
@@ -34,7 +35,7 @@ def expected(w, h, east, table, bits, corner):
         lines.append('%s: %d enabled switches end on it' % (block.wire_name(wire), len(switches)))
         for t, g in switches:
             source = groups[g].entries[settings[model.SETTINGS * t + 67 + g] - 1][1]
-            on = ['B%d[%d]' % divmod(p, 54) for p in groups[g].positions if model.bit(bits[108 * t:108 * t + 108], p)]
+            on = ['B%d[%d]' % divmod(p, 54) for p in groups[g].positions if model.bit(bits[model.WORDS * t:], p)]
             lines.append('  group %d: (%d,%d) %s <- %s, bit%s %s' % (g, corner[0] + t % w, corner[1] + t // w, ice40.NAMES[groups[g].destination],
                                                                      ice40.NAMES[source], 's' * (len(on) > 1), ' '.join(on)))
     wires = len({row[0] for row in rows})
@@ -48,13 +49,6 @@ def expected(w, h, east, table, bits, corner):
 
 def listed_by(reader):
     return 'note: the fights were listed by %s' % ('the proved library' if reader else 'Python, as no library is there (make lib)')
-
-
-def frames_of(name, east, bits):
-    """A bundled input with other bits."""
-    head = contents(data(name + '.in')).split('\n04')[0]
-    w, h, *_ = blocks()[name]
-    return head + '\n04%02X%02X%02X\n' % (w, h, east) + ''.join('05%s\n' % bits[108 * t:108 * t + 108].hex().upper() for t in range(w * h))
 
 
 def with_fights(name, east, many):
@@ -102,15 +96,15 @@ def mistakes(folder):
     """Words for the tool that it cannot answer, with its standard input and a part of what it says."""
     whole = contents(data('counter8_2x2.in'))
     *_, table, bits = blocks()['counter8_2x2']
-    stray, p = bytearray(bits), unclaimed(table)[0]
-    stray[108 * 3 + p // 8] |= 1 << p % 8
+    p = unclaimed(table)[0]
+    undecodable = flipped(bits, [864 * 3 + p])
     lines = whole.splitlines(keepends=True)
     broken = ''.join([lines[0][:2] + lines[0][6:10] * 2 + lines[0][10:]] + lines[1:])
     yield ['-'], '', 'line 1'
     yield ['-'], whole[:-1], 'line end'
     yield ['-'], ''.join(lines[:-1]), 'ends before it'
     yield ['-'], whole + lines[-1], 'no frame 05 is due'
-    yield ['-'], frames_of('counter8_2x2', 0, bytes(stray)), 'ground 4, tile (1,1) cannot be decoded: B%d[%d]' % divmod(p, 54)
+    yield ['-'], frames_of('counter8_2x2', 0, undecodable), 'ground 4, tile (1,1) cannot be decoded: B%d[%d]' % divmod(p, 54)
     yield ['-'], broken, 'ground 3, part 0 of the routing table: position'
     yield ['-'], whole.replace('\n040202', '\n040209'), 'W and H are 1 to 8'
     yield [os.path.join(folder, 'missing.frames')], '', 'No such file'

@@ -1,5 +1,5 @@
 /* What include/ice40.h says, tried; compiled as C and as C++ by tests/header.py. The one argument is a block as tests/header.py writes it: w, h
- * and east, a byte each, the table, the bits. It prints a line for each group of calls, the number of calls and of those that are wrong. */
+ * and east, a byte each, the table, the bits as words and as bytes. It prints a line for each group of calls, the number of calls and of those that are wrong. */
 #include <pthread.h>
 #include <stdio.h>
 #include <stdlib.h>
@@ -11,13 +11,14 @@ enum { N = ICE40_TILES_LIMIT, TEXT = 57611, X = 9, Y = 98, THREADS = 4, ROUNDS =
 /* Everything that the calls of a block are lent. */
 typedef struct {
     uint16_t table[ICE40_TABLE_LENGTH], settings[ICE40_SETTINGS_LENGTH(N)], list[ICE40_LIST_LENGTH(N)];
-    uint8_t bits[ICE40_BITS_LENGTH(N)], written[ICE40_BITS_LENGTH(N)], state[ICE40_STATE_LENGTH(N)], next[ICE40_STATE_LENGTH(N)];
+    uint64_t bits[ICE40_BITS_LENGTH(N)], written[ICE40_BITS_LENGTH(N)], again[ICE40_BITS_LENGTH(N)], words[ICE40_BITS_LENGTH(N)];
+    uint64_t other[ICE40_BITS_LENGTH(N)]; /* the block with one bit changed */
+    uint8_t bytes[ICE40_BYTES_LENGTH(N)], back[ICE40_BYTES_LENGTH(N)], state[ICE40_STATE_LENGTH(N)], next[ICE40_STATE_LENGTH(N)];
     uint8_t before[ICE40_PORTS_LENGTH(N)], after[ICE40_PORTS_LENGTH(N)], values[ICE40_PORTS_LENGTH(N)];
-    uint8_t text[TEXT], again[ICE40_BITS_LENGTH(N)];
+    uint8_t text[TEXT];
     uint16_t contentions[ICE40_CONTENTION_LENGTH * ICE40_SWITCHES_LENGTH(N)];
-    uint8_t other[ICE40_BITS_LENGTH(N)]; /* the block with one bit changed */
     uint32_t differences[ICE40_DIFFERENCE_LENGTH * 2];
-    uint64_t answers[12];
+    uint64_t answers[14];
     /* work room */
     uint16_t room_settings[ICE40_SETTINGS_LENGTH(N)], rows[ICE40_LIST_LENGTH(N)], a[ICE40_PORTS_LENGTH(N)], b[ICE40_PORTS_LENGTH(N)];
     uint16_t c[ICE40_PORTS_LENGTH(N)], d[ICE40_PORTS_LENGTH(N)], nexts[ICE40_SWITCHES_LENGTH(N)], other_settings[ICE40_SETTINGS_LENGTH(N)];
@@ -51,7 +52,7 @@ static uint64_t list_contentions(Work *k, size_t length) {
 }
 
 /* With another block and a list of so many numbers. */
-static uint64_t compare(Work *k, const uint8_t *other, uint32_t *list, size_t length) {
+static uint64_t compare(Work *k, const uint64_t *other, uint32_t *list, size_t length) {
     return ice40_compare(w, h, w, h, k->table, ICE40_TABLE_LENGTH, k->bits, ICE40_BITS_LENGTH(n), other, ICE40_BITS_LENGTH(n), list, length,
                          k->room_settings, ICE40_SETTINGS_LENGTH(n), k->other_settings, ICE40_SETTINGS_LENGTH(n));
 }
@@ -80,6 +81,8 @@ static void call_all(Work *k) {
     k->answers[9] = list_contentions(k, ICE40_CONTENTION_LENGTH * ICE40_SWITCHES_LENGTH(n));
     k->answers[10] = compare(k, k->other, k->differences, ICE40_DIFFERENCE_LENGTH * 2);
     k->answers[11] = tile_part(k, 1, (uint32_t)n - 1);
+    k->answers[12] = ice40_words_of_bytes(w, h, k->bytes, ICE40_BYTES_LENGTH(n), k->words, ICE40_BITS_LENGTH(n));
+    k->answers[13] = ice40_bytes_of_words(w, h, k->words, ICE40_BITS_LENGTH(n), k->back, ICE40_BYTES_LENGTH(n));
 }
 
 static void *call_often(void *work) {
@@ -191,6 +194,30 @@ static void try_compare(const Work *result) {
     done("comparing");
 }
 
+/* Both forms of a block's bits, and a bit past the columns of a row: who refuses it, and where. */
+static void try_words(const Work *result) {
+    Work *k = copy_of(result);
+    size_t row = ICE40_BITS_LENGTH(n - 1) + 15, length = ICE40_VALUE(k->answers[6]);
+    uint64_t place = no(ICE40_NO_UNDECODABLE) | (864 * n - 1), count = ice40_bit_count(w, h, k->bits, ICE40_BITS_LENGTH(n), (uint32_t)n - 1);
+    same(k->answers[12] == 0 && k->answers[13] == 0, "both conversions");
+    same(!memcmp(k->words, k->bits, sizeof k->bits) && !memcmp(k->back, k->bytes, sizeof k->bytes), "each undoes the other");
+    for (int c = 54; c < 64; c++) {
+        k->bits[row] |= UINT64_C(1) << c;
+        same(ice40_read(w, h, k->table, ICE40_TABLE_LENGTH, k->bits, ICE40_BITS_LENGTH(n), k->settings, ICE40_SETTINGS_LENGTH(n)) == place, "read");
+        same(ice40_bytes_of_words(w, h, k->bits, ICE40_BITS_LENGTH(n), k->back, ICE40_BYTES_LENGTH(n)) == place, "bytes_of_words");
+        same(ice40_asc_write(w, h, X, Y, k->bits, ICE40_BITS_LENGTH(n), k->text, length) == place, "asc_write");
+        same(list_contentions(k, 0) == place && compare(k, k->other, k->differences, 0) == place, "contentions, compare");
+        same(ice40_bit_count(w, h, k->bits, ICE40_BITS_LENGTH(n), (uint32_t)n - 1) == count, "not counted");
+        same(tile_part(k, 0, (uint32_t)n - 1) == ICE40_BITS_LENGTH(n - 1), "the tile's part");
+        k->bits[row] ^= UINT64_C(1) << c;
+    }
+    same(ice40_words_of_bytes(w, h, k->bytes, ICE40_BYTES_LENGTH(n) - 1, k->words, ICE40_BITS_LENGTH(n)) == no(2), "bytes of another length");
+    same(ice40_bytes_of_words(w, h, k->words, ICE40_BITS_LENGTH(n), k->back, ICE40_BYTES_LENGTH(n) + 1) == no(2), "room of another length");
+    same(equal(k, result), "nothing touched");
+    free(k);
+    done("words and bytes, a bit past the columns");
+}
+
 /* NULL with length 0 in each place, with a size that is right and one that is not. */
 static void try_null(const Work *result) {
     Work *k = copy_of(result);
@@ -199,6 +226,8 @@ static void try_null(const Work *result) {
         same(ice40_read(x, h, NULL, 0, NULL, 0, NULL, 0) == expected, "read");
         same(ice40_write(x, h, NULL, 0, NULL, 0, NULL, 0) == expected, "write");
         same(ice40_bit_count(x, h, NULL, 0, 0) == expected, "bit_count");
+        same(ice40_words_of_bytes(x, h, NULL, 0, NULL, 0) == expected, "words_of_bytes");
+        same(ice40_bytes_of_words(x, h, NULL, 0, NULL, 0) == expected, "bytes_of_words");
         same(ice40_build(x, h, east, NULL, 0, NULL, 0, NULL, 0, NULL, 0, NULL, 0, NULL, 0, NULL, 0, NULL, 0, NULL, 0) == expected, "build");
         same(ice40_follow(x, h, east, NULL, 0, NULL, 0, 0, 0, NULL, 0, NULL, 0, NULL, 0) == expected, "follow");
         same(ice40_contentions(x, h, east, NULL, 0, NULL, 0, NULL, 0, NULL, 0, NULL, 0, NULL, 0, NULL, 0) == expected, "contentions");
@@ -230,10 +259,11 @@ static void load(Work *k, const char *path) {
     w = (uint32_t)getc(file), h = (uint32_t)getc(file), east = (uint32_t)getc(file);
     n = w * h, ports = ICE40_PORTS_LENGTH(n);
     if (fread(k->table, sizeof *k->table, ICE40_TABLE_LENGTH, file) != ICE40_TABLE_LENGTH) exit(2);
-    if (fread(k->bits, 1, ICE40_BITS_LENGTH(n), file) != ICE40_BITS_LENGTH(n)) exit(2);
+    if (fread(k->bits, sizeof *k->bits, ICE40_BITS_LENGTH(n), file) != ICE40_BITS_LENGTH(n)) exit(2);
+    if (fread(k->bytes, 1, ICE40_BYTES_LENGTH(n), file) != ICE40_BYTES_LENGTH(n)) exit(2);
     fclose(file);
-    memcpy(k->other, k->bits, ICE40_BITS_LENGTH(n));
-    k->other[ICE40_BITS_LENGTH(n - 1) + 36 / 8] ^= 1 << 36 % 8; /* B0[36] */
+    memcpy(k->other, k->bits, sizeof k->bits);
+    k->other[ICE40_BITS_LENGTH(n - 1)] ^= UINT64_C(1) << 36; /* B0[36] */
     for (size_t p = 0; p < ports; p++) k->before[p] = p % 3 == 0, k->after[p] = p % 5 == 0;
 }
 
@@ -249,6 +279,7 @@ int main(int argc, char **argv) {
     try_files(result);
     try_contentions(result);
     try_compare(result);
+    try_words(result);
     free(start), free(result);
     return 0;
 }

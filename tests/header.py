@@ -41,7 +41,7 @@ PLAIN = {
     'CONTENTION_LENGTH': 3, 'CONTENTION_WIRE': 0, 'CONTENTION_TILE': 1, 'CONTENTION_GROUP': 2,
     'PORTS': wire_numbers.PORTS, 'OPEN': 1, 'ZERO': 2, 'ONE': 3, 'CELL': 4, 'RING': 5, 'STACK_BYTES': 131072,
 }
-COUNTED = {'BITS_LENGTH': (0, 108), 'SETTINGS_LENGTH': (0, 595), 'PORTS_LENGTH': (0, 506), 'LIST_LENGTH': (0, 3542), 'STATE_LENGTH': (0, 8),
+COUNTED = {'BITS_LENGTH': (0, model.WORDS), 'BYTES_LENGTH': (0, model.BYTES), 'SETTINGS_LENGTH': (0, 595), 'PORTS_LENGTH': (0, 506), 'LIST_LENGTH': (0, 3542), 'STATE_LENGTH': (0, 8),
            'SWITCHES_LENGTH': (0, 512), 'DIFFERENCES_LIMIT': (0, len(model.settings_of_kinds([0] * model.SETTINGS))), 'TABLE_PASSIVE': (4, 1),
            'TABLE_GROUP': (69, 75), 'GROUP_POSITION': (2, 1), 'GROUP_PATTERN': (11, 2), 'GROUP_SOURCE': (12, 2), 'SETTINGS_PASSIVE': (3, 1),
            'SETTINGS_GROUP': (67, 1), 'SETTINGS_CELL_TABLE': (579, 2), 'SETTINGS_CELL_FLAGS': (580, 2), 'ROW_OPERAND': (2, 1)}
@@ -141,7 +141,7 @@ def block_file(folder, block):
     w, h, east, table, bits = block
     path = os.path.join(folder, 'block')
     with open(path, 'wb') as file:
-        file.write(bytes([w, h, east]) + array('H', table).tobytes() + bytes(bits))
+        file.write(bytes([w, h, east]) + array('H', table).tobytes() + array('Q', bits).tobytes() + model.bytes_of(bits))
     return path
 
 

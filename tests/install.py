@@ -16,7 +16,7 @@ sys.path.insert(0, os.path.dirname(os.path.abspath(__file__)))
 from library import DATA, ROOT, Count, run  # noqa: E402
 
 VIEWER = os.path.join(ROOT, 'examples', 'viewer.c')
-TOOLS = ['explain', 'fights', 'names', 'asc-to-frames', 'chipdb-to-frames']
+TOOLS = ['explain', 'fights', 'compare', 'names', 'asc-to-frames', 'chipdb-to-frames']
 
 
 def answer(command, **options):

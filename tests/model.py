@@ -1,8 +1,8 @@
 """A model of the reader, written from documents 01 and 02 and apart from the reader's own text: plain Python, slow, and proved nowhere.
 
-The tests compare the library with it. It works on the lent form of everything: a routing table of 38,469 numbers, 595 settings and 108
-bytes a tile, rows of seven numbers; at its end, on the lines of the report program. A no is a pair (ground, place); a yes is what was
-asked for. `east` is the byte that says whether the column to the east of the block is logic or RAM; calls whose answer rests on no join do
+The tests compare the library with it. It works on the lent form of everything: a routing table of 38,469 numbers, 595 settings a tile, a
+block's bits as words, 16 a tile, rows of seven numbers; at its end, on the lines of the report program, where a tile is 108 bytes. A no is a
+pair (ground, place); a yes is what was asked for. `east` is the byte that says whether the column to the east of the block is logic or RAM; calls whose answer rests on no join do
 not take it.
 """
 import functools
@@ -12,10 +12,11 @@ import re
 import sys
 
 sys.path.insert(0, os.path.dirname(os.path.abspath(__file__)))
+from bits_model import BYTES, COLUMNS, WORDS, bit, bytes_of, size_wrong, strays, words_of  # noqa: E402
 from wire_numbers import BASE, PORTS, wires  # noqa: E402
 
-TABLE, SETTINGS, BYTES = 38469, 595, 108
-union_find = functools.lru_cache(maxsize=None)(wires)  # nobody writes to what it gives
+TABLE, SETTINGS = 38469, 595
+union_find = functools.lru_cache(maxsize=None)(wires)  # nobody writes to what it gives, nor to what `known` keeps
 LUT_INIT = [4, 14, 15, 5, 6, 16, 17, 7, 3, 13, 12, 2, 1, 11, 10, 0]
 FLAG_BITS = [8, 9, 18, 19]  # carry, flip-flop, set, asynchronous
 
@@ -28,10 +29,6 @@ def lc(i, k):
 
 CELL_BITS = [[lc(i, k) for k in LUT_INIT + FLAG_BITS] for i in range(8)]
 ALL_CELL_BITS = {p for cell in CELL_BITS for p in cell}
-
-
-def bit(tile, p):
-    return tile[p // 8] >> p % 8 & 1
 
 
 # ---- the routing table
@@ -82,15 +79,41 @@ def faulty_part(table):
     return 514 if table[68] > 512 else None
 
 
-# ---- settings
+class Table:
+    """What is asked of a table again and again, worked out once: its faulty part, its groups, the settings of tiles."""
+
+    def __init__(self, numbers):
+        self.fault = faulty_part(numbers)
+        self.groups = [group_at(numbers, g) for g in range(numbers[68])] if self.fault is None else []
+        self.settings = functools.lru_cache(maxsize=4096)(lambda tile: settings_of(numbers, self.groups, tile))
+
+
+MET = []  # tables met last, the latest first, each with what is known of it
+
+
+def known(table):
+    found = next((k for k, (numbers, _) in enumerate(MET) if numbers == table), None)
+    MET.insert(0, (list(table), Table(list(table))) if found is None else MET.pop(found))
+    del MET[16:]
+    return MET[0][1]
+
 
 def groups_of(table):
-    return [group_at(table, g) for g in range(table[68])]
+    """The groups of a table that breaks no rule."""
+    return known(table).groups
 
+
+# ---- settings
 
 def decode(table, tile):
+    """A tile's settings under a table that breaks no rule, or the set of positions at fault."""
+    return known(table).settings(tuple(tile))
+
+
+def settings_of(table, groups, tile):
     """A tile's settings, or where it cannot be decoded the set of positions at fault: for an unlisted pattern the first position that the table
-    lists for the group, for a set bit that nothing claims its own, for the carry pair that of CarryInSet (document 02, W5)."""
+    lists for the group, for a set bit that nothing claims its own, for the carry pair that of CarryInSet, for a stray bit that of column 53 of
+    its row, whoever claims it (document 02, W5 and W7)."""
     settings = [0] * SETTINGS
     faults = set()
     claimed = set(ALL_CELL_BITS) | set(table[0:3]) | set(table[4:4 + table[3]])
@@ -100,7 +123,7 @@ def decode(table, tile):
         faults.add(table[1])
     for j in range(table[3]):
         settings[3 + j] = bit(tile, table[4 + j])
-    for g, group in enumerate(groups_of(table)):
+    for g, group in enumerate(groups):
         claimed |= set(group.positions)
         pattern = sum(bit(tile, p) << k for k, p in enumerate(group.positions))
         if pattern:
@@ -110,6 +133,7 @@ def decode(table, tile):
             else:
                 faults.add(group.positions[0])
     faults |= {p for p in range(864) if p not in claimed and bit(tile, p)}
+    faults.update(strays(tile))
     if faults:
         return faults
     for i in range(8):
@@ -131,10 +155,10 @@ def has_bits(table, settings):
 
 
 def encode(table, settings):
-    tile = bytearray(BYTES)
+    tile = [0] * WORDS
 
     def put(p, v):
-        tile[p // 8] |= v << p % 8
+        tile[p // COLUMNS] |= v << p % COLUMNS
 
     for f in range(3):
         put(table[f], settings[f])
@@ -149,24 +173,26 @@ def encode(table, settings):
         value = settings[579 + 2 * i] | settings[580 + 2 * i] << 16
         for j, p in enumerate(CELL_BITS[i]):
             put(p, value >> j & 1)
-    return bytes(tile)
+    return tile
 
 
-def size_or_table(w, h, table):
-    """Ground 1 or 3, or None."""
-    if not (1 <= w <= 8 and 1 <= h <= 8):
+def size_length_or_table(w, h, table, lent, a_tile):
+    """Ground 1, 2 or 3, or None; so many numbers are lent, so many a tile should be."""
+    if size_wrong(w, h):
         return 1, 0
-    place = faulty_part(table)
+    if (len(table), lent) != (TABLE, a_tile * w * h):
+        return 2, 0
+    place = known(table).fault
     return None if place is None else (3, place)
 
 
 def read(w, h, table, bits):
-    no = size_or_table(w, h, table)
+    no = size_length_or_table(w, h, table, len(bits), WORDS)
     if no:
         return no
-    settings = []
+    settings, of_tile = [], known(table).settings
     for t in range(w * h):
-        tile = decode(table, bits[BYTES * t:BYTES * t + BYTES])
+        tile = of_tile(tuple(bits[WORDS * t:WORDS * t + WORDS]))
         if isinstance(tile, set):
             return 4, 864 * t + min(tile)
         settings += tile
@@ -174,13 +200,13 @@ def read(w, h, table, bits):
 
 
 def write(w, h, table, settings):
-    no = size_or_table(w, h, table)
+    no = size_length_or_table(w, h, table, len(settings), SETTINGS)
     if no:
         return no
     for t in range(w * h):
         if not has_bits(table, settings[SETTINGS * t:SETTINGS * t + SETTINGS]):
             return 9, t
-    return b''.join(encode(table, settings[SETTINGS * t:SETTINGS * t + SETTINGS]) for t in range(w * h))
+    return [row for t in range(w * h) for row in encode(table, settings[SETTINGS * t:SETTINGS * t + SETTINGS])]
 
 
 # ---- equations
@@ -215,14 +241,10 @@ def differences(old, new):
     """The rows of two lists of settings."""
     rows = []
     for t in range(len(old) // SETTINGS):
-        for (kind, index, a), (_, _, b) in zip(settings_of_kinds(old[SETTINGS * t:SETTINGS * (t + 1)]), settings_of_kinds(new[SETTINGS * t:SETTINGS * (t + 1)])):
-            if a != b:
-                rows.append((t, kind, index, a, b))
+        tiles = [settings[SETTINGS * t:SETTINGS * (t + 1)] for settings in (old, new)]
+        if tiles[0] != tiles[1]:  # most tiles are equal
+            rows += [(t, kind, index, a, b) for (kind, index, a), (_, _, b) in zip(*map(settings_of_kinds, tiles)) if a != b]
     return rows
-
-
-def size_wrong(w, h):
-    return not (1 <= w <= 8 and 1 <= h <= 8)
 
 
 def compare(one, other, table, first, second, length, before, after):
@@ -232,7 +254,7 @@ def compare(one, other, table, first, second, length, before, after):
     if one != other:
         return 14, 0
     n = one[0] * one[1]
-    if (len(table), len(first), len(second), before, after) != (TABLE, BYTES * n, BYTES * n, SETTINGS * n, SETTINGS * n):
+    if (len(table), len(first), len(second), before, after) != (TABLE, WORDS * n, WORDS * n, SETTINGS * n, SETTINGS * n):
         return 2, 0
     settings = []
     for bits in (first, second):
@@ -247,17 +269,17 @@ def compare(one, other, table, first, second, length, before, after):
 
 
 def part(one, other, first, second, tile):
-    """The index of the tile's first byte, or a no: grounds 1, 14, 2, 20."""
+    """The index of the tile's first number, or a no: grounds 1, 14, 2, 20."""
     if size_wrong(*one) or size_wrong(*other):
         return 1, 0
     if one != other:
         return 14, 0
     n = one[0] * one[1]
-    if (first, second) != (BYTES * n, BYTES * n):
+    if (first, second) != (WORDS * n, WORDS * n):
         return 2, 0
     if tile >= n:
         return 20, tile
-    return BYTES * tile
+    return WORDS * tile
 
 
 class Block:
@@ -460,7 +482,8 @@ def step(w, h, east, settings, rows, state, before, after):
 
 # ---- frames
 
-def words(data):
+def shorts(data):
+    """Numbers of two bytes, the high one first."""
     return [int.from_bytes(data[k:k + 2], 'big') for k in range(0, len(data), 2)]
 
 
@@ -468,12 +491,12 @@ def group_numbers(data):
     """A group as the table has it, from the bytes behind 03, or None where they are malformed."""
     if len(data) < 3 or data[2] > 8:
         return None
-    positions, rest = words(data[3:3 + 2 * data[2]]), data[3 + 2 * data[2]:]
+    positions, rest = shorts(data[3:3 + 2 * data[2]]), data[3 + 2 * data[2]:]
     if not rest or rest[0] > 32 or len(rest) != 1 + 3 * rest[0]:
         return None
-    numbers = words(data[0:2]) + [len(positions)] + positions + [0] * (8 - len(positions)) + [rest[0]]
+    numbers = shorts(data[0:2]) + [len(positions)] + positions + [0] * (8 - len(positions)) + [rest[0]]
     for e in range(rest[0]):
-        numbers += [rest[1 + 3 * e]] + words(rest[2 + 3 * e:4 + 3 * e])
+        numbers += [rest[1 + 3 * e]] + shorts(rest[2 + 3 * e:4 + 3 * e])
     return numbers + [0] * (75 - len(numbers))
 
 
@@ -484,9 +507,9 @@ def frame(line):
         return None
     kind, data = line[:2], bytes.fromhex(line[2:].decode())
     if kind == b'01' and len(data) == 6:
-        return 1, words(data)
+        return 1, shorts(data)
     if kind == b'02' and data and data[0] <= 64 and len(data) == 1 + 2 * data[0]:
-        return 2, words(data[1:])
+        return 2, shorts(data[1:])
     if kind == b'03' and group_numbers(data):
         return 3, group_numbers(data)
     if kind == b'04' and (len(data) == 2 or len(data) == 3 and data[2] in (0, 1)):
@@ -500,7 +523,7 @@ class Input:
     """What frames say, one taken after the other."""
 
     def __init__(self):
-        self.w, self.h, self.east, self.table, self.bits = 0, 0, 0, [0] * TABLE, b''
+        self.w, self.h, self.east, self.table, self.bytes = 0, 0, 0, [0] * TABLE, b''
 
     def take(self, kind, data):
         if kind == 1:
@@ -514,15 +537,20 @@ class Input:
         elif kind == 4:
             self.w, self.h, self.east = data
         else:
-            self.bits += data
+            self.bytes += data
 
     def due_after(self, kind):
         """The kinds of frame that may come next."""
         return {1: [2], 2: [3, 4], 3: [3, 4] if self.table[68] < 512 else [4], 4: [5],
-                5: [5] if len(self.bits) < BYTES * self.w * self.h else []}[kind]
+                5: [5] if len(self.bytes) < BYTES * self.w * self.h else []}[kind]
 
     def block(self):
-        return self.w, self.h, self.east, self.table, self.bits
+        return self.w, self.h, self.east, self.table, words_of(self.bytes)
+
+
+def tile_frames(bits):
+    """The frames 05 of a block, a line each."""
+    return ''.join('05%s\n' % bytes_of(bits[at:at + WORDS]).hex().upper() for at in range(0, len(bits), WORDS))
 
 
 def parse(text):

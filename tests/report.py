@@ -329,7 +329,7 @@ def judged_blocks():
     yield 8, 0, lines_of(clocks, [[B, flag(3, 1), flag(3, 3)]])
     yield 8, 3, lines_of(clocks, [[A], [B, flag(0, 1)], [B, flag(0, 3)], [B, flag(3, 1), flag(3, 3)]], 2, 2)
     fields, passive, local, lut_in, size, tile = sample()
-    bits = bytes.fromhex(tile[2:])
+    bits = model.words_of(bytes.fromhex(tile[2:]))
     yield 7, LOCAL, [fields, passive, local, lut_in, size, tile_line(p for p in range(864) if model.bit(bits, p) and p != 45)]
 
 

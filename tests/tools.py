@@ -78,6 +78,12 @@ def contents(path):
         return file.read()
 
 
+def frames_of(name, east, bits):
+    """A bundled input with other bits."""
+    head, rest = contents(data(name + '.in')).split('\n04')
+    return head + '\n04%s%02X\n' % (rest[:4], east) + model.tile_frames(bits)
+
+
 # ---- files to frames
 
 def check_tables(folder):

@@ -15,6 +15,7 @@ import tempfile
 
 sys.path.insert(0, os.path.dirname(os.path.abspath(__file__)))
 import model  # noqa: E402
+from bits_model import flipped  # noqa: E402
 import report  # noqa: E402
 import wire_numbers  # noqa: E402
 from library import Count, blocks, rounds_asked  # noqa: E402
@@ -212,11 +213,11 @@ def check_two_blocks():
         settings[67 + g] = e
         settings[580] = 2
         tiles.append(model.encode(table, settings))
-        block = contents(data('1k.tab')) + '040101\n05' + tiles[-1].hex().upper() + '\n'
+        block = contents(data('1k.tab')) + '040101\n' + model.tile_frames(tiles[-1])
         status, words = told(model.report_of(block.encode()), block)
         count.same((status, words[-2]), (YES, '1 driven wire leaves the block: switches outside that end on it are not looked at'), t)
-    row = tiles[0] + bytes(108) * (far[0] - 1) + tiles[1]
-    whole = model.Block(far[0] + 1, 1, 0, table, [n for t in range(far[0] + 1) for n in model.decode(table, row[108 * t:108 * t + 108])])
+    row = [tiles[0]] + [[0] * model.WORDS] * (far[0] - 1) + [tiles[1]]
+    whole = model.Block(far[0] + 1, 1, 0, table, [n for tile in row for n in model.decode(table, tile)])
     count.same(whole.contended, {wires[wire_numbers.BASE['sp12_h_r'] + 2]}, 'one wire, two switches, in a row that no block can have')
     return count.done()
 
@@ -294,11 +295,8 @@ def faulty(w, h, table, bits):
         settings[at + 579 + 2 * random.randrange(8)] = random.choice((0, 0x00FF, 0xF0F0, 0xAAAA, 0x6666, 0xCAFE))
     if random.random() < 0.2:
         settings[580 + 2 * random.randrange(8)] |= 1
-    tiles = [bytearray(model.encode(table, settings[model.SETTINGS * t:model.SETTINGS * t + model.SETTINGS])) for t in range(w * h)]
-    if random.random() < 0.2:
-        p = random.randrange(864)
-        tiles[random.randrange(w * h)][p // 8] ^= 1 << p % 8
-    return b''.join(tiles)
+    bits = [row for t in range(w * h) for row in model.encode(table, settings[model.SETTINGS * t:model.SETTINGS * t + model.SETTINGS])]
+    return flipped(bits, [random.randrange(864 * w * h)] * (random.random() < 0.2))
 
 
 def is_faults(table, tile, place, lines):
@@ -378,7 +376,7 @@ def is_trail(block, place, ground, lines):
 
 def tile_numbers(bits):
     """A block's tiles as the tools hold them: position p at weight 2^p."""
-    return [int.from_bytes(bits[at:at + 108], 'little') for at in range(0, len(bits), 108)]
+    return [sum(row << 54 * r for r, row in enumerate(bits[at:at + model.WORDS])) for at in range(0, len(bits), model.WORDS)]
 
 
 def check_reads(rounds):
@@ -399,7 +397,7 @@ def check_reads(rounds):
 
 def frames_of(w, h, east, table, bits):
     """A block as an input, with a table's text."""
-    return table + '04%02X%02X%s\n' % (w, h, '01' * east) + ''.join('05%s\n' % bits[at:at + 108].hex().upper() for at in range(0, len(bits), 108))
+    return table + '04%02X%02X%s\n' % (w, h, '01' * east) + model.tile_frames(bits)
 
 
 def check_trails(rounds):
@@ -417,8 +415,8 @@ def check_trails(rounds):
         status, lines = in_words(model.report_of(given.encode()), given)
         counts[ground].same(status, NO, lines)
         if ground == 4:
-            at = 108 * (place // 864)
-            counts[ground].same(is_faults(lent, bits[at:at + 108], place, [line.strip() for line in lines[2:]]), True, (place, lines))
+            at = model.WORDS * (place // 864)
+            counts[ground].same(is_faults(lent, bits[at:at + model.WORDS], place, [line.strip() for line in lines[2:]]), True, (place, lines))
             continue
         block = model.Block(w, h, east, lent, model.read(w, h, lent, bits))
         right = is_loop(block, w, place, lines[2:]) if ground == 7 else is_trail(block, place, ground, lines[2:])

@@ -120,17 +120,40 @@ def library_block(library, text, corner, w, h):
             refused.ground, named(text), '; '.join([where] + words_of(text, corner, w, h)))) from None
 
 
+def library_for(text):
+    """The library, where it is there and takes such a file, else None."""
+    devices = devices_named(text)
+    return proved.library() if LIBRARY_DEVICE in devices or not devices else None
+
+
+def reader_words(library, device):
+    """What read a file."""
+    if library:
+        return 'the proved library'
+    return 'Python, as %s' % ('the library takes a 1k, and this is a %s' % device if proved.library() else 'no library is there (make lib)')
+
+
 def read_block(text, corner, w, h):
     """The device of a file's bytes, the bytes of each tile of a block, and what read them, in words."""
-    library, devices = proved.library(), devices_named(text)
-    if library and (LIBRARY_DEVICE in devices or not devices):
-        return LIBRARY_DEVICE, library_block(library, text, corner, w, h), 'the proved library'
+    library = library_for(text)
+    if library:
+        return LIBRARY_DEVICE, library_block(library, text, corner, w, h), reader_words(library, LIBRARY_DEVICE)
     device, tiles = read_design(text)
     try:
         block = python_block(tiles, corner, w, h)
     except Mistake as mistake:
         raise Mistake('%s (device: %s)' % (mistake, device)) from None
-    return device, block, 'Python, as %s' % ('the library takes a 1k, and this is a %s' % device if library else 'no library is there (make lib)')
+    return device, block, reader_words(None, device)
+
+
+def read_chip(text):
+    """The same for every logic tile of a file, by coordinates, row by row from the south. Which tiles there are is Python's word."""
+    library = library_for(text)
+    device, tiles = read_design(text)
+    logic = sorted((at for at, (kind, _) in tiles.items() if kind == 'logic'), key=lambda at: (at[1], at[0]))
+    if library:
+        return device, {at: library_block(library, text, at, 1, 1)[0] for at in logic}, reader_words(library, device)
+    return device, {at: python_block(tiles, at, 1, 1)[0] for at in logic}, reader_words(None, device)
 
 
 # ---- the tool

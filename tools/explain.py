@@ -12,7 +12,7 @@ import argparse
 import functools
 
 from frames import Cursor, Input, lines_of
-from ice40 import CELLS, FLAGS, POSITIONS, PROGRAM_LIMIT, Block, position_name
+from ice40 import CELLS, FLAGS, POSITIONS, PROGRAM_LIMIT, Block, position_name, table_and_flags
 from rules import broken_rules, undecodable
 from tool import Mistake, add_east, counted, file_name, number, run, start_of, text_of
 from trail import Trail, verdict
@@ -205,9 +205,8 @@ def no_words(ground, place, scene):
 # ---- a yes
 
 def cell_words(block, cell):
-    tile, i, table, flags = cell
-    named = [name for k, name in enumerate(FLAGS) if flags >> k & 1]
-    return '%s lutff_%d: table %04X, %s' % (block.tile_name(tile), i, table, ', '.join(named) or 'no flags')
+    tile, i, *numbers = cell
+    return '%s lutff_%d: %s' % (block.tile_name(tile), i, table_and_flags(*numbers))
 
 
 def yes_words(report, scene):

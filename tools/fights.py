@@ -15,8 +15,8 @@ from itertools import groupby
 import proved
 from asc_to_frames import LONGEST, check_device, east_of, read_block
 from frames import Input, read_table
-from ice40 import NAMES, POSITIONS, Block, check_size, position_name
-from rules import broken_rules, pattern_of, set_names, undecodable
+from ice40 import NAMES, Block, check_size
+from rules import check_table, check_tile, pattern_of, set_names
 from tool import Mistake, about, add_east, bytes_of, counted, file_name, note, number, run, text_of
 
 NONE, SOME = 0, 1  # exit status
@@ -30,11 +30,9 @@ class Scene:
 
     def check(self):
         """Refuses a table that breaks a rule and tiles that cannot be decoded: what is enabled is not known then."""
-        for part, words in broken_rules(self.table):
-            raise Mistake('ground 3, part %d of the routing table: %s' % (part, words))
+        check_table(self.table)
         for t, tile in enumerate(self.tiles):
-            for p, words in undecodable(self.table, tile):
-                raise Mistake('ground 4, tile %s cannot be decoded: %s: %s' % (self.block.tile_name(t), position_name(p), words))
+            check_tile(self.table, tile, self.block.tile_name(t))
 
     def switches(self):
         """Each enabled switch: driven wire, tile, group."""
@@ -50,11 +48,7 @@ class Scene:
 
     def proved_fights(self, library):
         """The same by the library."""
-        bits = b''.join(tile.to_bytes(POSITIONS // 8, 'little') for tile in self.tiles)
-        try:
-            return library.contentions(self.block.w, self.block.h, self.block.east, self.table, bits)
-        except proved.Refused as refused:
-            raise Mistake('the library refuses the block with ground %d, place %d, where Python finds nothing wrong' % (refused.ground, refused.place)) from None
+        return proved.asked(library.contentions, self.block.w, self.block.h, self.block.east, proved.table_numbers(self.table), self.tiles)
 
     def switch_words(self, t, g):
         group, tile = self.table.groups[g], self.tiles[t]

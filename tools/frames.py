@@ -131,6 +131,11 @@ class Input:
         return self.size != () and not all(1 <= n <= LIBRARY_LIMIT for n in self.size)
 
 
+def field_name(f):
+    """A field by IceStorm's names."""
+    return 'carry_in_mux <- carry_in' if f == CHAIN else FIELDS[f]
+
+
 def port_name(port):
     """A port of a table's group, which may be a number that no port has."""
     return NAMES[port] if port < len(NAMES) else 'port %d' % port

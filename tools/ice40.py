@@ -20,6 +20,11 @@ def check_size(w, h):
         raise Mistake('a block of %d by %d: W and H are 1 to %d' % (w, h, LIBRARY_LIMIT))
 
 
+def tile_name(corner, w, tile):
+    """The coordinates of a tile of a block of this width, as (x,y)."""
+    return '(%d,%d)' % (corner[0] + tile % w, corner[1] + tile // w)
+
+
 # ---- ports (document 01, 'Ports'; the names are IceStorm's)
 
 SPANS = [('sp4_h_l', 48), ('sp4_h_r', 48), ('sp4_v_t', 48), ('sp4_v_b', 48), ('sp4_r_v_b', 48),
@@ -149,7 +154,7 @@ class Block:
         """A tile's coordinates, as (x,y)."""
         if tile >= self.w * self.h:
             raise Mistake('a block of %d by %d has no tile %d' % (self.w, self.h, tile))
-        return '(%d,%d)' % (self.corner[0] + tile % self.w, self.corner[1] + tile // self.w)
+        return tile_name(self.corner, self.w, tile)
 
     def tile_at(self, text):
         """The index of a tile that the user gives as an index or as its coordinates x,y."""
@@ -184,6 +189,16 @@ FLAG_BITS = [8, 9, 18, 19]  # their LC bits
 def cell_position(i, k):
     """The position of LC_i[k]."""
     return COLUMNS * 2 * i + 36 + k if k < 10 else COLUMNS * (2 * i + 1) + 26 + k
+
+
+def cell_numbers(tile, i):
+    """The table and the flags of a cell; a tile is one number with position p at weight 2^p."""
+    return [sum((tile >> cell_position(i, k) & 1) << j for j, k in enumerate(bits)) for bits in (LUT_INIT, FLAG_BITS)]
+
+
+def table_and_flags(table, flags):
+    """A cell's table and flags in words."""
+    return 'table %04X, %s' % (table, ', '.join(name for k, name in enumerate(FLAGS) if flags >> k & 1) or 'no flags')
 
 
 def position_name(position):

@@ -1,5 +1,5 @@
 """The proved library, by ctypes, where it is built: it reads a block's bits from an .asc file, so that no unproved text stands between the
-file and them, and lists the switches that fight in a block.
+file and them, lists the switches that fight in a block, and lists what differs between two.
 
 The library is looked for where `make lib` writes it and beside tools that `make install` put somewhere, or where the environment's
 ICE40_LIBRARY says; if that is empty none is used.
@@ -11,6 +11,7 @@ from tool import Mistake
 
 VARIABLE = 'ICE40_LIBRARY'
 TILE_BYTES, TILE_PORTS, TILE_GROUPS, TILE_SETTINGS = 108, 506, 512, 595
+TILE_DIFFERENCES = 3 + 512 + 8 + 64  # fields, groups, cells and passive bits: as many rows as a tile can have
 TABLE_LENGTH, PASSIVE_COUNT, GROUP_COUNT, GROUPS_FROM, GROUP_LENGTH, ENTRIES_FROM = 38469, 3, 68, 69, 75, 10
 SIZE, ASC_LINE = 1, 13  # grounds for a no
 
@@ -19,38 +20,73 @@ class Refused(Exception):
     """The library's no: a ground and its place."""
 
     def __init__(self, ground, place):
-        super().__init__(ground, place)
+        super().__init__('ground %d, place %d' % (ground, place))
         self.ground, self.place = ground, place
 
 
 class Library:
     def __init__(self, path):
         library = ctypes.CDLL(path)
-        self.path, self.asc_read, self.listing = path, library.ice40_asc_read, library.ice40_contentions
-        self.asc_read.restype = self.listing.restype = ctypes.c_uint64
-        self.asc_read.argtypes = [ctypes.c_uint32] * 4 + [ctypes.c_char_p, ctypes.c_size_t] * 2
-        self.listing.argtypes = [ctypes.c_uint32] * 3 + [ctypes.c_void_p, ctypes.c_size_t] * 7
+        self.path, self.calls = path, {}
+        for name, numbers, slices in (('asc_read', 4, 2), ('contentions', 3, 7), ('compare', 4, 6)):
+            call = self.calls[name] = getattr(library, 'ice40_' + name)
+            call.restype, call.argtypes = ctypes.c_uint64, [ctypes.c_uint32] * numbers + [ctypes.c_void_p, ctypes.c_size_t] * slices
+
+    def call(self, name, numbers, lent):
+        """The value of a yes; `lent` are arrays, or bytes that are only read."""
+        slices = [word for array in lent for word in (ctypes.cast(array, ctypes.c_void_p), len(array))]
+        answer = self.calls[name](*numbers, *slices)
+        if answer >> 32:
+            raise Refused(answer >> 32, answer & 0xFFFFFFFF)
+        return answer
 
     def read_block(self, text, corner, w, h):
         """The bytes of each tile of a block, by index."""
         if not all(0 <= n < 1 << 32 for n in corner):
             raise Refused(SIZE, 0)  # as it answers for every corner above 255
-        bits = ctypes.create_string_buffer(TILE_BYTES * w * h)
-        answer = self.asc_read(w, h, *corner, text, len(text), ctypes.cast(bits, ctypes.c_char_p), len(bits))
-        if answer:
-            raise Refused(answer >> 32, answer & 0xFFFFFFFF)
-        return [bits.raw[at:at + TILE_BYTES] for at in range(0, len(bits), TILE_BYTES)]
+        bits = lent_bits([0] * (w * h))
+        self.call('asc_read', (w, h, *corner), [text, bits])
+        return [tile.to_bytes(TILE_BYTES, 'little') for tile in tiles_of(bits)]
 
-    def contentions(self, w, h, east, table, bits):
-        """A row (wire, tile, group) for each enabled switch on a wire on which two or more end, rising. `bits` are the bytes of all tiles."""
+    def contentions(self, w, h, east, table, tiles):
+        """A row (wire, tile, group) for each enabled switch on a wire on which two or more end, rising. The table is `table_numbers`', and a tile is
+        one number with position p at weight 2^p, here and below."""
         n = w * h
-        lengths = [3 * TILE_GROUPS * n, TILE_SETTINGS * n, TILE_PORTS * n, TILE_PORTS * n, TILE_GROUPS * n]
-        lent = [table_numbers(table), (ctypes.c_uint8 * len(bits)).from_buffer_copy(bits)] + [(ctypes.c_uint16 * length)() for length in lengths]
-        slices = [word for numbers in lent for word in (ctypes.cast(numbers, ctypes.c_void_p), len(numbers))]
-        answer = self.listing(w, h, east, *slices)
-        if answer >> 32:
-            raise Refused(answer >> 32, answer & 0xFFFFFFFF)
-        return [tuple(lent[2][at:at + 3]) for at in range(0, 3 * answer, 3)]
+        rows, *room = [(ctypes.c_uint16 * (length * n))() for length in (3 * TILE_GROUPS, TILE_SETTINGS, TILE_PORTS, TILE_PORTS, TILE_GROUPS)]
+        count = self.call('contentions', (w, h, east), [table, lent_bits(tiles), rows, *room])
+        return rows_of(rows, count, 3)
+
+    def compare(self, w, h, table, old, new):
+        """A row (tile, kind, index, old setting, new setting) for each difference between the tiles of two blocks, rising."""
+        rows, room = (ctypes.c_uint32 * (5 * TILE_DIFFERENCES * w * h))(), [(ctypes.c_uint16 * (TILE_SETTINGS * w * h))() for _ in range(2)]
+        count = self.call('compare', (w, h, w, h), [table, lent_bits(old), lent_bits(new), rows, *room])
+        return rows_of(rows, count, 5)
+
+
+def asked(call, *arguments):
+    """What the library answers to a question in which Python finds nothing wrong."""
+    try:
+        return call(*arguments)
+    except Refused as refused:
+        raise Mistake('the library refuses it with %s, where Python finds nothing wrong' % refused) from None
+
+
+# ---- what is lent
+
+def rows_of(numbers, count, length):
+    """So many rows of a list."""
+    return [tuple(numbers[at:at + length]) for at in range(0, length * count, length)]
+
+
+def lent_bits(tiles):
+    """The tiles of a block in the form that its bits are lent in."""
+    data = b''.join(tile.to_bytes(TILE_BYTES, 'little') for tile in tiles)
+    return (ctypes.c_uint8 * len(data)).from_buffer_copy(data)
+
+
+def tiles_of(bits):
+    """The tiles of lent bits."""
+    return [int.from_bytes(bits[at:at + TILE_BYTES], 'little') for at in range(0, len(bits), TILE_BYTES)]
 
 
 def table_numbers(table):
@@ -65,6 +101,8 @@ def table_numbers(table):
         numbers[at + ENTRIES_FROM:at + ENTRIES_FROM + 1 + len(entries)] = [len(group.entries), *entries]
     return numbers
 
+
+# ---- where it is
 
 def places():
     """Where the library may be: of a repository, then of an installation."""

@@ -3,6 +3,7 @@ routing table', and 02, W5).
 """
 from frames import CARRY_IN_SET, port_name
 from ice40 import CELL_BITS, CELLS, NAMES, PORT, POSITIONS, cell_position, position_name
+from tool import Mistake
 
 CELL_POSITIONS = {cell_position(i, k) for i in range(CELLS) for k in range(CELL_BITS)}
 
@@ -54,6 +55,12 @@ def broken_rules(table):
     return [(part, words) for part, faults in enumerate(parts) for words in faults]
 
 
+def check_table(table):
+    """Refuses a table that breaks a rule."""
+    for part, words in broken_rules(table):
+        raise Mistake('ground 3, part %d of the routing table: %s' % (part, words))
+
+
 # ---- ground 4: bits that cannot be decoded
 
 def set_names(tile, positions):
@@ -84,3 +91,9 @@ def faults(table, tile):
 def undecodable(table, tile):
     """The positions at fault in a tile, rising, with their words."""
     return sorted(faults(table, tile))
+
+
+def check_tile(table, tile, name):
+    """Refuses a tile that cannot be decoded."""
+    for p, words in undecodable(table, tile):
+        raise Mistake('ground 4, tile %s cannot be decoded: %s: %s' % (name, position_name(p), words))

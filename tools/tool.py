@@ -1,7 +1,8 @@
 """How every tool runs: its output, its exit status, its files, and how it says numbers.
 
 A tool's `main` gives the lines for standard output and the exit status. Whatever goes wrong is a Mistake: one line on standard error, exit
-status 2 and nothing on standard output. explain.py and fights.py alone have the status 1, for a no and for fights.
+status 2 and nothing on standard output. explain.py, fights.py and compare.py alone have the status 1, for a no, for
+fights and for differences.
 """
 import io
 import os

@@ -6,8 +6,8 @@ way it finds what the answer should be (`verdict`), so that the report of anothe
 import re
 from collections import Counter
 
-from frames import CHAIN, FIELDS
-from ice40 import CELLS, FLAG_BITS, LUT_INIT, NAMES, PORT, POSITIONS, cell_position
+from frames import CHAIN, FIELDS, field_name
+from ice40 import CELLS, FLAG_BITS, NAMES, PORT, POSITIONS, cell_numbers, cell_position
 from rules import broken_rules, pattern_of, set_names, undecodable
 
 CARRY, FLIP_FLOP, _, ASYNCHRONOUS = FLAG_BITS
@@ -74,7 +74,7 @@ class Trail:
         return self.tiles[t] >> cell_position(i, k) & 1
 
     def lut(self, t, i):
-        return sum(self.flag(t, i, k) << j for j, k in enumerate(LUT_INIT))
+        return cell_numbers(self.tiles[t], i)[0]
 
     def switch_words(self, driven, source, bits):
         return 'the switch %s <- %s, bit%s %s' % (self.block.port_name(driven), NAMES[source % len(NAMES)], 's' * (' ' in bits), bits)
@@ -87,14 +87,12 @@ class Trail:
 
     def cells(self):
         """Tile, cell, table and flags of each cell that is not all zero: frames 07."""
-        every = [(t, i, self.lut(t, i), sum(self.flag(t, i, bit) << k for k, bit in enumerate(FLAG_BITS)))
-                 for t in range(len(self.tiles)) for i in range(CELLS)]
+        every = [(t, i, *cell_numbers(self.tiles[t], i)) for t in range(len(self.tiles)) for i in range(CELLS)]
         return [cell for cell in every if cell[2] or cell[3]]
 
     def field_words(self):
         """The fields that are set, which a report does not show."""
-        return ['%s %s' % (self.block.tile_name(t), 'carry_in_mux <- carry_in' if f == CHAIN else name)
-                for t in range(len(self.tiles)) for f, name in enumerate(FIELDS) if self.field(t, f)]
+        return ['%s %s' % (self.block.tile_name(t), field_name(f)) for t in range(len(self.tiles)) for f in range(len(FIELDS)) if self.field(t, f)]
 
     # ---- document 01's equations, by what they read
 

@@ -1,5 +1,5 @@
 //! Both readers on the same input: their answers and what they write must be the same.
-use crate::baseline::{self, Answer, Step, BYTES, CELLS, PORTS, ROW, SETTINGS};
+use crate::baseline::{self, Answer, Step, CELLS, PORTS, ROW, SETTINGS, WORDS};
 use crate::inputs::{Block, Random};
 use crate::proved::{self, Room};
 
@@ -7,7 +7,7 @@ use crate::proved::{self, Room};
 pub struct Case {
     pub block: Block,
     pub settings: Vec<u16>,
-    pub written: Vec<u8>,
+    pub written: Vec<u64>,
     pub list: Vec<u16>,
     pub state: Vec<u8>,
     pub before: Vec<u8>,
@@ -25,7 +25,7 @@ impl Case {
         let mut random = Random(3);
         let mut case = Case {
             settings: vec![0; SETTINGS * n],
-            written: vec![0; BYTES * n],
+            written: vec![0; WORDS * n],
             list: vec![0; ROW * PORTS * n],
             state: random.bits(CELLS * n),
             before: random.bits(PORTS * n),
@@ -58,7 +58,7 @@ fn shown(answer: &Answer) -> (u32, u32) {
 }
 
 /// What both answered, if answers and outputs are the same.
-fn agree<T: PartialEq>(name: &str, call: &str, a: (Answer, T), b: (Answer, T)) -> Result<(u32, u32), String> {
+pub fn agree<T: PartialEq>(name: &str, call: &str, a: (Answer, T), b: (Answer, T)) -> Result<(u32, u32), String> {
     let (proved, base) = (shown(&a.0), shown(&b.0));
     if proved != base {
         return Err(format!("{name} {call}: the proved library answers {proved:?}, the baseline {base:?}"));
@@ -149,8 +149,12 @@ pub fn damaged(blocks: &[Block], rounds: usize) -> Result<[usize; 21], String> {
 
 fn damage_bits(case: &mut Case, random: &mut Random) -> Result<(u32, u32), String> {
     for _ in 0..1 + random.below(3) {
-        let p = random.below(8 * case.block.bits.len());
-        case.block.bits[p / 8] ^= 1 << (p % 8);
+        let p = random.below(864 * case.block.tiles());
+        case.block.flip(p);
+    }
+    if random.below(4) == 0 {
+        let row = random.below(case.block.bits.len());
+        case.block.stray(row, random.below(10));
     }
     read(case)?;
     build(case)

@@ -1,5 +1,5 @@
 //! ASCII files: both readers and writers on the same texts, then the time of each.
-use crate::baseline::{self, Answer, Area, BYTES};
+use crate::baseline::{self, Answer, Area, COLUMNS, WORDS};
 use crate::inputs::Random;
 use crate::proved;
 use crate::timing::{self, Times};
@@ -54,7 +54,7 @@ fn compare_read(area: Area, text: &[u8], length: usize) -> Result<u32, String> {
     same("asc_read", one, other)
 }
 
-fn compare_write(area: Area, bits: &[u8], length: usize) -> Result<u32, String> {
+fn compare_write(area: Area, bits: &[u64], length: usize) -> Result<u32, String> {
     let [one, other] = [proved::asc_write, baseline::asc_write].map(|write| {
         let mut text = vec![0x33; length];
         (write(area, bits, &mut text), text)
@@ -62,9 +62,14 @@ fn compare_write(area: Area, bits: &[u8], length: usize) -> Result<u32, String> 
     same("asc_write", one, other)
 }
 
+/// So many rows at random.
+fn rows_at_random(count: usize, random: &mut Random) -> Vec<u64> {
+    (0..count).map(|_| (random.below(1 << 32) as u64) << 22 ^ random.below(1 << 32) as u64).collect()
+}
+
 /// A file of a block with a fault in it, most times.
 fn damaged(area: Area, random: &mut Random) -> Vec<u8> {
-    let bits: Vec<u8> = (0..BYTES * tiles(area)).map(|_| random.below(256) as u8).collect();
+    let bits = rows_at_random(WORDS * tiles(area), random);
     let mut text = vec![0; baseline::asc_length(area).unwrap_or(0) as usize];
     let _ = baseline::asc_write(area, &bits, &mut text);
     let mut lines: Vec<Vec<u8>> = text.split(|&b| b == b'\n').map(<[u8]>::to_vec).collect();
@@ -95,7 +100,7 @@ pub fn compare(data: &Path) -> Result<(), String> {
         let text = load(data, name);
         for (x, y) in (0..14).flat_map(|x| (0..18).map(move |y| (x, y))) {
             for (w, h) in [(1, 1), (3, 3), (6, 8)] {
-                compare_read(area(w, h, x, y), &text, BYTES * (w * h) as usize)?;
+                compare_read(area(w, h, x, y), &text, WORDS * (w * h) as usize)?;
                 real += 1;
             }
         }
@@ -105,15 +110,19 @@ pub fn compare(data: &Path) -> Result<(), String> {
         let (w, h) = random.pick(&[(1, 1), (2, 1), (1, 2), (2, 2), (3, 2), (1, 1), (2, 1), (9, 1)]);
         let area = area(w, h, random.pick(&[0, 1, 5, 9, 98, 99, 253, 254, u32::MAX]), random.pick(&[0, 1, 7, 9, 98, 254]));
         let text = damaged(area, &mut random);
-        let length = BYTES * tiles(area) + (random.below(20) == 0) as usize;
+        let length = WORDS * tiles(area) + (random.below(20) == 0) as usize;
         met[compare_read(area, &text, length)? as usize] += 1;
-        let bits: Vec<u8> = (0..length).map(|_| random.below(256) as u8).collect();
+        let mut bits = rows_at_random(length, &mut random);
+        if random.below(4) == 0 {
+            let row = random.below(length);
+            bits[row] |= 1 << (COLUMNS + random.below(10));
+        }
         let length = baseline::asc_length(area).unwrap_or(0) as usize + (random.below(20) == 0) as usize;
-        compare_write(area, &bits, length)?;
+        met[compare_write(area, &bits, length)? as usize] += 1;
         same("asc_length", (proved::asc_length(area), ()), (baseline::asc_length(area), ()))?;
     }
     let shown: Vec<String> = (0..21).filter(|&g| met[g] > 0).map(|g| format!("{g}: {}", met[g])).collect();
-    println!("ASCII files: same answers and outputs on {real} blocks of real files and 4000 damaged files (by ground: {}).\n", shown.join(", "));
+    println!("ASCII files: same answers and outputs on {real} blocks of real files, 4000 damaged files and 4000 blocks written (by ground: {}).\n", shown.join(", "));
     Ok(())
 }
 
@@ -125,13 +134,13 @@ struct Row {
     call: &'static str,
     area: Area,
     text: Vec<u8>,
-    bits: Vec<u8>,
+    bits: Vec<u64>,
     times: Times,
 }
 
 impl Row {
     fn new(what: &str, call: &'static str, area: Area, text: Vec<u8>) -> Row {
-        let mut bits = vec![0; BYTES * tiles(area)];
+        let mut bits = vec![0; WORDS * tiles(area)];
         assert!(proved::asc_read(area, &text, &mut bits).is_ok(), "{what}: a block of the file");
         let length = baseline::asc_length(area).unwrap_or(0) as usize;
         let text = if call == "asc_write" { vec![0; length] } else { text };

@@ -1,5 +1,5 @@
 //! The blocks that are measured: real ones from files of frames, parts of them, and an empty one.
-use crate::baseline::{BYTES, TABLE};
+use crate::baseline::{self, COLUMNS, SETTINGS, TABLE, WORDS};
 use std::fs;
 use std::path::Path;
 
@@ -11,7 +11,7 @@ pub struct Block {
     pub h: u32,
     pub east: u32,
     pub table: Vec<u16>,
-    pub bits: Vec<u8>,
+    pub bits: Vec<u64>,
 }
 
 impl Block {
@@ -23,10 +23,38 @@ impl Block {
     pub fn part(&self, x: u32, y: u32, s: u32) -> Block {
         let mut bits = Vec::new();
         for row in y..y + s {
-            let from = BYTES * (row * self.w + x) as usize;
-            bits.extend(&self.bits[from..from + BYTES * s as usize]);
+            let from = WORDS * (row * self.w + x) as usize;
+            bits.extend(&self.bits[from..from + WORDS * s as usize]);
         }
         Block { name: format!("big8_{s}x{s}"), w: s, h: s, east: self.east, table: self.table.clone(), bits }
+    }
+
+    pub fn size(&self) -> (u32, u32) {
+        (self.w, self.h)
+    }
+
+    /// The settings of a block that can be decoded.
+    pub fn settings(&self) -> Vec<u16> {
+        let mut settings = vec![0; SETTINGS * self.tiles()];
+        assert!(baseline::read(self.w, self.h, &self.table, &self.bits, &mut settings).is_ok(), "{}", self.name);
+        settings
+    }
+
+    /// The same block with other settings; as it is where no bits have them.
+    pub fn with(&self, settings: &[u16]) -> Block {
+        let mut block = self.clone();
+        let _ = baseline::write(self.w, self.h, &self.table, settings, &mut block.bits);
+        block
+    }
+
+    /// Flips a bit: position p of the block, 864 a tile.
+    pub fn flip(&mut self, p: usize) {
+        self.bits[p / COLUMNS] ^= 1 << (p % COLUMNS);
+    }
+
+    /// Sets a bit past the columns of a row, which is wrong.
+    pub fn stray(&mut self, row: usize, column: usize) {
+        self.bits[row] |= 1 << (COLUMNS + column);
     }
 
     /// The same block beside a column of logic or RAM.
@@ -66,8 +94,17 @@ fn frame(block: &mut Block, bytes: &[u8]) {
         }
         3 => group(&mut block.table, data),
         4 => (block.w, block.h, block.east) = (data[0] as u32, data[1] as u32, data.get(2).copied().unwrap_or(0) as u32),
-        _ => block.bits.extend(data),
+        _ => block.bits.extend(rows(data)),
     }
+}
+
+/// The rows of a tile, from its bytes.
+fn rows(tile: &[u8]) -> [u64; WORDS] {
+    let mut rows = [0; WORDS];
+    for p in (0..WORDS * COLUMNS).filter(|p| tile[p / 8] >> (p % 8) & 1 == 1) {
+        rows[p / COLUMNS] |= 1 << (p % COLUMNS);
+    }
+    rows
 }
 
 fn group(table: &mut [u16], data: &[u8]) {

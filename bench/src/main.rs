@@ -2,11 +2,14 @@
 //!
 //!     bench DATA                          compares, measures and prints the tables; DATA is the folder of the blocks
 //!     bench DATA files                    the same for ASCII files alone
-//!     bench DATA proved BLOCK CALL N      only calls N times (or `baseline`), for a profiler; BLOCK `asc` with the calls asc_read, asc_write
+//!     bench DATA listings                 the same for comparing two blocks and listing contentions
+//!     bench DATA proved BLOCK CALL N      only calls N times (or `baseline`), for a profiler; BLOCK `asc` with the calls asc_read, asc_write;
+//!                                         the calls compare and contentions with a row's name as BLOCK
 mod baseline;
 mod compare;
 mod files;
 mod inputs;
+mod listings;
 mod proved;
 mod timing;
 mod worst;
@@ -19,7 +22,7 @@ use std::process::ExitCode;
 use std::time::Duration;
 use timing::Times;
 
-const USAGE: &str = "usage: bench DATA [files | proved|baseline BLOCK CALL N]";
+const USAGE: &str = "usage: bench DATA [files | listings | proved|baseline BLOCK CALL N]";
 const CALLS: [&str; 4] = ["read", "write", "step", "build"];
 
 /// How often everything is measured, and how long each time.
@@ -178,9 +181,14 @@ fn one_of(what: &str, word: &str, words: &[&str]) -> Result<(), String> {
     Err(format!("{word} is no {what}: {}", words.join(", ")))
 }
 
-fn profile(blocks: Vec<(Block, bool)>, side: &str, name: &str, call: &str, times: &str) -> Result<(), String> {
-    let times: u32 = times.parse().map_err(|_| format!("{times} is no number of times"))?;
+/// How often a reader is called, where it is one.
+fn calls(side: &str, times: &str) -> Result<u32, String> {
     one_of("reader", side, &["proved", "baseline"])?;
+    times.parse().map_err(|_| format!("{times} is no number of times"))
+}
+
+fn profile(blocks: Vec<(Block, bool)>, side: &str, name: &str, call: &str, times: &str) -> Result<(), String> {
+    let times = calls(side, times)?;
     one_of("block", name, &blocks.iter().map(|(block, _)| block.name.as_str()).collect::<Vec<_>>())?;
     one_of("call", call, &CALLS)?;
     let (block, _) = blocks.into_iter().find(|(block, _)| block.name == name).unwrap();
@@ -197,9 +205,12 @@ fn profile(blocks: Vec<(Block, bool)>, side: &str, name: &str, call: &str, times
     Ok(())
 }
 
+fn profile_listing(data: &Path, side: &str, what: &str, call: &str, times: &str) -> Result<(), String> {
+    listings::profile(data, side, what, call, calls(side, times)?)
+}
+
 fn profile_files(data: &Path, side: &str, call: &str, times: &str) -> Result<(), String> {
-    let times: u32 = times.parse().map_err(|_| format!("{times} is no number of times"))?;
-    one_of("reader", side, &["proved", "baseline"])?;
+    let times = calls(side, times)?;
     one_of("call", call, &["asc_read", "asc_write"])?;
     files::profile(data, side, call, times);
     Ok(())
@@ -218,6 +229,12 @@ fn run(words: &[String]) -> Result<(), String> {
             files::measure(data);
             return Ok(());
         }
+        [word] if word == "listings" => {
+            listings::same(data)?;
+            listings::measure(data);
+            return Ok(());
+        }
+        [side, name, call, times] if call == "compare" || call == "contentions" => return profile_listing(data, side, name, call, times),
         [side, name, call, times] if name == "asc" => return profile_files(data, side, call, times),
         [side, name, call, times] => return profile(blocks(data), side, name, call, times),
         _ => return Err(USAGE.to_string()),
@@ -225,9 +242,11 @@ fn run(words: &[String]) -> Result<(), String> {
     let blocks = blocks(data);
     compare_all(&blocks, data)?;
     files::compare(data)?;
+    listings::same(data)?;
     ratios(&blocks);
     growth(&inputs::load(data, "big8_8x8"));
     files::measure(data);
+    listings::measure(data);
     Ok(())
 }
 

@@ -1,5 +1,5 @@
 //! Made-up 8 by 8 blocks that ask most of the reader, with routing tables of their own.
-use crate::baseline::{self, BYTES, PORTS, SETTINGS, TABLE};
+use crate::baseline::{self, PORTS, SETTINGS, TABLE, WORDS};
 use crate::inputs::{Block, Random};
 use std::collections::BTreeMap;
 
@@ -102,7 +102,7 @@ impl Table {
     }
 
     fn block(self, name: &str, settings: &[u16]) -> Block {
-        let mut bits = vec![0; BYTES * TILES];
+        let mut bits = vec![0; WORDS * TILES];
         let side = SIDE as u32;
         assert!(baseline::write(side, side, &self.numbers, settings, &mut bits).is_ok(), "{name}");
         Block { name: name.to_string(), w: side, h: side, east: 0, table: self.numbers, bits }
@@ -211,4 +211,29 @@ pub fn entries_block() -> Block {
     }
     let settings = busy_settings(&table.numbers, &mut random);
     table.block("entries_8x8", &settings)
+}
+
+/// 512 groups of one position and one entry to these ports in turn, every switch of every tile on.
+fn crowded_block(name: &str, destinations: &[usize]) -> Block {
+    let mut table = Table::new();
+    for g in 0..512 {
+        table.group(destinations[g % destinations.len()], 1, &[LAST_LOUT]);
+    }
+    let mut tile = [0; SETTINGS];
+    tile[67..579].fill(1);
+    table.block(name, &tile.repeat(TILES))
+}
+
+/// Every switch of a tile ends on one wire.
+pub fn tile_wire_block() -> Block {
+    crowded_block("tile_wire_8x8", &[LAST_TRACK])
+}
+
+/// Every switch ends on a span-12 wire, in each tile under the eight names that the longest wire of a row has in its tiles: 64 switches of
+/// each tile of the row end on that one.
+pub fn row_wire_block() -> Block {
+    let (wires, (near, _)) = (wires(), row_link());
+    let names: Vec<usize> = (0..SIDE).filter_map(|x| (240..288).find(|q| wires[PORTS * x + q] == near)).collect();
+    assert_eq!(names.len(), SIDE, "a name in each tile of the row");
+    crowded_block("row_wire_8x8", &names)
 }

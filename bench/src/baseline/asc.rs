@@ -1,8 +1,6 @@
 //! IceStorm's ASCII files: reading, writing, and ground 13.
 use super::*;
 
-const ROWS: usize = 16;
-const COLUMNS: usize = 54;
 const DEVICE: &[u8] = b".device 1k";
 
 /// A block's size and its south-west corner on the chip.
@@ -69,7 +67,7 @@ fn row(line: &[u8]) -> Option<u64> {
 /// What is due, and what has come.
 struct Reader<'a> {
     area: Area,
-    bits: &'a mut [u8],
+    bits: &'a mut [u64],
     given: [bool; 64],
     device: bool,
     skipping: bool,
@@ -84,7 +82,7 @@ impl Reader<'_> {
         if line.is_empty() {
             return Some(());
         }
-        if self.rows < ROWS {
+        if self.rows < WORDS {
             let word = row(line)?;
             self.put(word);
             return Some(());
@@ -104,11 +102,7 @@ impl Reader<'_> {
     }
 
     fn put(&mut self, word: u64) {
-        let p = COLUMNS * self.rows;
-        let from = BYTES * self.tile + p / 8;
-        for (byte, part) in self.bits[from..].iter_mut().zip((word << (p % 8)).to_le_bytes()).take(8) {
-            *byte |= part;
-        }
+        self.bits[WORDS * self.tile + self.rows] = word;
         self.rows += 1;
     }
 
@@ -138,11 +132,11 @@ impl Reader<'_> {
     }
 }
 
-pub fn asc_read(area: Area, text: &[u8], bits: &mut [u8]) -> Answer {
+pub fn asc_read(area: Area, text: &[u8], bits: &mut [u64]) -> Answer {
     let n = area.tiles()?;
-    lengths(&[(bits.len(), BYTES * n)])?;
-    let mut read = vec![0; BYTES * n];
-    let mut reader = Reader { area, bits: &mut read, given: [false; 64], device: false, skipping: false, tile: 0, rows: ROWS };
+    lengths(&[(bits.len(), WORDS * n)])?;
+    let mut read = vec![0; WORDS * n];
+    let mut reader = Reader { area, bits: &mut read, given: [false; 64], device: false, skipping: false, tile: 0, rows: WORDS };
     let (mut rest, mut lines) = (text, 0);
     while !rest.is_empty() {
         lines += 1;
@@ -150,7 +144,7 @@ pub fn asc_read(area: Area, text: &[u8], bits: &mut [u8]) -> Answer {
         reader.line(&rest[..end]).ok_or_else(|| no(13, lines))?;
         rest = &rest[end + 1..];
     }
-    if !reader.device || reader.rows < ROWS || reader.given[..n].contains(&false) {
+    if !reader.device || reader.rows < WORDS || reader.given[..n].contains(&false) {
         return Err(no(13, lines + 1));
     }
     bits.copy_from_slice(&read);
@@ -163,7 +157,7 @@ fn digits(number: u32) -> usize {
 
 pub fn asc_length(area: Area) -> Answer {
     area.tiles()?;
-    let length: usize = area.coordinates().map(|(x, y)| 14 + digits(x) + digits(y) + ROWS * (COLUMNS + 1)).sum();
+    let length: usize = area.coordinates().map(|(x, y)| 14 + digits(x) + digits(y) + WORDS * (COLUMNS + 1)).sum();
     Ok((DEVICE.len() + 1 + length) as u32)
 }
 
@@ -179,28 +173,30 @@ fn put_decimal(rest: &mut &mut [u8], number: u32) {
     put(rest, &all[3 - digits(number)..]);
 }
 
-fn put_row(rest: &mut &mut [u8], tile: &[u8], r: usize) {
+fn put_row(rest: &mut &mut [u8], row: u64) {
     let mut line = [b'\n'; COLUMNS + 1];
     for (c, digit) in line[..COLUMNS].iter_mut().enumerate() {
-        let p = COLUMNS * r + c;
-        *digit = b'0' + (tile[p / 8] >> (p % 8) & 1);
+        *digit = b'0' + (row >> c & 1) as u8;
     }
     put(rest, &line);
 }
 
-pub fn asc_write(area: Area, bits: &[u8], text: &mut [u8]) -> Answer {
+pub fn asc_write(area: Area, bits: &[u64], text: &mut [u8]) -> Answer {
     let n = area.tiles()?;
-    lengths(&[(bits.len(), BYTES * n), (text.len(), asc_length(area)? as usize)])?;
+    lengths(&[(bits.len(), WORDS * n), (text.len(), asc_length(area)? as usize)])?;
+    if let Some(place) = stray(bits) {
+        return Err(no(4, place));
+    }
     let mut rest = text;
     put(&mut rest, DEVICE);
     put(&mut rest, b"\n");
-    for ((x, y), tile) in area.coordinates().zip(bits.chunks_exact(BYTES)) {
+    for ((x, y), tile) in area.coordinates().zip(bits.chunks_exact(WORDS)) {
         put(&mut rest, b".logic_tile ");
         put_decimal(&mut rest, x);
         put(&mut rest, b" ");
         put_decimal(&mut rest, y);
         put(&mut rest, b"\n");
-        (0..ROWS).for_each(|r| put_row(&mut rest, tile, r));
+        tile.iter().for_each(|&row| put_row(&mut rest, row));
     }
     Ok(0)
 }

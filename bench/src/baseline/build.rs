@@ -221,9 +221,9 @@ fn copy(wire: usize, source: u16) -> Row {
     [5, wire as u16, source - 1, 0, 0, 0, 0]
 }
 
-pub fn build(w: u32, h: u32, east: u32, table: &[u16], bits: &[u8], list: &mut [u16]) -> Answer {
+pub fn build(w: u32, h: u32, east: u32, table: &[u16], bits: &[u64], list: &mut [u16]) -> Answer {
     let n = joined_tiles(w, h, east)?;
-    lengths(&[(table.len(), TABLE), (bits.len(), BYTES * n), (list.len(), ROW * PORTS * n)])?;
+    lengths(&[(table.len(), TABLE), (bits.len(), WORDS * n), (list.len(), ROW * PORTS * n)])?;
     let claims = table::check(table)?;
     let settings = decode(table, &claims, bits)?;
     let block = Block { w: w as usize, h: h as usize, settings, wires: wires(w, h, east) };

@@ -5,6 +5,8 @@
 mod asc;
 mod build;
 mod codec;
+mod compare;
+mod contentions;
 mod order;
 mod step;
 mod table;
@@ -13,6 +15,8 @@ mod wires;
 pub use asc::{asc_length, asc_read, asc_write, Area};
 pub use build::build;
 pub use codec::{read, write};
+pub use compare::compare;
+pub use contentions::contentions;
 pub use step::{step, Step};
 
 /// A ground's number and place.
@@ -25,10 +29,16 @@ pub type Answer = Result<u32, No>;
 
 pub const PORTS: usize = 506;
 pub const CELLS: usize = 8;
-pub const BYTES: usize = 108;
+/// Words of a tile, a row each, and the columns of a row.
+pub const WORDS: usize = 16;
+pub const COLUMNS: usize = 54;
 pub const SETTINGS: usize = 595;
 pub const TABLE: usize = 38469;
 pub const ROW: usize = 7;
+
+/// The length of a row of `compare`'s list, and of `contentions`'.
+pub const CHANGE: usize = 5;
+pub const CONTENTION: usize = 3;
 
 /// Where passive bits, groups and cells stand in a tile's settings.
 const PASSIVES_FROM: usize = 3;
@@ -80,6 +90,11 @@ fn joined_tiles(w: u32, h: u32, east: u32) -> Result<usize, No> {
     } else {
         Err(no(1, 0))
     }
+}
+
+/// Where a set bit past the columns of a row is at fault, if one is: the lowest such row, at its last column.
+fn stray(bits: &[u64]) -> Option<usize> {
+    bits.iter().position(|row| row >> COLUMNS != 0).map(|r| COLUMNS * r + COLUMNS - 1)
 }
 
 /// Ground 2, from pairs of a length and what it must be.

@@ -10,7 +10,6 @@ ghost use Rattle.codec.specs.Bits.{setBits, bitAt};
 ghost use Rattle.codec.specs.Cells.{cellBitIn, valueIn, cellsIn, cellSettings, writeCells, putCells, sameCell};
 use crate::bits::PAST_TEN;
 use crate::bits::read_ten;
-use crate::bits::write_clear_bit;
 use crate::settings::GROUPS_FROM;
 use cell::logic::Cell;
 use ports::lengths::COLUMNS;
@@ -92,7 +91,7 @@ pub fn cells_of(settings: &[u16]) -> [Cell; 8]
     cells
 }
 
-// A cell's 20 bits written where all of them are clear, so that an empty cell takes no time.
+// A cell's 20 bits written where all of them are clear, so that an empty cell takes no time. Its two rows are held as numbers until all bits are in.
 pub fn write_value(bits: &mut [u64], i: usize, value: u32)
     requires { ⌜ (length (now bits) ≡ tileNumbers) × (i < 8) × ((j : ℕ) → j < bitsPerCell → cellBitIn (bitAt (now bits)) i j ≡ 0) ⌝ }
     ensures { λ r. ⌜ now (bits .exit) ≡ setBits (now (bits .entry)) (cellPosition i) value bitsPerCell ⌝ }
@@ -100,12 +99,21 @@ pub fn write_value(bits: &mut [u64], i: usize, value: u32)
     if value == 0 {
         return;
     }
+    let mut first = bits[2 * i];
+    let mut second = bits[2 * i + 1];
     let mut j = 0;
     while j < BITS_PER_CELL {
-        let p = routing::cells::cell_position(i, j);
-        write_clear_bit(bits, p, ((value >> j) & 1) as u8);
+        let k = routing::cells::lc_bit(j);
+        let bit = ((value >> j) & 1) as u64;
+        if k < 10 {
+            first += bit << (36 + k);
+        } else {
+            second += bit << (26 + k);
+        }
         j += 1;
     }
+    bits[2 * i] = first;
+    bits[2 * i + 1] = second;
 }
 
 // Eight cells written to a tile's bits, which are clear.

@@ -99,14 +99,7 @@ fn put_input(s: &[u8], b: Block, out: &mut [u8]) -> usize
     let mut table = table_room();
     let mut bytes = bytes_room();
     let mut words = words_room();
-    put_frames(
-        s,
-        b,
-        &mut table,
-        &mut bytes[..end],
-        &mut words[..last],
-        out,
-    )
+    put_frames(s, b, &mut table, &mut bytes[..end], &mut words[..last], out)
 }
 
 // The report of an input: how many bytes it has, at the front of `out`.

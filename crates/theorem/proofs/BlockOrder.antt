@@ -23,6 +23,7 @@ use Rattle.block.specs.DriverMeaning.{FollowNo, FollowSays}
 use Rattle.block.specs.DriverMeaning as following
 use Rattle.block.proofs.MeaningLaws.{build-says}
 use Rattle.block.proofs.DriverMeaningLaws.{follow-says}
+use Rattle.config.specs.Blocks.{tilesOf}
 use Rattle.contention.specs.Entry.{settingsRead}
 use Rattle.theorem.specs.Calls.{built, followed}
 use Rattle.theorem.specs.Order.{at}

@@ -101,11 +101,14 @@ module _ (s : List ℕ) where
     long : BuildLong B (lent B t words)
     long = lent-long B t words (lengths-exact x .0) (words-length (tiles B) (bytesTaken x))
 
-    -- what a report says behind the frames, for tiles in either form
+    -- what comes with a yes, and what a report says behind the frames, for tiles in either form
+    abbrev GivenOf : (ℕ → TileBits) → List ℕ → ℕ → Type 0
+    GivenOf tile report place = (place ≡ 0) × (report ≡ acceptedLines B t (decoded t tile (tiles B)))
+
     record Said (tile : ℕ → TileBits) (report : List ℕ) : Type 0 where
       number : ℕ
       place : ℕ
-      grounds : BitsGrounds B t tile (decoded t tile (tiles B)) (λ (p : ℕ). (p ≡ 0) × (report ≡ acceptedLines B t (decoded t tile (tiles B)))) number place
+      grounds : BitsGrounds B t tile (decoded t tile (tiles B)) (GivenOf tile report) number place
       before : List ℕ
       last-line : report ≡ before ++ answerLine number place
       only-line : number ≢ 0 → before ≡ []
@@ -120,7 +123,7 @@ module _ (s : List ℕ) where
     built-said (builts.Listed rows) z = record {
       number = 0;
       place = 0;
-      grounds = bits-yes B t words (settingsFor B) (roomFor B) _ (z .0) (z .2) 0 (refl, refl);
+      grounds = bits-yes B t words (settingsFor B) (roomFor B) (GivenOf (tilesOf words) (acceptedLines B t st)) (z .0) (z .2) 0 (refl, refl);
       before = linesBefore B t st;
       last-line = accepted-last B t st;
       only-line = λ n. absurd (n refl);
@@ -128,7 +131,7 @@ module _ (s : List ℕ) where
     built-said (builts.Refused refusal) z = record {
       number = numberOf refusal;
       place = placeOf refusal;
-      grounds = bits-no B t words (settingsFor B) (roomFor B) _ (taken-sized x) long refusal z;
+      grounds = bits-no B t words (settingsFor B) (roomFor B) (GivenOf (tilesOf words) (answerLine (numberOf refusal) (placeOf refusal))) (taken-sized x) long refusal z;
       before = [];
       last-line = refl;
       only-line = λ n. refl;

@@ -15,22 +15,66 @@ is-allowed-requires : tie.Need-is-allowed-requires
 is-allowed-requires c κs = search needs
 
 returns : tie.Need-returns
-returns c = let args = c .before .before .before .before .args in let s = args .s in let bytes = args .bytes .now in let words = args .words .now in let answer = words-size s (length bytes) (length words) (sym (c .before .is-allowed .ensures) ∙ not-true _ (c .if1 .taken)) in (answer, (refl, words-say s bytes words _ answer _ refl))
+returns c =
+    let at-is-allowed = c .before in
+    let at-start = at-is-allowed .before .before .before in
+    let s = at-start .args .s in
+    let bytes = at-start .args .bytes .now in
+    let words = at-start .args .words .now in
+    let answer = words-size s (length bytes) (length words) (sym (at-is-allowed .is-allowed .ensures) ∙ not-true _ (c .if1 .taken)) in
+    (answer, (refl, words-say s bytes words _ answer _ refl))
 
 bytes-length-requires : tie.Need-bytes-length-requires
-bytes-length-requires c κs = let args = c .before .before .before .before .args in let s = args .s in let bytes = args .bytes .now in let words = args .words .now in allowed-exact s .0 (sym (c .before .is-allowed .ensures) ∙ not-false _ (c .if1 .left))
+bytes-length-requires c κs =
+    let at-is-allowed = c .before in
+    let at-start = at-is-allowed .before .before .before in
+    let s = at-start .args .s in
+    let bytes = at-start .args .bytes .now in
+    let words = at-start .args .words .now in allowed-exact s .0 (sym (at-is-allowed .is-allowed .ensures) ∙ not-false _ (c .if1 .left))
 
 returns-2 : tie.Need-returns-2
-returns-2 c = let args = c .before .before .before .before .before .before .args in let s = args .s in let bytes = args .bytes .now in let words = args .words .now in let answer = words-no-bytes s (length bytes) (length words) (allowed-exact s .0 (sym (c .before .before .before .is-allowed .ensures) ∙ not-false _ (c .before .before .if1 .left))) (λ e. c .if2 .taken (e ∙ sym (c .before .bytes-length .ensures))) in (answer, (refl, words-say s bytes words _ answer _ refl))
+returns-2 c =
+    let at-bytes-length = c .before in
+    let at-if1 = at-bytes-length .before in
+    let at-is-allowed = at-if1 .before in
+    let at-start = at-is-allowed .before .before .before in
+    let s = at-start .args .s in
+    let bytes = at-start .args .bytes .now in
+    let words = at-start .args .words .now in
+    let answer = words-no-bytes s (length bytes) (length words) (allowed-exact s .0 (sym (at-is-allowed .is-allowed .ensures) ∙ not-false _ (at-if1 .if1 .left))) (λ e. c .if2 .taken (e ∙ sym (at-bytes-length .bytes-length .ensures))) in
+    (answer, (refl, words-say s bytes words _ answer _ refl))
 
 bits-length-requires : tie.Need-bits-length-requires
-bits-length-requires c κs = let args = c .before .before .before .before .before .before .args in let s = args .s in let bytes = args .bytes .now in let words = args .words .now in allowed-exact s .0 (sym (c .before .before .before .is-allowed .ensures) ∙ not-false _ (c .before .before .if1 .left))
+bits-length-requires c κs =
+    let at-if1 = c .before .before in
+    let at-is-allowed = at-if1 .before in
+    let at-start = at-is-allowed .before .before .before in
+    let s = at-start .args .s in
+    let bytes = at-start .args .bytes .now in
+    let words = at-start .args .words .now in allowed-exact s .0 (sym (at-is-allowed .is-allowed .ensures) ∙ not-false _ (at-if1 .if1 .left))
 
 returns-3 : tie.Need-returns-3
-returns-3 c = let args = c .before .before .before .before .before .before .before .before .args in let s = args .s in let bytes = args .bytes .now in let words = args .words .now in let answer = words-no-words s (length bytes) (length words) (allowed-exact s .0 (sym (c .before .before .before .before .before .is-allowed .ensures) ∙ not-false _ (c .before .before .before .before .if1 .left))) (c .before .before .if2 .left ∙ c .before .before .before .bytes-length .ensures) (λ e. c .if3 .taken (e ∙ sym (c .before .bits-length .ensures))) in (answer, (refl, words-say s bytes words _ answer _ refl))
+returns-3 c =
+    let at-bits-length = c .before in
+    let at-if2 = at-bits-length .before in
+    let at-bytes-length = at-if2 .before in
+    let at-if1 = at-bytes-length .before in
+    let at-is-allowed = at-if1 .before in
+    let at-start = at-is-allowed .before .before .before in
+    let s = at-start .args .s in
+    let bytes = at-start .args .bytes .now in
+    let words = at-start .args .words .now in
+    let answer = words-no-words s (length bytes) (length words) (allowed-exact s .0 (sym (at-is-allowed .is-allowed .ensures) ∙ not-false _ (at-if1 .if1 .left))) (at-if2 .if2 .left ∙ at-bytes-length .bytes-length .ensures) (λ e. c .if3 .taken (e ∙ sym (at-bits-length .bits-length .ensures))) in
+    (answer, (refl, words-say s bytes words _ answer _ refl))
 
 tile-count-requires : tie.Need-tile-count-requires
-tile-count-requires c κs = let args = c .before .before .before .before .before .before .before .before .args in let s = args .s in let bytes = args .bytes .now in let words = args .words .now in allowed-exact s .0 (sym (c .before .before .before .before .before .is-allowed .ensures) ∙ not-false _ (c .before .before .before .before .if1 .left))
+tile-count-requires c κs =
+    let at-if1 = c .before .before .before .before in
+    let at-is-allowed = at-if1 .before in
+    let at-start = at-is-allowed .before .before .before in
+    let s = at-start .args .s in
+    let bytes = at-start .args .bytes .now in
+    let words = at-start .args .words .now in allowed-exact s .0 (sym (at-is-allowed .is-allowed .ensures) ∙ not-false _ (at-if1 .if1 .left))
 
 to-words-requires : tie.Need-to-words-requires
 to-words-requires c κs = search needs
@@ -39,7 +83,22 @@ same-length : tie.Need-same-length
 same-length c = search needs
 
 returns-4 : tie.Need-returns-4
-returns-4 c = let args = c .before .before .before .before .before .before .before .before .before .before .before .before .before .args in let s = args .s in let bytes = args .bytes .now in let words = args .words .now in let answer = words-done s (length bytes) (length words) (allowed-exact s .0 (sym (c .before .before .before .before .before .before .before .before .before .before .is-allowed .ensures) ∙ not-false _ (c .before .before .before .before .before .before .before .before .before .if1 .left))) (c .before .before .before .before .before .before .before .if2 .left ∙ c .before .before .before .before .before .before .before .before .bytes-length .ensures) (c .before .before .before .before .before .if3 .left ∙ c .before .before .before .before .before .before .bits-length .ensures) in let filled = c .before .before .to-words .ensures ∙ ap (λ (n : ℕ). wordsOf n bytes) (c .before .before .before .before .tile-count .ensures .0) in (answer, (filled, words-say s bytes words _ answer _ filled))
+returns-4 c =
+    let at-to-words = c .before .before in
+    let at-tile-count = at-to-words .before .before in
+    let at-if3 = at-tile-count .before in
+    let at-bits-length = at-if3 .before in
+    let at-if2 = at-bits-length .before in
+    let at-bytes-length = at-if2 .before in
+    let at-if1 = at-bytes-length .before in
+    let at-is-allowed = at-if1 .before in
+    let at-start = at-is-allowed .before .before .before in
+    let s = at-start .args .s in
+    let bytes = at-start .args .bytes .now in
+    let words = at-start .args .words .now in
+    let answer = words-done s (length bytes) (length words) (allowed-exact s .0 (sym (at-is-allowed .is-allowed .ensures) ∙ not-false _ (at-if1 .if1 .left))) (at-if2 .if2 .left ∙ at-bytes-length .bytes-length .ensures) (at-if3 .if3 .left ∙ at-bits-length .bits-length .ensures) in
+    let filled = at-to-words .to-words .ensures ∙ ap (λ (n : ℕ). wordsOf n bytes) (at-tile-count .tile-count .ensures .0) in
+    (answer, (filled, words-say s bytes words _ answer _ filled))
 
 pub words-of-bytes-spec : {M : Type 1} → statement M
 words-of-bytes-spec =

@@ -24,7 +24,7 @@ returns c =
     let at-write = c .before .before .before in
     let at-start = at-write .before .before .before .before in (
       c .pack-answer .ensures .0 ∙ ap packedAnswer (at-write .write .ensures .0),
-      at-write .write .ensures .1 ∙ ap (λ (n : ℕ). output n (at-start .args .text .now) (written (areaAt (size (at-start .args .w) (at-start .args .h)) (at-start .args .x) (at-start .args .y)) (at-start .args .bits .now))) (sym (c .pack-answer .ensures .1)),
+      at-write .write .ensures .1 .0 ∙ ap (λ (n : ℕ). output n (at-start .args .text .now) (written (areaAt (size (at-start .args .w) (at-start .args .h)) (at-start .args .x) (at-start .args .y)) (at-start .args .bits .now))) (sym (c .pack-answer .ensures .1)),
     )
 
 pub ice40-asc-write-spec : {M : Type 1} → statement M

@@ -1,6 +1,5 @@
--- One switch more in the chains, from the last one down. Main laws: `chained-start`, `chained-hit`, `chained-skip`, `chained-idle`; as the code has them:
--- `chained-cleared`, `chained-tile`, `group-skipped`, `group-chained`. Assumes nothing.
-use Prim.Native.Nat.{ℕ, zero, suc, _+_, _-_, _*_, _<_, _≤_}
+-- One switch more in the chains, from the last one down. Main laws: `chained-start`, `chained-hit`, `chained-skip`. Assumes nothing.
+use Prim.Native.Nat.{ℕ, suc, _<_, _≤_}
 use mathlib.Core.Path.{_≡_, refl, sym, ap, subst, _∙_}
 use mathlib.Core.Bool.{true, false, cond}
 use mathlib.Core.Logic.{⊎-elim, _≢_}
@@ -16,17 +15,9 @@ use Rattle.lists.proofs.CaseLaws.{and-true, and-false-left, and-false-right, eq
 use Rattle.lists.proofs.SearchLaws.{first-hit, first-skip, first-end}
 use Rattle.lists.proofs.TableLaws.{zeros-length, zeros-at}
 use Rattle.ports.specs.declared.size.Block.{Block}
-use Rattle.ports.specs.Block.{tiles, portOf}
-use Rattle.ports.specs.Lengths.{ports, maxGroups}
-use Rattle.ports.proofs.BlockLaws.{tiles-le}
-use Rattle.fabric.specs.Wire.{wireOf}
-use Rattle.routing.specs.LogicTile.{logicTile}
-use Rattle.routing.specs.Table.{groupCount, destinationOf}
-use Rattle.equations.specs.Tiles.{groupOf}
+use Rattle.ports.specs.Lengths.{ports}
 use Rattle.equations.specs.Switches.{switches, enabled, target}
 use Rattle.equations.specs.WireRows.{endsOn}
-use Rattle.equations.specs.Routed.{Routed}
-use Rattle.drivers.proofs.SwitchTurns.{switch-past, switch-off, switch-on, switch-target, switch-target-port, switch-target-lt}
 use Rattle.contention.specs.Chains.{nextOn, linkFrom, Chained}
 
 -- what is at or past m, and not m, is past it
@@ -49,15 +40,15 @@ module _ (B : Block) (t st : List ℕ) where
       let e : nextOn B t st w (switches B) ≡ switches B = first-end (endsOn B t st w) (switches B) (switches B) (omega arith) in
       rw (e, le-ltb (switches B) (switches B) (omega arith))
 
-  off : (w m : ℕ) → enabled B t st m ≡ false → endsOn B t st w m ≡ false
+  pub off : (w m : ℕ) → enabled B t st m ≡ false → endsOn B t st w m ≡ false
   unfolding endsOn
   off w m e = and-false-left (enabled B t st m) (eqb (target B t m) w) e
 
-  elsewhere : (w m : ℕ) → target B t m ≢ w → endsOn B t st w m ≡ false
+  pub elsewhere : (w m : ℕ) → target B t m ≢ w → endsOn B t st w m ≡ false
   unfolding endsOn
   elsewhere w m n = and-false-right (enabled B t st m) (eqb (target B t m) w) (ne-eqb (target B t m) w n)
 
-  onto : (m : ℕ) → enabled B t st m ≡ true → endsOn B t st (target B t m) m ≡ true
+  pub onto : (m : ℕ) → enabled B t st m ≡ true → endsOn B t st (target B t m) m ≡ true
   unfolding endsOn
   onto m e = and-true e (eq-eqb (target B t m) (target B t m) refl)
 
@@ -109,79 +100,3 @@ module _ (B : Block) (t st : List ℕ) where
               (λ q. getD-set-other nexts m s (getD heads (target B t m) 0) 0 (λ z. q (sym z)) ∙ C .next s (past-it m s l q) h g)
               (eq-or-ne m s);
         }
-
-  -- switches of which none is enabled
-  pub chained-idle : (k m : ℕ) (heads nexts : List ℕ) → Chained B t st (m + k) heads nexts
-      → ((s : ℕ) → m ≤ s → s < m + k → enabled B t st s ≡ false) → Chained B t st m heads nexts
-  chained-idle zero m heads nexts C none = subst (λ (x : ℕ). Chained B t st x heads nexts) (let e : m + 0 ≡ m = omega arith in e) C
-  chained-idle (suc k) m heads nexts C none =
-      chained-idle k m heads nexts
-      (chained-skip (m + k) heads nexts (subst (λ (x : ℕ). Chained B t st x heads nexts) (let e : m + suc k ≡ suc (m + k) = omega arith in e) C)
-      (none (m + k) (omega arith) (omega arith)))
-      (λ s l h. none s l (omega arith))
-
-  -- ---- the same as the code has it
-
-  -- a cleared map of heads
-  pub chained-cleared : (k : ℕ) (heads nexts : List ℕ) → heads ≡ zeros k → k ≡ ports B → length nexts ≡ switches B
-      → Chained B t st (switches B) heads nexts
-  chained-cleared k heads nexts e q l = subst (λ (x : List ℕ). Chained B t st (switches B) x nexts) (sym (e ∙ ap zeros q)) (chained-start nexts l)
-
-  module _ (m k : ℕ) (heads nexts : List ℕ) (C : Chained B t st k heads nexts) (next : k ≡ suc m) where
-    pub chained-off : enabled B t st m ≡ false → Chained B t st m heads nexts
-    chained-off e = chained-skip m heads nexts (subst (λ (x : ℕ). Chained B t st x heads nexts) next C) e
-
-    pub chained-store : enabled B t st m ≡ true → (w v : ℕ) → w ≡ target B t m → w < ports B → v ≡ suc m
-        → Chained B t st m (set heads w v) (set nexts m (getD heads w 0))
-    chained-store e w v p l q =
-        rw (q, p)
-        (chained-hit m heads nexts (subst (λ (x : ℕ). Chained B t st x heads nexts) next C) e (let z : target B t m < ports B = omega arith in z))
-
-  -- the groups of a tile that the table does not have are not enabled
-  pub chained-tile : (T g : ℕ) (heads nexts : List ℕ) → groupCount logicTile t ≤ maxGroups → g ≡ groupCount logicTile t
-      → Chained B t st (maxGroups * (T + 1)) heads nexts → Chained B t st (maxGroups * T + g) heads nexts
-  chained-tile T g heads nexts few e C =
-      chained-idle (maxGroups - g) (maxGroups * T + g) heads nexts
-      (subst (λ (x : ℕ). Chained B t st x heads nexts) (let q : maxGroups * (T + 1) ≡ maxGroups * T + g + (maxGroups - g) = omega arith in q) C)
-      (λ s l h.
-      subst (λ (x : ℕ). enabled B t st x ≡ false) (let q : maxGroups * T + (s - maxGroups * T) ≡ s = omega arith in q)
-      (switch-past T (s - maxGroups * T) (omega arith) B t st (omega arith)))
-
--- ---- the switch of group g of tile T, as the code meets it
-
-module _ (B : Block) (t st : List ℕ) (ok : Routed B t st) (T g : ℕ) (lT : T < tiles B) (lc : g < groupCount logicTile t) where
-  pub group-lt : g < maxGroups
-  group-lt = let f = ok .few-groups in omega arith
-
-  pub switch-few : maxGroups * T + g < 32768
-  switch-few = let f = tiles-le B (ok .size) in let l = group-lt in omega arith
-
-  number-next : maxGroups * T + (g + 1) ≡ suc (maxGroups * T + g)
-  number-next = omega arith
-
-  -- a group that is off
-  pub group-skipped : (heads nexts : List ℕ) → Chained B t st (maxGroups * T + (g + 1)) heads nexts → groupOf st T g ≡ 0
-      → Chained B t st (maxGroups * T + g) heads nexts
-  group-skipped heads nexts C off =
-      chained-off B t st (maxGroups * T + g) (maxGroups * T + (g + 1)) heads nexts C number-next (switch-off T g group-lt B t st lc off)
-
-  -- one that is not: port q is its destination, w the wire of q
-  module _ (on : groupOf st T g ≢ 0) where
-    is-on : enabled B t st (maxGroups * T + g) ≡ true
-    is-on = switch-on T g group-lt B t st lc on
-
-    pub ends-port : (q : ℕ) → q ≡ destinationOf logicTile t g → portOf T q < ports B
-    ends-port q e = subst (λ (x : ℕ). portOf T x < ports B) (sym e) (switch-target-port T g group-lt B t st ok lT is-on)
-
-    module _ (w q : ℕ) (e : w ≡ wireOf B (portOf T q)) (d : q ≡ destinationOf logicTile t g) where
-      ends-is : w ≡ target B t (maxGroups * T + g)
-      ends-is = e ∙ ap (λ (x : ℕ). wireOf B (portOf T x)) d ∙ switch-target T g group-lt B t
-
-      pub ends-lt : w < ports B
-      ends-lt = subst (λ (x : ℕ). x < ports B) (sym ends-is) (switch-target-lt T g group-lt B t st ok lT is-on)
-
-      pub group-chained : (heads nexts : List ℕ) → Chained B t st (maxGroups * T + (g + 1)) heads nexts → (v : ℕ) → v ≡ maxGroups * T + g + 1
-          → Chained B t st (maxGroups * T + g) (set heads w v) (set nexts (maxGroups * T + g) (getD heads w 0))
-      group-chained heads nexts C v f =
-          chained-store B t st (maxGroups * T + g) (maxGroups * T + (g + 1)) heads nexts C number-next is-on w v ends-is ends-lt
-          (f ∙ add-one (maxGroups * T + g))

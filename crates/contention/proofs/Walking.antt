@@ -1,5 +1,5 @@
--- A wire's chain, walked: the switches that end on it, one by one. Main laws: `walk-start`, `-inside`, `-turn`, `-done`; `counted-..`, `filed-..`: with
--- their number, with their rows. Assumes nothing.
+-- A wire's chain, walked: the switches that end on it, one by one. Main laws: `walk-start`, `-inside`, `-turn`, `-done`; `links-..`: its first
+-- two links; `filed-..`: with the switches' rows. Assumes nothing.
 use Prim.Native.Nat.{ℕ, zero, suc, _+_, _-_, _*_, _<_, _≤_}
 use mathlib.Core.Path.{_≡_, refl, sym, ap, ap₂, subst, _∙_}
 use mathlib.Core.Bool.{Bool, true, false, cond}
@@ -15,13 +15,14 @@ use Rattle.lists.specs.Search.{first, countBelow}
 use Rattle.lists.proofs.CaseLaws.{and-left, and-right, lt-or-le}
 use Rattle.lists.proofs.SearchLaws.{first-true, first-before}
 use Rattle.lists.proofs.CountLaws.{count-le}
-use Rattle.lists.proofs.RowLaws.{count-hit, count-gap, count-none-yet}
+use Rattle.lists.proofs.RowLaws.{count-mono, count-hit, count-skip, count-gap, count-none-yet}
 use Rattle.lists.proofs.Storing.{StoredRows, stored-start, stored-hit, stored-room, stored-gap}
 use Rattle.ports.specs.declared.size.Block.{Block}
+use Rattle.ports.specs.Lengths.{ports}
 use Rattle.equations.specs.Switches.{tileOf, groupIn, switches, enabled, target}
 use Rattle.equations.specs.WireRows.{endsOn}
 use Rattle.contention.specs.Contentions.{rowLength, switchRow}
-use Rattle.contention.specs.Chains.{nextOn, linkFrom, Chained}
+use Rattle.contention.specs.Chains.{nextOn, linkFrom, Chained, upToTwo, onFrom}
 use Rattle.contention.proofs.ContentionLaws.{switch-row-length}
 
 -- a search ends no earlier than it began
@@ -33,6 +34,15 @@ first-later p i (suc m) = go (p i) (first-later p (suc i) m)
     go : (b : Bool) → suc i ≤ first p (suc i) m → i ≤ cond b i (first p (suc i) m)
     go true h = omega arith
     go false h = omega arith
+
+-- at most two of a few, and of many
+pub up-few : (n : ℕ) → n < 2 → n ≡ upToTwo n
+unfolding upToTwo
+up-few n l = rw (lt-ltb n 2 l)
+
+pub up-many : (n : ℕ) → 2 ≤ n → 2 ≡ upToTwo n
+unfolding upToTwo
+up-many n l = rw (le-ltb n 2 l)
 
 -- a row as the code stores it
 pub three-row : (l : List ℕ) (at a b c : ℕ) → set (set (set l at a) (at + 1) b) (at + 2) c ≡ sets l at (a ∷ b ∷ c ∷ [])
@@ -91,7 +101,7 @@ module _ (B : Block) (t st : List ℕ) where
         (⊎-elim (λ (z : reached < switches B). absurd (let q : suc reached ≡ 0 = sym (found z) ∙ e in omega arith))
         (λ (z : switches B ≤ reached). let y : k < reached = omega arith in y) (lt-or-le reached (switches B)))
 
-    module _ (heads nexts : List ℕ) (C : Chained B t st 0 heads nexts) (n : link ≢ 0) where
+    module _ (m : ℕ) (heads nexts : List ℕ) (C : Chained B t st m heads nexts) (from : m ≤ past) (n : link ≢ 0) where
       abbrev met : Met w past link
       met = walk-met n
 
@@ -107,43 +117,79 @@ module _ (B : Block) (t st : List ℕ) where
           let onto = eqb-true (target B t (met .switch)) w (and-right (enabled B t st (met .switch)) (eqb (target B t (met .switch)) w) (met .ends)) in
           record {
             upto = met .within;
-            leads = e ∙ ap (λ (x : ℕ). getD nexts x 0) i ∙ C .next (met .switch) (omega arith) (met .within) on
+            leads = e ∙ ap (λ (x : ℕ). getD nexts x 0) i ∙ C .next (met .switch) (let l = met .later in omega arith) (met .within) on
                 ∙ ap (λ (x : ℕ). linkFrom B t st x (suc (met .switch))) onto;
           }
 
-  -- ---- with the number of switches met
+  -- ---- its first two links
 
-  pub record Counted (w n link : ℕ) : Type 0 where
-    pub past : ℕ
-    pub walk : Walk w past link
-    pub met : n ≡ countBelow (endsOn B t st w) past
+  -- how many switches are past those of which none, or the first, ends on the wire
+  on-gap : (w m s : ℕ) → m ≤ s → ((k : ℕ) → m ≤ k → k < s → endsOn B t st w k ≡ false) → onFrom B t st w m ≡ onFrom B t st w s
+  unfolding onFrom
+  on-gap w m s l none = ap (λ (x : ℕ). countBelow (endsOn B t st w) (switches B) - x) (count-gap (endsOn B t st w) m s l none)
 
-  pub counted-start : (w link : ℕ) → link ≡ linkFrom B t st w 0 → Counted w 0 link
-  counted-start w link e = record { past = 0; walk = walk-start w link e; met = count-none-yet (endsOn B t st w) }
+  pub on-skip : (w m : ℕ) → endsOn B t st w m ≡ false → onFrom B t st w m ≡ onFrom B t st w (suc m)
+  unfolding onFrom
+  on-skip w m e =
+      ap (λ (x : ℕ). countBelow (endsOn B t st w) (switches B) - x)
+      (count-skip (endsOn B t st w) m _ refl e ∙ ap (countBelow (endsOn B t st w)) (add-one m))
 
-  module _ (w n link : ℕ) (K : Counted w n link) where
-    pub counted-end : link ≡ 0 → n ≡ countBelow (endsOn B t st w) (switches B)
-    counted-end e =
-        K .met ∙ count-gap (endsOn B t st w) (K .past) (switches B) (K .walk .upto) (walk-done w (K .past) link (K .walk) e)
+  pub on-hit : (w m : ℕ) → m < switches B → endsOn B t st w m ≡ true → onFrom B t st w m ≡ onFrom B t st w (suc m) + 1
+  unfolding onFrom
+  on-hit w m l e =
+      let a = count-hit (endsOn B t st w) m _ refl e ∙ ap (countBelow (endsOn B t st w)) (add-one m) in
+      let b = count-mono (endsOn B t st w) (suc m) (switches B) l in
+      omega arith
 
-    module _ (heads nexts : List ℕ) (C : Chained B t st 0 heads nexts) (ne : link ≢ 0) where
-      abbrev meets : Met w (K .past) link
-      meets = walk-met w (K .past) link (K .walk) ne
+  pub on-end : (w : ℕ) → onFrom B t st w (switches B) ≡ 0
+  unfolding onFrom
+  on-end w = omega arith
 
-      more : n + 1 ≡ countBelow (endsOn B t st w) (suc (meets .switch))
-      more =
-          count-hit (endsOn B t st w) (meets .switch) n
-          (K .met ∙ count-gap (endsOn B t st w) (K .past) (meets .switch) (meets .later) (meets .none)) (meets .ends)
-          ∙ ap (countBelow (endsOn B t st w)) (add-one (meets .switch))
+  pub on-le : (w m : ℕ) → onFrom B t st w m ≤ switches B
+  unfolding onFrom
+  on-le w m = let a = count-le (endsOn B t st w) (switches B) in omega arith
 
-      pub counted-inside : link - 1 < length nexts
-      counted-inside = walk-inside w (K .past) link (K .walk) heads nexts C ne
+  pub on-all : (w : ℕ) → onFrom B t st w 0 ≡ countBelow (endsOn B t st w) (switches B)
+  unfolding onFrom
+  on-all w = let a = count-none-yet (endsOn B t st w) in omega arith
 
-      pub counted-few : n < switches B
-      counted-few = let a = more in let l = meets .within in omega (arith, count-le (endsOn B t st w) (suc (meets .switch)))
+  module _ (w m first : ℕ) (heads nexts : List ℕ) (C : Chained B t st m heads nexts) (l : w < ports B) (e : first ≡ getD heads w 0) where
+    begun : Walk w m first
+    begun = record { upto = C .upto; leads = e ∙ C .head w l }
 
-      pub counted-turn : (next : ℕ) → next ≡ getD nexts (link - 1) 0 → Counted w (n + 1) next
-      counted-turn next e = record { past = suc (meets .switch); walk = walk-turn w (K .past) link (K .walk) heads nexts C ne next e; met = more }
+    -- no link, no switch
+    pub links-none : first ≡ 0 → 0 ≡ upToTwo (onFrom B t st w m)
+    links-none z =
+        let a = on-gap w m (switches B) (C .upto) (walk-done w m first begun z) ∙ on-end w in
+        up-few 0 (omega arith) ∙ ap upToTwo (sym a)
+
+    module _ (ne : first ≢ 0) where
+      abbrev one : Met w m first
+      one = walk-met w m first begun ne
+
+      past-one : onFrom B t st w m ≡ onFrom B t st w (suc (one .switch)) + 1
+      past-one = on-gap w m (one .switch) (one .later) (one .none) ∙ on-hit w (one .switch) (one .within) (one .ends)
+
+      pub links-inside : first - 1 < length nexts
+      links-inside = walk-inside w m first begun m heads nexts C (omega arith) ne
+
+      module _ (next : ℕ) (f : next ≡ getD nexts (first - 1) 0) where
+        turned : Walk w (suc (one .switch)) next
+        turned = walk-turn w m first begun m heads nexts C (omega arith) ne next f
+
+        -- a first link that none follows
+        pub links-one : next ≡ 0 → 1 ≡ upToTwo (onFrom B t st w m)
+        links-one z =
+            let a = on-gap w (suc (one .switch)) (switches B) (turned .upto) (walk-done w (suc (one .switch)) next turned z) ∙ on-end w in
+            let b : 1 ≡ onFrom B t st w m = omega (arith, past-one) in
+            up-few 1 (omega arith) ∙ ap upToTwo b
+
+        pub links-two : next ≢ 0 → 2 ≡ upToTwo (onFrom B t st w m)
+        links-two n =
+            let two = walk-met w (suc (one .switch)) next turned n in
+            let a = on-gap w (suc (one .switch)) (two .switch) (two .later) (two .none) ∙ on-hit w (two .switch) (two .within) (two .ends) in
+            let b : 2 ≤ onFrom B t st w m = omega (arith, past-one) in
+            up-many (onFrom B t st w m) b
 
   -- ---- with their rows
 
@@ -168,7 +214,7 @@ module _ (B : Block) (t st : List ℕ) where
       upto-it = stored-gap (endsOn B t st w) (K .past) (filed .switch) (filed .later) (filed .none) (K .file)
 
       pub filed-inside : link - 1 < length nexts
-      filed-inside = walk-inside w (K .past) link (K .walk) heads nexts C ne
+      filed-inside = walk-inside w (K .past) link (K .walk) 0 heads nexts C (omega arith) ne
 
       pub filed-within : link - 1 < switches B
       filed-within = let e = filed .is in let l = filed .within in omega arith
@@ -183,7 +229,7 @@ module _ (B : Block) (t st : List ℕ) where
           let i : link - 1 ≡ filed .switch = (let z = filed .is in omega arith) in
           record {
             past = suc (filed .switch);
-            walk = walk-turn w (K .past) link (K .walk) heads nexts C ne next e;
+            walk = walk-turn w (K .past) link (K .walk) 0 heads nexts C (omega arith) ne next e;
             file = subst (λ (y : ℕ). StoredRows (endsOn B t st w) (switchRow w) rowLength from old y then new) (add-one (filed .switch))
                 (stored-hit upto-it (switch-row-length w) new then (g ∙ ap₂ (λ (a b : ℕ). sets list at (a ∷ tileOf b ∷ groupIn b ∷ [])) q i) h (filed .ends));
           }

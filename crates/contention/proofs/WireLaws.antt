@@ -3,6 +3,7 @@
 use Prim.Native.Nat.{ℕ, _+_, _*_, _<_, _≤_}
 use mathlib.Core.Path.{_≡_, refl, sym, ap, ap₂, subst, _∙_}
 use mathlib.Core.Bool.{Bool, false, _&&_}
+use mathlib.Core.Logic.{⊎-elim}
 use mathlib.Core.List.{List}
 use native.Mathlib.Omega.{arith}
 use native.Mathlib.Nat.{mul-zero, mul-le-mul}
@@ -12,7 +13,7 @@ use lib.ListN.{length}
 use lib.Seq.{sets}
 use Rattle.lists.specs.Search.{countBelow}
 use Rattle.lists.specs.Tables.{zeros}
-use Rattle.lists.proofs.CaseLaws.{and-false-left}
+use Rattle.lists.proofs.CaseLaws.{and-false-left, lt-or-le}
 use Rattle.lists.proofs.CountLaws.{count-ext, count-none, count-le}
 use Rattle.lists.specs.Listing.{rowsWhere, zeroFilled}
 use Rattle.lists.proofs.RowLaws.{rows-ext, rows-length, rows-none, count-more, count-none-yet, next-part}
@@ -24,30 +25,44 @@ use Rattle.ports.specs.Lengths.{ports}
 use Rattle.equations.specs.Switches.{switches}
 use Rattle.equations.specs.WireRows.{endsOn}
 use Rattle.contention.specs.Contentions.{rowLength, switchRow, contended, contends, contentionAt, contentionRow, contentionCount, contentions}
+use Rattle.contention.specs.Chains.{upToTwo, onFrom}
 use Rattle.contention.proofs.ContentionLaws.{parted-quotient, parted-rest, switch-row-length}
+use Rattle.contention.proofs.Walking.{up-few, up-many, on-all}
 use Rattle.contention.proofs.LengthLaws.{switches-few, ports-few}
 
 module _ (B : Block) (t st : List ℕ) (w : ℕ) where
-  -- ---- one wire, from the number of its switches
+  -- ---- one wire, from its first two switches
 
-  module _ (n : ℕ) (e : n ≡ countBelow (endsOn B t st w) (switches B)) where
+  module _ (n : ℕ) (e : n ≡ upToTwo (onFrom B t st w 0)) where
+    abbrev on : ℕ
+    on = countBelow (endsOn B t st w) (switches B)
+
+    is : n ≡ upToTwo on
+    is = e ∙ ap upToTwo (on-all B t st w)
+
+    few : n < 2 → on < 2
+    few l = ⊎-elim (λ z. z) (λ (z : 2 ≤ on). absurd (let q : 2 ≡ n = up-many on z ∙ sym is in omega arith)) (lt-or-le on 2)
+
+    many : 2 ≤ n → 2 ≤ on
+    many l = ⊎-elim (λ (z : on < 2). let q : on ≡ n = up-few on z ∙ sym is in omega arith) (λ z. z) (lt-or-le on 2)
+
     none : n < 2 → (s : ℕ) → s < switches B → contends B t st w s ≡ false
     unfolding contends contended
     none l s h =
         and-false-left (ltb 1 (countBelow (endsOn B t st w) (switches B))) (endsOn B t st w s)
-        (le-ltb 1 (countBelow (endsOn B t st w) (switches B)) (let z : countBelow (endsOn B t st w) (switches B) ≤ 1 = omega arith in z))
+        (le-ltb 1 (countBelow (endsOn B t st w) (switches B)) (let z : countBelow (endsOn B t st w) (switches B) ≤ 1 = (let f = few l in omega arith) in z))
 
     every : 2 ≤ n → (s : ℕ) → s < switches B → endsOn B t st w s ≡ contends B t st w s
     unfolding contends contended
     every l s h =
         sym (ap (λ (b : Bool). b && endsOn B t st w s)
-        (lt-ltb 1 (countBelow (endsOn B t st w) (switches B)) (let z : 1 < countBelow (endsOn B t st w) (switches B) = omega arith in z)))
+        (lt-ltb 1 (countBelow (endsOn B t st w) (switches B)) (many l)))
 
     pub wire-few-count : n < 2 → 0 ≡ countBelow (contends B t st w) (switches B)
     wire-few-count l = sym (count-none (contends B t st w) (switches B) (none l))
 
-    pub wire-many-count : 2 ≤ n → n ≡ countBelow (contends B t st w) (switches B)
-    wire-many-count l = e ∙ count-ext (endsOn B t st w) (contends B t st w) (switches B) (every l)
+    pub wire-many-count : 2 ≤ n → countBelow (endsOn B t st w) (switches B) ≡ countBelow (contends B t st w) (switches B)
+    wire-many-count l = count-ext (endsOn B t st w) (contends B t st w) (switches B) (every l)
 
     module _ (list : List ℕ) (from : ℕ) where
       pub wire-few-rows : n < 2 → list ≡ sets list from (rowsWhere (contends B t st w) (switchRow w) (switches B))
@@ -74,15 +89,12 @@ module _ (B : Block) (t st : List ℕ) (w : ℕ) where
       count-more (contentionAt B t st) (switches B * w) (switches B) (contends B t st w) same c d inv e
       ∙ ap (countBelow (contentionAt B t st)) (next-part (switches B) w)
 
-  -- the counts are small
-  pub count-bound : Sized B → w ≤ ports B → countBelow (contentionAt B t st) (switches B * w) ≤ 1061158912
+  -- the count is small
+  count-bound : Sized B → w ≤ ports B → countBelow (contentionAt B t st) (switches B * w) ≤ 1061158912
   count-bound S h =
       let p = ports-few B S in
       let a = mul-le-mul (switches-few B S) (let z : w ≤ 32384 = omega arith in z) in
       omega (arith, count-le (contentionAt B t st) (switches B * w))
-
-  pub wire-bound : Sized B → countBelow (contends B t st w) (switches B) ≤ 32768
-  wire-bound S = omega (arith, count-le (contends B t st w) (switches B), switches-few B S)
 
 module _ (B : Block) (t st : List ℕ) where
   row-length : (x : ℕ) → length (contentionRow B t st x) ≡ rowLength

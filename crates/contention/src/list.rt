@@ -13,7 +13,6 @@ ghost use Rattle.contention.specs.Entry.{contentionsNumber, rowsAnswer, 
 use crate::ContentionList;
 use crate::chains::chain_block;
 use crate::rows::ROW_LENGTH;
-use crate::rows::count_rows;
 use crate::rows::list_rows;
 use ports::size::Block;
 use ports::size::size_of;
@@ -36,8 +35,7 @@ fn list_settings(
         (zeroFilled (length (now (list .entry))) (contentions b (now (table .entry)) (now (st .entry)))) ⌝ }
 {
     wiring::fill_wires(b, wires);
-    chain_block(b, table, st, wires, heads, nexts);
-    let rows = count_rows(b, table, st, heads, nexts);
+    let rows = chain_block(b, table, st, wires, heads, nexts);
     if list.len() < ROW_LENGTH * rows {
         return ContentionList::Refused(Refusal::ListTooShort(rows as u32));
     }

@@ -1,4 +1,4 @@
-// The rows of the contentions, wire by wire, from the chains: how many there are, and the list.
+// The rows of the contentions, wire by wire, from the chains.
 ghost use mathlib.Core.Path.{_≡_};
 ghost use Prim.Native.Nat.{_+_, _*_, _<_, _≤_};
 ghost use mathlib.Core.List.{[], _∷_};
@@ -12,38 +12,12 @@ ghost use Rattle.equations.specs.Switches.{switches, tileOf, groupIn};
 ghost use Rattle.equations.specs.WireRows.{endsOn};
 ghost use Rattle.contention.specs.Contentions.{rowLength, contends, switchRow, contentionCount, contentions};
 ghost use Rattle.contention.specs.Chains.{Chained};
-use crate::chains::chain_length;
+use crate::chains::first_links;
 use netlist::row::wide;
 use ports::lengths::MAX_GROUPS;
 use ports::size::Block;
 
 pub const ROW_LENGTH: usize = 3;
-
-// How many rows a wire has: its switches, if they are two or more.
-fn count_wire(b: Block, table: &[u16], st: &[u16], heads: &[u16], nexts: &[u16], w: usize) -> usize
-    requires { ⌜ Sized b × Chained b (now table) (now st) 0 (now heads) (now nexts) × (w < ports b) ⌝ }
-    ensures { λ r. ⌜ r ≡ countBelow (contends b (now (table .entry)) (now (st .entry)) w) (switches b) ⌝ }
-{
-    let n = chain_length(b, table, st, heads, nexts, w);
-    if n < 2 {
-        return 0;
-    }
-    n
-}
-
-// How many rows there are.
-pub fn count_rows(b: Block, table: &[u16], st: &[u16], heads: &[u16], nexts: &[u16]) -> usize
-    requires { ⌜ Sized b × Chained b (now table) (now st) 0 (now heads) (now nexts) ⌝ }
-    ensures { λ r. ⌜ r ≡ contentionCount b (now (table .entry)) (now (st .entry)) ⌝ }
-{
-    let mut n = 0;
-    let mut w = 0;
-    while w < heads.len() {
-        n += count_wire(b, table, st, heads, nexts, w);
-        w += 1;
-    }
-    n
-}
 
 // The row of a switch that ends on a wire, put in from `at` on.
 fn put_row(list: &mut [u16], at: usize, wire: u16, s: usize)
@@ -99,8 +73,8 @@ fn list_wire(
     ensures list { λ r. ⌜ now (list .exit) ≡ sets (now (list .entry)) from
         (rowsWhere (contends b (now (table .entry)) (now (st .entry)) w) (switchRow w) (switches b)) ⌝ }
 {
-    let switches = chain_length(b, table, st, heads, nexts, w);
-    if switches < 2 {
+    let n = first_links(b, table, st, heads, nexts, 0, w);
+    if n < 2 {
         return from;
     }
     list_chain(b, table, st, heads, nexts, w, list, from)

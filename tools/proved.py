@@ -18,7 +18,7 @@ TABLE_LENGTH, PASSIVE_COUNT, GROUP_COUNT, GROUPS_FROM, GROUP_LENGTH, ENTRIES_FRO
 SETTINGS_GROUPS, SETTINGS_CELLS = 67, 579  # where a tile's settings have those of its groups and of its cells
 SIZE, ASC_LINE = 1, 13  # grounds for a no
 ASC_DEVICE = '1k'  # the one whose .asc files it reads
-NUMBER, TILE_NUMBERS = ctypes.c_uint8, TILE_BYTES  # the type of the numbers of lent bits, and how many a tile has
+NUMBER, TILE_NUMBERS, COLUMNS = ctypes.c_uint64, 16, 54  # the type of the numbers of lent bits, how many a tile has, one a row, and a row's bits
 BUILD_ROOM = (TILE_LIST, TILE_SETTINGS, TILE_PORTS, TILE_PORTS, TILE_LIST, TILE_PORTS, TILE_PORTS)  # numbers a tile of what `build` writes
 
 
@@ -34,7 +34,9 @@ class Library:
     def __init__(self, path):
         library = ctypes.CDLL(path)
         self.path, self.calls, self.rooms = path, {}, {}
-        for name, numbers, slices in (('asc_read', 4, 2), ('read', 2, 3), ('build', 3, 9), ('contentions', 3, 7), ('compare', 4, 6)):
+        # words_of_bytes is not asked: a library that has it takes bits as words
+        for name, numbers, slices in (('asc_read', 4, 2), ('read', 2, 3), ('build', 3, 9), ('contentions', 3, 7), ('compare', 4, 6),
+                                      ('words_of_bytes', 2, 2)):
             call = self.calls[name] = getattr(library, 'ice40_' + name)
             call.restype, call.argtypes = ctypes.c_uint64, [ctypes.c_uint32] * numbers + [ctypes.c_void_p, ctypes.c_size_t] * slices
 
@@ -104,13 +106,13 @@ def rows_of(numbers, count, length):
 
 def lent_bits(tiles):
     """The tiles of a block in the form that its bits are lent in."""
-    data = b''.join(tile.to_bytes(TILE_BYTES, 'little') for tile in tiles)
-    return (NUMBER * (TILE_NUMBERS * len(tiles))).from_buffer_copy(data)
+    rows = [tile >> COLUMNS * r & (1 << COLUMNS) - 1 for tile in tiles for r in range(TILE_NUMBERS)]
+    return (NUMBER * len(rows))(*rows)
 
 
 def tiles_of(bits):
     """The tiles of lent bits."""
-    return [int.from_bytes(bits[at:at + TILE_NUMBERS], 'little') for at in range(0, len(bits), TILE_NUMBERS)]
+    return [sum(row << COLUMNS * r for r, row in enumerate(bits[at:at + TILE_NUMBERS])) for at in range(0, len(bits), TILE_NUMBERS)]
 
 
 def part_of(bits, t):

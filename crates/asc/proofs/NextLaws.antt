@@ -14,7 +14,8 @@ use Rattle.lists.proofs.SearchLaws.{all-of}
 use Rattle.texts.specs.Lines.{same, word}
 use Rattle.texts.specs.Pieces.{placed}
 use Rattle.texts.proofs.SameLaws.{same-refl, same-false}
-use Rattle.asc.specs.Area.{positions, Area, tilesOf}
+use Rattle.ports.specs.Lengths.{positions}
+use Rattle.asc.specs.Area.{Area, tilesOf}
 use Rattle.asc.specs.Spelling.{deviceWord, deviceLine, tileWord, tileLine, isTileLine, isBinary, isRow}
 use Rattle.asc.specs.Stages.{Stage, stage, Outside, DigitRow, Turn, empty, the-device, a-tile, a-row, outside, other, skipped}
 use Rattle.asc.specs.Next.{goes, inside, tileAt, tileNext, dotNext, rowNext, nextOf}

@@ -6,8 +6,8 @@ use native.Mathlib.Omega.{arith}
 use native.Mathlib.Nat.{mul-le-mul-right}
 use lib.ListN.{length, length-set}
 use Rattle.texts.proofs.PlacedLaws.{placed-length}
-use Rattle.ports.specs.Lengths.{columns}
-use Rattle.asc.specs.Area.{positions, Area, tilesOf}
+use Rattle.ports.specs.Lengths.{columns, positions}
+use Rattle.asc.specs.Area.{Area, tilesOf}
 use Rattle.asc.specs.Stages.{Stage, stage, Turn, empty, the-device, a-tile, a-row, outside, other, skipped}
 
 pub record Fits (a : Area) (l p : ℕ) (g c : List ℕ) : Type 0 where

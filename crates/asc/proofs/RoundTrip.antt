@@ -7,7 +7,7 @@ use mathlib.Core.List.{List, _++_, append-assoc, append-nil}
 use native.Mathlib.Omega.{arith}
 use lib.ListN.{length, getD, set, length-set}
 use lib.Seq.{getD-set-same, getD-set-other}
-use Rattle.ports.specs.Lengths.{columns, tileNumbers}
+use Rattle.ports.specs.Lengths.{columns, tileNumbers, positions}
 use Rattle.words.specs.Packed.{bitIn, numberFrom, packed, FitsIn}
 use Rattle.words.proofs.PackedLaws.{bit-in-number}
 use Rattle.lists.specs.Tables.{zeros}
@@ -18,7 +18,7 @@ use Rattle.refusal.specs.declared.Answer.{Answer}
 use Rattle.refusal.specs.declared.Answer.the-variants.{Done}
 use Rattle.texts.specs.Pieces.{placed}
 use Rattle.texts.proofs.PlacedLaws.{placed-length, placed-before, placed-inside}
-use Rattle.asc.specs.Area.{positions, Area, tilesOf, sized}
+use Rattle.asc.specs.Area.{Area, tilesOf, sized}
 use Rattle.asc.specs.Spelling.{tileLine}
 use Rattle.asc.specs.Stages.{stage, Turn, the-device, a-tile, a-row, Begins, nothing, one-more, whole}
 use Rattle.asc.specs.Content.{valueAt, rowsPacked, rowDigits, rowText, rowsText, headText, tileText, deviceText, written}

@@ -14,7 +14,8 @@ use Rattle.lists.specs.Search.{allFrom}
 use Rattle.lists.specs.Tables.{zeros}
 use Rattle.lists.proofs.TableLaws.{zeros-length}
 use Rattle.texts.proofs.LineEndLaws.{LineTo, lineFrom, front-more, line-plain, line-split}
-use Rattle.asc.specs.Area.{positions, Area, tilesOf}
+use Rattle.ports.specs.Lengths.{positions}
+use Rattle.asc.specs.Area.{Area, tilesOf}
 use Rattle.asc.specs.Stages.{stage, Begins, nothing, one-more}
 use Rattle.asc.specs.Next.{goes, nextOf, isWhole, stageOf, turnedTo}
 use Rattle.asc.specs.declared.turn.Turned.{Turned}

@@ -9,7 +9,8 @@ use borrow.Author.Tests.{eq-eqb, ne-eqb}
 use lib.ListN.{length, getD, set}
 use Rattle.texts.specs.Lines.{same, word}
 use Rattle.texts.specs.Pieces.{placed}
-use Rattle.asc.specs.Area.{positions, Area}
+use Rattle.ports.specs.Lengths.{positions}
+use Rattle.asc.specs.Area.{Area}
 use Rattle.asc.specs.Spelling.{deviceWord, deviceLine, tileWord, lineX, lineY, isTileLine, isRow}
 use Rattle.asc.specs.Stages.{Stage, stage}
 use Rattle.asc.specs.Next.{goes, fault, inside, tileAt, tileNext, deviceNext, dotNext, rowNext, nextOf}

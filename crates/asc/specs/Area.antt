@@ -1,13 +1,8 @@
--- The part of a chip that the caller names, and the positions of a tile.
+-- The part of a chip that the caller names.
 use Prim.Native.Nat.{ℕ, _+_, _*_}
 use mathlib.Core.Bool.{Bool, _&&_}
 use lib.Dec.{leb}
 use Rattle.ports.specs.declared.size.Size.{Size}
-use Rattle.ports.specs.Lengths.{rows, columns}
-
--- document 01: "A tile has 16 rows of 54 bits", and as many positions, 54r + c
-abbrev pub positions : ℕ
-positions = rows * columns
 
 -- "The caller names the south-west corner and the size": tile (i, j) of the block stands at x + i, y + j of the chip.
 pub record Area : Type 0 where

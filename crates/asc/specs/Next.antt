@@ -8,8 +8,8 @@ use lib.ListN.{getD, set}
 use Rattle.lists.specs.Search.{allFrom}
 use Rattle.texts.specs.Pieces.{placed}
 use Rattle.texts.specs.Lines.{same, word}
-use Rattle.ports.specs.Lengths.{rows, columns}
-use Rattle.asc.specs.Area.{positions, Area, tilesOf}
+use Rattle.ports.specs.Lengths.{rows, columns, positions}
+use Rattle.asc.specs.Area.{Area, tilesOf}
 use Rattle.asc.specs.Spelling.{deviceWord, deviceLine, tileWord, lineX, lineY, isTileLine, isRow}
 use Rattle.asc.specs.Stages.{Stage, stage}
 use Rattle.asc.specs.declared.turn.Scan.{Scan}

@@ -8,8 +8,8 @@ use lib.ListN.{length, getD, set}
 use Rattle.lists.specs.Tables.{zeros}
 use Rattle.texts.specs.Pieces.{lineEnd, placed}
 use Rattle.texts.specs.Lines.{Plain, word}
-use Rattle.ports.specs.Lengths.{rows, columns}
-use Rattle.asc.specs.Area.{positions, Area, tilesOf}
+use Rattle.ports.specs.Lengths.{rows, columns, positions}
+use Rattle.asc.specs.Area.{Area, tilesOf}
 use Rattle.asc.specs.Spelling.{deviceWord, deviceLine, tileWord, tileLine}
 
 -- How far a file has come: whether .device was met; whether a section is being skipped; how many rows of a tile are still due and the position

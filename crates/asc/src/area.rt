@@ -1,11 +1,6 @@
-// The part of a chip that the caller names, and the positions of a tile.
+// The part of a chip that the caller names.
 ghost use mathlib.Core.Path.{_≡_};
 ghost use Rattle.asc.specs.Area.{area, sized};
-use ports::lengths::COLUMNS;
-use ports::lengths::ROWS;
-
-// A tile has so many positions, 54r + c.
-pub const POSITIONS: usize = ROWS * COLUMNS;
 
 // Ground 1: W and H are 1 to 8, and the block does not reach past 255.
 // Rules out: a corner that wraps around.

@@ -2,8 +2,8 @@
 ghost use mathlib.Core.Path.{_≡_};
 ghost use Prim.Native.Nat.{_*_};
 ghost use lib.ListN.{length};
-ghost use Rattle.asc.specs.Area.{positions};
-use crate::area::POSITIONS;
+ghost use Rattle.ports.specs.Lengths.{positions};
+use ports::lengths::POSITIONS;
 
 const TILES: usize = 64;
 

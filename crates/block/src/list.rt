@@ -16,9 +16,9 @@ ghost use Rattle.drivers.specs.CarryReads.{carryReadWire};
 ghost use Rattle.block.specs.Lengths.{roomLent, buildLent, RoomLong, BuildLong};
 ghost use Rattle.block.specs.Building.{builtNumber, listAnswer, bitsAnswer};
 use crate::Built;
+use ports::lengths::POSITIONS;
 use ports::size::Block;
 use refusal::Refusal;
-use routing::table::POSITIONS;
 use scheduling::schedule::Scheduled;
 
 // Grounds 7 and 8 of a block that passed those before, from its rows, and the list. The clocks are looked at first, so that the room of the sources

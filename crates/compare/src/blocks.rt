@@ -15,10 +15,10 @@ use crate::Compared;
 use crate::numbers::ROW_LENGTH;
 use crate::tiles::count_tile;
 use crate::tiles::list_tile;
+use ports::lengths::POSITIONS;
 use ports::lengths::SETTINGS_LENGTH;
 use ports::size::Size;
 use refusal::Refusal;
-use routing::table::POSITIONS;
 
 // How many differences n tiles have.
 fn count_block(before: &[u16], after: &[u16], n: usize) -> usize

@@ -11,9 +11,9 @@ ghost use Rattle.routing.specs.Claiming.{TableOwned};
 ghost use Rattle.ports.specs.Lengths.{tileNumbers, settingsLength};
 ghost use Rattle.codec.specs.Limits.{settingsFit};
 ghost use Rattle.config.specs.Blocks.{settingsAt, faultPlace, decoded, bitlessTile, encoded, tilesOf};
+use ports::lengths::POSITIONS;
 use ports::lengths::SETTINGS_LENGTH;
 use ports::lengths::TILE_NUMBERS;
-use routing::table::POSITIONS;
 
 // The lowest position at fault of the lowest tile that cannot be decoded, as 864 times the tile plus the position, with cleared settings; where all n can,
 // 864n with their settings. A position at fault is looked for in one tile only, and after a no of it.

@@ -5,6 +5,7 @@ ghost use Rattle.refusal.specs.declared.Answer.the-variants.{Done};
 ghost use Rattle.ports.specs.Block.{Allowed, tileCount};
 ghost use Rattle.config.specs.Blocks.{roomLength, decoded, tilesOf};
 ghost use Rattle.config.specs.Entry.{lengthsOk, readAnswer, writeAnswer};
+use ports::lengths::POSITIONS;
 use ports::lengths::TABLE_LENGTH;
 use ports::lengths::bits_length;
 use ports::lengths::settings_total;
@@ -12,7 +13,6 @@ use ports::size::Size;
 use ports::size::is_allowed;
 use refusal::Answer;
 use refusal::Refusal;
-use routing::table::POSITIONS;
 
 // Ground 2, from the lengths lent.
 fn lengths_ok(s: Size, table: usize, bits: usize, settings: usize) -> bool

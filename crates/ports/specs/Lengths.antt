@@ -16,6 +16,10 @@ rows = 16
 abbrev pub columns : ℕ
 columns = 54
 
+-- "Br[c] is position 54r + c": as many as a tile has bits
+abbrev pub positions : ℕ
+positions = rows * columns
+
 -- "Keep a block as 16 such numbers a tile" (document 02, W7): as it is lent
 abbrev pub tileNumbers : ℕ
 tileNumbers = rows

@@ -9,12 +9,14 @@ use crate::size::Size;
 use crate::size::size_of;
 use crate::size::tile_count;
 
-// A tile's ports, its rows and columns of bits, the numbers of its bits as they are lent, its bytes in a frame, and its cells.
+// A tile's ports, its rows and columns of bits, which make its positions, the numbers of its bits as they are lent, its bytes in a frame, and its cells.
 pub const PORTS_PER_TILE: u32 = 506;
 
 pub const ROWS: usize = 16;
 
 pub const COLUMNS: usize = 54;
+
+pub const POSITIONS: usize = ROWS * COLUMNS;
 
 pub const TILE_NUMBERS: usize = ROWS;
 

@@ -12,7 +12,7 @@ ghost use Rattle.routing.specs.TableCheck.{positionOk};
 use crate::cells::BITS_PER_CELL;
 use crate::cells::cell_position;
 use crate::slots::FIELD_SLOTS;
-use crate::table::POSITIONS;
+use ports::lengths::POSITIONS;
 
 // The cells' own positions claimed in an empty map; no table has a say in them.
 pub fn claim_cells(own: &mut [u16])

@@ -17,7 +17,6 @@ use crate::slots::FIELD_SLOTS;
 use crate::slots::GROUP_SLOTS;
 use crate::slots::PASSIVE_SLOTS;
 use crate::table::PASSIVES;
-use crate::table::POSITIONS;
 use crate::table::group_count;
 use crate::table::passive_count;
 use crate::table::positions_start;
@@ -26,6 +25,7 @@ use ports::lengths::FIELDS;
 use ports::lengths::MAX_GROUPS;
 use ports::lengths::MAX_PASSIVES;
 use ports::lengths::MAX_POSITIONS;
+use ports::lengths::POSITIONS;
 
 // Group g by itself and with all that was claimed before it.
 fn check_group(table: &[u16], g: usize, own: &mut [u16]) -> bool

@@ -8,8 +8,6 @@ ghost use Rattle.routing.specs.Table.{groupStart, fieldAt, passiveCount,
 use ports::lengths::FIELDS;
 use ports::lengths::GROUP_LENGTH;
 
-pub const POSITIONS: usize = 864;
-
 // Which field is which.
 pub const NEG_CLK: usize = 0;
 

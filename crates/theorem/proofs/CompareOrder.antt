@@ -26,15 +26,16 @@ use Rattle.config.proofs.BlocksLaws.{decoded-reads}
 use Rattle.config.proofs.FaultPlaceLaws.{fault-place-lowest, no-fault-decodable}
 use Rattle.compare.specs.declared.Compared.{Compared}
 use Rattle.compare.specs.declared.lengths.CompareLent.{CompareLent}
+use Rattle.compare.specs.Difference.{DiffersIn}
 use Rattle.compare.specs.Places.{rowLength}
 use Rattle.compare.specs.Rows.{differenceCount, differences}
 use Rattle.compare.specs.Lengths.{SameSize, CompareLong, sameSize, partExact, compareLent, compareExact}
 use Rattle.compare.specs.Entry.{comparedNumber, comparedValue, rowsAnswer, bitsAnswer, compareAnswer, comparedList, partAnswer}
 use Rattle.compare.proofs.LengthLaws.{same-size-exact, part-long-exact, compare-long-exact}
 use Rattle.compare.proofs.DifferenceLaws.{differences-listed}
-use Rattle.theorem.specs.Order.{Check, Yes, at, at0}
+use Rattle.theorem.specs.Order.{Check, Yes, at, at0, RowsNeeded}
 use Rattle.theorem.specs.EntryGrounds.{AllDecodable}
-use Rattle.theorem.specs.CompareGrounds.{RowsNeeded, CompareGrounds, PartGrounds}
+use Rattle.theorem.specs.CompareGrounds.{CompareGrounds, PartGrounds}
 use Rattle.theorem.proofs.EntryOrder.{no-broken}
 
 -- one check of a chain, in front of an answer of any kind
@@ -69,7 +70,7 @@ module _ (A B : Size) (table first second list before after : List ℕ) where
   faulted : (bits : List ℕ) {place : ℕ} → LowestFault table (tilesOf bits) n place → AllDecodable table (tilesOf bits) n → ⊥
   faulted bits low d = d (low .faulty-tile) (low .within) (low .position) (low .faulty)
 
-  needed : TableRules logicTile table → AllDecodable table (tilesOf first) n → AllDecodable table (tilesOf second) n → RowsNeeded table old new n (differenceCount old new n)
+  needed : TableRules logicTile table → AllDecodable table (tilesOf first) n → AllDecodable table (tilesOf second) n → RowsNeeded (DiffersIn table old new n) rowLength (differenceCount old new n)
   needed rules d d' = record {
     list = comparedList A table (tilesOf first) (tilesOf second) (rowLength * differenceCount old new n);
     listed = differences-listed table (tilesOf first) (tilesOf second) old new n rules (decoded-reads table first n rules d)
@@ -79,13 +80,13 @@ module _ (A B : Size) (table first second list before after : List ℕ) where
   -- ---- 15 and the yes
 
   abbrev RowsGrounds : ℕ → ℕ → Type 0
-  RowsGrounds = Check 15 ((rows : ℕ) → RowsNeeded table old new n rows → rowLength * rows ≤ length list) (RowsNeeded table old new n) (Yes (RowsNeeded table old new n))
+  RowsGrounds = Check 15 ((rows : ℕ) → RowsNeeded (DiffersIn table old new n) rowLength rows → rowLength * rows ≤ length list) (RowsNeeded (DiffersIn table old new n) rowLength) (Yes (RowsNeeded (DiffersIn table old new n) rowLength))
 
-  rows-order : RowsNeeded table old new n (differenceCount old new n)
+  rows-order : RowsNeeded (DiffersIn table old new n) rowLength (differenceCount old new n)
       → RowsGrounds (comparedNumber (rowsAnswer old new n (length list))) (comparedValue (rowsAnswer old new n (length list)))
   unfolding rowsAnswer
   rows-order rows =
-      check-order comparedNumber comparedValue (leb (rowLength * differenceCount old new n) (length list)) _ _ 15 (RowsNeeded table old new n) (Yes (RowsNeeded table old new n))
+      check-order comparedNumber comparedValue (leb (rowLength * differenceCount old new n) (length list)) _ _ 15 (RowsNeeded (DiffersIn table old new n) rowLength) (Yes (RowsNeeded (DiffersIn table old new n) rowLength))
       (λ e. let k = leb-false (rowLength * differenceCount old new n) (length list) e in
       ((λ fits. let q = fits (differenceCount old new n) rows in omega arith), refl, rows))
       (λ e. let k = leb-true (rowLength * differenceCount old new n) (length list) e in

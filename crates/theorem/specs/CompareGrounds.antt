@@ -3,7 +3,6 @@ use Prim.Native.Nat.{ℕ, _*_, _<_, _≤_}
 use mathlib.Core.Path.{_≡_}
 use mathlib.Core.List.{List}
 use lib.ListN.{length}
-use Rattle.lists.specs.Listing.{Lists}
 use Rattle.ports.specs.declared.size.Size.{Size}
 use Rattle.ports.specs.Block.{Allowed, tileCount}
 use Rattle.ports.specs.Lengths.{bitsLength}
@@ -15,13 +14,8 @@ use Rattle.compare.specs.declared.lengths.CompareLent.{CompareLent}
 use Rattle.compare.specs.Difference.{DiffersIn}
 use Rattle.compare.specs.Places.{rowLength}
 use Rattle.compare.specs.Lengths.{SameSize, CompareLong}
-use Rattle.theorem.specs.Order.{Check, Yes, at, at0}
+use Rattle.theorem.specs.Order.{Check, Yes, at, at0, RowsNeeded}
 use Rattle.theorem.specs.EntryGrounds.{AllDecodable}
-
--- "the rows needed": so many rows list the differences between the settings `old` and `new` of n tiles
-pub record RowsNeeded (table old new : List ℕ) (n rows : ℕ) : Type 0 where
-  pub list : List ℕ
-  pub listed : Lists (DiffersIn table old new n) rowLength list rows
 
 -- "those of reading, each for the first block before the second; 14, sizes differ, place 0, after 1; 15, the lent list is too short, place the rows
 -- needed, last". `old` and `new` are the settings that the blocks read to
@@ -34,8 +28,8 @@ CompareGrounds A B table first second old new lent list =
     (Check 3 (TableRules logicTile table) (FirstBroken logicTile table)
     (Check 4 (AllDecodable table (tilesOf first) (tileCount A)) (LowestFault table (tilesOf first) (tileCount A))
     (Check 4 (AllDecodable table (tilesOf second) (tileCount A)) (LowestFault table (tilesOf second) (tileCount A))
-    (Check 15 ((rows : ℕ) → RowsNeeded table old new (tileCount A) rows → rowLength * rows ≤ length list) (RowsNeeded table old new (tileCount A))
-    (Yes (RowsNeeded table old new (tileCount A))))))))))
+    (Check 15 ((rows : ℕ) → RowsNeeded (DiffersIn table old new (tileCount A)) rowLength rows → rowLength * rows ≤ length list) (RowsNeeded (DiffersIn table old new (tileCount A)) rowLength)
+    (Yes (RowsNeeded (DiffersIn table old new (tileCount A)) rowLength)))))))))
 
 -- "Asking for a tile gives 1, 14, 2, 20."
 abbrev pub PartGrounds : (A B : Size) → (first second : List ℕ) → (tile : ℕ) → ℕ → ℕ → Type 0

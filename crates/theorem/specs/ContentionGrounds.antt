@@ -1,7 +1,6 @@
 -- The grounds of `contentions` in their order (document 02, W6), over the number of an answer and what comes with it.
 use Prim.Native.Nat.{ℕ, _*_, _≤_}
 use mathlib.Core.List.{List}
-use Rattle.lists.specs.Listing.{Lists}
 use Rattle.ports.specs.declared.size.Block.{Block}
 use Rattle.ports.specs.Block.{Sized, tiles}
 use Rattle.routing.specs.LogicTile.{logicTile}
@@ -11,12 +10,8 @@ use Rattle.config.specs.Facts.{LowestFault}
 use Rattle.contention.specs.declared.lengths.ContentionLent.{ContentionLent}
 use Rattle.contention.specs.Contentions.{rowLength, ContentionRow}
 use Rattle.contention.specs.Lengths.{ContentionLong}
-use Rattle.theorem.specs.Order.{Check, Yes, at0}
+use Rattle.theorem.specs.Order.{Check, Yes, at0, RowsNeeded}
 use Rattle.theorem.specs.EntryGrounds.{AllDecodable}
-
--- a list that holds every contention has so many rows
-abbrev pub RowsNeeded : Block → (table settings : List ℕ) → ℕ → Type 0
-RowsNeeded B t st rows = (full : List ℕ) × Lists (ContentionRow B t st) rowLength full rows
 
 -- "Refusals: 1 to 4, then 15 as in the comparison", place "the rows needed"; a yes has the number of rows. `settings` is what the bits read to, `list` the
 -- length of the lent list
@@ -26,5 +21,5 @@ ContentionGrounds B t bits settings lent list =
     (Check 2 (ContentionLong B lent) at0
     (Check 3 (TableRules logicTile t) (FirstBroken logicTile t)
     (Check 4 (AllDecodable t (tilesOf bits) (tiles B)) (LowestFault t (tilesOf bits) (tiles B))
-    (Check 15 ((rows : ℕ) → RowsNeeded B t settings rows → rowLength * rows ≤ list) (RowsNeeded B t settings)
-    (Yes (RowsNeeded B t settings))))))
+    (Check 15 ((rows : ℕ) → RowsNeeded (ContentionRow B t settings) rowLength rows → rowLength * rows ≤ list) (RowsNeeded (ContentionRow B t settings) rowLength)
+    (Yes (RowsNeeded (ContentionRow B t settings) rowLength))))))

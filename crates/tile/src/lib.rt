@@ -31,8 +31,8 @@ use codec::settings::PASSIVES_FROM;
 use codec::settings::group_setting;
 use codec::settings::has_both_carries;
 use codec::settings::setting_at;
+use ports::lengths::POSITIONS;
 use ports::lengths::SETTINGS_LENGTH;
-use routing::table::POSITIONS;
 
 mod reading;
 

@@ -18,8 +18,10 @@ pub fn value(answer: u64) -> u32 {
     answer as u32
 }
 
-// Exact lengths, in numbers; a block has as many of each but the table's for every tile.
+// Exact lengths, in numbers; a block has as many of each but the table's for every tile. Bits are u64, a row of a tile each with column c at
+// weight 2^c; bytes are what frames hold.
 pub const LIMIT: u32 = 8;
+pub const TILES_LIMIT: usize = 64;
 pub const TABLE_LENGTH: usize = 38469;
 pub const BITS_LENGTH: usize = 16;
 pub const BYTES_LENGTH: usize = 108;
@@ -81,8 +83,43 @@ pub const KIND_COPY: u16 = 5;
 pub const KIND_LOOKUP: u16 = 6;
 pub const KIND_MAJORITY: u16 = 7;
 
+// A list of differences: rows of five numbers, DIFFERENCES_LIMIT of them a tile at most.
+pub const DIFFERENCE_LENGTH: usize = 5;
+pub const DIFFERENCE_TILE: usize = 0;
+pub const DIFFERENCE_KIND: usize = 1;
+pub const DIFFERENCE_INDEX: usize = 2;
+pub const DIFFERENCE_OLD: usize = 3;
+pub const DIFFERENCE_NEW: usize = 4;
+pub const DIFFERS_FIELD: u32 = 1;
+pub const DIFFERS_GROUP: u32 = 2;
+pub const DIFFERS_CELL: u32 = 3;
+pub const DIFFERS_PASSIVE: u32 = 4;
+pub const DIFFERENCES_LIMIT: usize = 587;
+
+// A list of contentions: rows of three numbers.
+pub const CONTENTION_LENGTH: usize = 3;
+pub const CONTENTION_WIRE: usize = 0;
+pub const CONTENTION_TILE: usize = 1;
+pub const CONTENTION_GROUP: usize = 2;
+
+// The ends of following a driver: `end` of the value is one of these, `end_wire` the wire.
+pub const OPEN: u32 = 1;
+pub const ZERO: u32 = 2;
+pub const ONE: u32 = 3;
+pub const CELL: u32 = 4;
+pub const RING: u32 = 5;
+
+pub fn end(value: u32) -> u32 {
+    value >> 16
+}
+
+pub fn end_wire(value: u32) -> u32 {
+    value & 0xFFFF
+}
+
 // The ports of a tile that a program asks for most; the header has them all.
 pub const CELLS: usize = 8;
+pub const PORTS: usize = 506;
 pub const PORT_LOCAL: u32 = 336;
 pub const PORT_IN: u32 = 372;
 pub const PORT_OUT: u32 = 404;

@@ -1,5 +1,5 @@
-"""A model of reading and writing IceStorm's ASCII files, written from document 02, W1, and apart from the reader's own text: plain Python, slow,
-and proved nowhere.
+"""A model of reading and writing IceStorm's ASCII files, written from document 02, W1 and W7, and apart from the reader's own text: plain
+Python, slow, and proved nowhere.
 
 A block is w by h logic tiles with its south-west one at (x, y) of the chip, its bits are words, 16 a tile. A text is bytes. A no is a pair
 (ground, place); a yes is what was asked for.

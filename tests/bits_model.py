@@ -1,5 +1,5 @@
 """A block's bits in both of their forms, from documents 01 and 02: as words, which every call is lent, and as bytes, which frames hold. Row r
-of tile t is word 16t + r; position 54r + c of a tile is in its byte p / 8. A no is a pair (ground, place); a yes is what was asked for.
+of tile t is word 16t + r; position p = 54r + c of a tile is in its byte p / 8. A no is a pair (ground, place); a yes is what was asked for.
 """
 WORDS, BYTES, COLUMNS = 16, 108, 54  # words and bytes of a tile, columns of a word
 

@@ -52,7 +52,7 @@ pub fn is_carry_pair(table: &[u16], bits: &[u64]) -> bool
 // Whether p is the last column of a row with a set bit past it.
 // Rules out: such a bit let through; a fault in another column of the row.
 fn is_past_at(bits: &[u64], p: usize) -> bool
-    requires { ⌜ (length (now bits) ≡ tileNumbers) × (p < 864) ⌝ }
+    requires { ⌜ (length (now bits) ≡ tileNumbers) × (p < logicTile .positions) ⌝ }
     ensures { λ r. ⌜ r ≡ pastAt (tileOf (now (bits .entry))) p ⌝ }
 {
     if p % UNIT == UNIT - 1 {
@@ -65,7 +65,7 @@ fn is_past_at(bits: &[u64], p: usize) -> bool
 // Rules out: a set bit that nothing claims let through; a fault reported at a group's second position.
 fn is_owned_fault(table: &[u16], own: &[u16], bits: &[u64], p: usize) -> bool
     requires { ⌜ (TableRules logicTile (now table)) × (TableOwned logicTile (now table) (slotCount logicTile) (now own)) ×
-        (length (now bits) ≡ tileNumbers) × (p < 864) ⌝ }
+        (length (now bits) ≡ tileNumbers) × (p < logicTile .positions) ⌝ }
     ensures { λ r. ⌜ r ≡ ownedFault (now (table .entry)) (tileOf (now (bits .entry))) p ⌝ }
 {
     let code = own[p] as usize;
@@ -86,7 +86,7 @@ fn is_owned_fault(table: &[u16], own: &[u16], bits: &[u64], p: usize) -> bool
 // Rules out: the last column of a row at fault only for what claims it.
 pub fn is_fault_at(table: &[u16], own: &[u16], bits: &[u64], p: usize) -> bool
     requires { ⌜ (TableRules logicTile (now table)) × (TableOwned logicTile (now table) (slotCount logicTile) (now own)) ×
-        (length (now bits) ≡ tileNumbers) × (p < 864) ⌝ }
+        (length (now bits) ≡ tileNumbers) × (p < logicTile .positions) ⌝ }
     ensures { λ r. ⌜ r ≡ faultAt (now (table .entry)) (tileOf (now (bits .entry))) p ⌝ }
 {
     if is_past_at(bits, p) {

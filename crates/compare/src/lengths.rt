@@ -42,7 +42,7 @@ pub fn is_compare_exact(s: Size, lent: CompareLent) -> bool
     lent.after == settings
 }
 
-// Both blocks have a number for every byte of every tile.
+// Both blocks have a number for every row of every tile.
 pub fn is_part_exact(s: Size, first: usize, second: usize) -> bool
     requires { ⌜ Allowed s ⌝ }
     ensures { λ r. ⌜ r ≡ partExact s first second ⌝ }

@@ -67,7 +67,7 @@ module _ (table bits : List ℕ) (n : ℕ) where
 
 -- ---- settings to bits
 
--- bytes behind bytes, and parts that are bytes, joined
+-- rows that fit their columns behind others, and parts of such rows, joined
 append-fits : (front back : List ℕ) → Fits front → Fits back → Fits (front ++ back)
 append-fits front back F B i = ⊎-elim within behind (lt-or-le i (length front))
   where

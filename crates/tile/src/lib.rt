@@ -88,8 +88,8 @@ pub fn read_tile(table: &[u16], own: &[u16], bits: &[u64], settings: &mut [u16])
     requires { ⌜ (TableRules logicTile (now table)) × (TableOwned logicTile (now table) (slotCount logicTile) (now own)) ×
         (length (now bits) ≡ tileNumbers) × (length (now settings) ≡ settingsLength) ⌝ }
     ensures fault { λ r. ⌜ r ≡ tileFault (now (table .entry)) (tileOf (now (bits .entry))) ⌝ }
-    ensures settings { λ r. ⌜ (r ≡ 864 → now (settings .exit) ≡ decode (now (table .entry)) (bitAt (now (bits .entry)))) ⌝ }
-    ensures cleared { λ r. ⌜ (r < 864 → now (settings .exit) ≡ zeros settingsLength) ⌝ }
+    ensures settings { λ r. ⌜ (r ≡ logicTile .positions → now (settings .exit) ≡ decode (now (table .entry)) (bitAt (now (bits .entry)))) ⌝ }
+    ensures cleared { λ r. ⌜ (r < logicTile .positions → now (settings .exit) ≡ zeros settingsLength) ⌝ }
 {
     if try_decode(table, own, bits, settings) {
         return POSITIONS;

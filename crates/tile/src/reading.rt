@@ -30,7 +30,7 @@ use words::stray::PAST_COLUMNS;
 // The set bit at p; whether it is in order. A group is read at its first set bit that is met. The cells are read as a whole, elsewhere.
 fn take_bit(table: &[u16], own: &[u16], bits: &[u64], p: usize, settings: &mut [u16]) -> bool
     requires { ⌜ (TableRules logicTile (now table)) × (TableOwned logicTile (now table) (slotCount logicTile) (now own)) ×
-        (length (now bits) ≡ tileNumbers) × (p < 864) × (bitAt (now bits) p ≡ 1) × Known (now table) (now bits) (now settings) ⌝ }
+        (length (now bits) ≡ tileNumbers) × (p < logicTile .positions) × (bitAt (now bits) p ≡ 1) × Known (now table) (now bits) (now settings) ⌝ }
     ensures yes { λ r. ⌜ (r ≡ true → Learned (now (table .entry)) (now (bits .entry)) (now (settings .entry)) (now (settings .exit)) ×
         Taken (now (table .entry)) (now (settings .exit)) p) ⌝ }
     ensures no { λ r. ⌜ (r ≡ false → Undecodable (now (table .entry)) (now (bits .entry))) ⌝ }
@@ -84,7 +84,7 @@ fn take_row(table: &[u16], own: &[u16], bits: &[u64], i: usize, settings: &mut [
 pub fn try_decode(table: &[u16], own: &[u16], bits: &[u64], settings: &mut [u16]) -> bool
     requires { ⌜ (TableRules logicTile (now table)) × (TableOwned logicTile (now table) (slotCount logicTile) (now own)) ×
         (length (now bits) ≡ tileNumbers) × (length (now settings) ≡ settingsLength) ⌝ }
-    ensures answer { λ r. ⌜ r ≡ eqb (tileFault (now (table .entry)) (tileOf (now (bits .entry)))) 864 ⌝ }
+    ensures answer { λ r. ⌜ r ≡ eqb (tileFault (now (table .entry)) (tileOf (now (bits .entry)))) (logicTile .positions) ⌝ }
     ensures settings { λ r. ⌜ (r ≡ true → now (settings .exit) ≡ decode (now (table .entry)) (bitAt (now (bits .entry)))) ⌝ }
 {
     lists::clear(settings);

@@ -60,7 +60,7 @@
     X(1, SIZE, "W or H is not 1 to 8, or not 1 to 3 for the programs, or the byte for the column to the east is not 0 or 1", "") \
     X(2, LENGTH, "a lent length differs from the exact one", "") \
     X(3, TABLE, "the routing table breaks a rule", "part") \
-    X(4, UNDECODABLE, "a tile cannot be decoded: a group's bits are a pattern that the table does not list, a bit is set that nothing claims, " \
+    X(4, UNDECODABLE, "a tile cannot be decoded: a group's bits are a pattern that the table does not list, a bit is set that nothing claims or past the 54 columns of its row, " \
       "or CarryInSet is set together with the switch from carry_in", "position") \
     X(5, CONTENTION, "a fight: two enabled switches end on one wire", "wire") \
     X(6, DISABLED_CARRY, "a disabled carry output is read: by an enabled switch, by the chain or by the next enabled carry", "wire") \

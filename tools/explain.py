@@ -23,7 +23,7 @@ GROUNDS = {
     1: ('W or H is not 1 to 8, or not 1 to 3 for the programs, or the byte for the column to the east is not 0 or 1', None),
     2: ('a lent length differs from the exact one', None),
     3: ('the routing table breaks a rule', 'part'),
-    4: ("a tile cannot be decoded: a group's bits are a pattern that the table does not list, a bit is set that nothing claims, "
+    4: ("a tile cannot be decoded: a group's bits are a pattern that the table does not list, a bit is set that nothing claims or past the 54 columns of its row, "
         'or CarryInSet is set together with the switch from carry_in', 'position'),
     5: ('a fight: two enabled switches end on one wire', 'wire'),
     6: ('a disabled carry output is read: by an enabled switch, by the chain or by the next enabled carry', 'wire'),

@@ -24,7 +24,7 @@ use Rattle.codec.specs.Cells.{cellValue, valueIn}
 use Rattle.codec.specs.Decode.{decode}
 use Rattle.codec.specs.Fault.{isUnlisted}
 use Rattle.codec.specs.Encode.{slotValue, encode}
-use Rattle.codec.specs.Reading.{unlisted, stray, past-columns, Decodable}
+use Rattle.codec.specs.Reading.{unlisted, unclaimed, past-columns, Decodable}
 use Rattle.codec.proofs.BitLaws.{bit-lt}
 use Rattle.codec.proofs.SetBitsLaws.{from-digits-one}
 use Rattle.codec.proofs.GroupLaws.{pattern-back}
@@ -51,7 +51,7 @@ module _ (table bits : List ℕ) (T : TableRules logicTile table) (D : Decodable
     where
       go : (b : ℕ) → bitAt bits p ≡ b → b < 2 → b ≡ 0
       go zero e a = refl
-      go (suc zero) e a = absurd (D p (stray p h (owner-unclaimed table T p l) e))
+      go (suc zero) e a = absurd (D p (unclaimed p h (owner-unclaimed table T p l) e))
       go (suc (suc b)) e a = absurd (omega arith)
 
   cell-value : (i : ℕ) → i < 8 → cellValue (cellTable logicTile S i) (cellFlags logicTile S i) ≡ valueIn (bitAt bits) i

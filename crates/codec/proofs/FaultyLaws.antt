@@ -23,7 +23,7 @@ use Rattle.routing.proofs.ClaimLaws.{claimed-exact}
 use Rattle.codec.specs.Bits.{isSetAt, bitAt, tileOf}
 use Rattle.codec.specs.Groups.{readGroup}
 use Rattle.codec.specs.Fault.{pointsTo, carryPair, pastAt, ownedFault, faultAt, tileFault}
-use Rattle.codec.specs.Reading.{Unclaimed, CarryPair, Faulty, unlisted, stray, carry-pair, past-columns, Decodable}
+use Rattle.codec.specs.Reading.{Unclaimed, CarryPair, Faulty, unlisted, unclaimed, carry-pair, past-columns, Decodable}
 use Rattle.codec.proofs.FaultLaws.{used-group, fault-stray, fault-carry, fault-low, fault-group}
 use Rattle.codec.proofs.TileRunLaws.{field-position-lt, group-position-lt}
 use Rattle.codec.proofs.ListedLaws.{points-exact}
@@ -89,7 +89,7 @@ module _ (table bits : List ℕ) (T : TableRules logicTile table) where
       ∙ ap (λ (x : ℕ). pointsTo (positionAt logicTile table g 0) (readGroup logicTile table (bitAt bits) x))
       (let e : maxPositions * g / maxPositions ≡ g = omega arith in e)
       ∙ points-exact table bits g (T .groups g h) (positionAt logicTile table g 0) .1 (n, m, refl))
-  fault-of p (stray q h n e) = or-right (pastAt (tileOf bits) p) _ (fault-stray table bits p (unclaimed-owner table T p n) ∙ eq-eqb _ 1 e)
+  fault-of p (unclaimed q h n e) = or-right (pastAt (tileOf bits) p) _ (fault-stray table bits p (unclaimed-owner table T p n) ∙ eq-eqb _ 1 e)
   fault-of p (carry-pair q) =
       or-right (pastAt (tileOf bits) (fieldAt table carryInSet)) _
       (fault-carry table bits (fieldAt table carryInSet) (field-owner table T carryInSet (omega arith)) ∙ carry-exact .1 q)
@@ -107,7 +107,7 @@ module _ (table bits : List ℕ) (T : TableRules logicTile table) where
       free : slotCount logicTile ≤ mine → Faulty table (tileOf bits) p
       free l =
           let e : mine ≡ slotCount logicTile = omega (arith, first-le (claims (slotsOf logicTile table) p) 0 (slotCount logicTile)) in
-          stray p h (owner-unclaimed table T p l) (eqb-true _ 1 (sym (fault-stray table bits p e) ∙ f))
+          unclaimed p h (owner-unclaimed table T p l) (eqb-true _ 1 (sym (fault-stray table bits p e) ∙ f))
 
       owned : mine < slotCount logicTile → Faulty table (tileOf bits) p
       owned l = ⊎-elim low high (lt-or-le mine (groupSlots logicTile))
@@ -151,7 +151,7 @@ module _ (table bits : List ℕ) (T : TableRules logicTile table) where
 
   pub faulty-lt : (p : ℕ) → Faulty table (tileOf bits) p → p < 864
   faulty-lt p (unlisted g h n m) = group-position-lt table T g 0 h (T .groups g h .some-positions)
-  faulty-lt p (stray q h n e) = h
+  faulty-lt p (unclaimed q h n e) = h
   faulty-lt p (past-columns r h e) = omega arith
   faulty-lt p (carry-pair q) = field-position-lt table T carryInSet (omega arith)
 

@@ -26,7 +26,7 @@ use Rattle.codec.specs.Fault.{isUnlisted}
 use Rattle.codec.specs.Encode.{slotValue, encode}
 use Rattle.codec.specs.Limits.{bothCarries}
 use Rattle.codec.specs.Writing.{Writable}
-use Rattle.codec.specs.Reading.{unlisted, stray, carry-pair, past-columns, Decodable}
+use Rattle.codec.specs.Reading.{unlisted, unclaimed, carry-pair, past-columns, Decodable}
 use Rattle.codec.specs.declared.groups.GroupRead.the-variants.{Setting}
 use Rattle.codec.proofs.SetBitsLaws.{from-digits-one}
 use Rattle.codec.proofs.GroupLaws.{setting-back, pattern-fits}
@@ -99,7 +99,7 @@ module _ (table settings : List ℕ) (C : Writable table settings) where
   unfolding bothCarries
   encode-decodable p (unlisted g h n m) =
       clash (unlisted-exact table E g (C .rules .groups g h) .1 (n, m)) (ap isUnlisted (group-trip g h))
-  encode-decodable p (stray q h n e) =
+  encode-decodable p (unclaimed q h n e) =
       let z : bitAt E p ≡ 0 = encode-unclaimed (slotsOf logicTile table) (slotValue table settings) (slot-value-lt table settings) p h
       (omega (arith, unclaimed-owner table (C .rules) p n)) in
       omega arith

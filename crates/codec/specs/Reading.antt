@@ -54,7 +54,7 @@ module _ (table : List ℕ) (tile : TileBits) where
   -- position for the carry pair" (document 02, W5).
   pub data Faulty : ℕ → Type 0 where
     unlisted : (g : ℕ) → g < groupCount logicTile table → (Off table (tile .bit) g → ⊥) → ((e : ℕ) → Listed table (tile .bit) g e → ⊥) → Faulty (positionAt logicTile table g 0)
-    stray : (p : ℕ) → p < logicTile .positions → Unclaimed table p → tile .bit p ≡ 1 → Faulty p
+    unclaimed : (p : ℕ) → p < logicTile .positions → Unclaimed table p → tile .bit p ≡ 1 → Faulty p
     carry-pair : CarryPair table (tile .bit) → Faulty (fieldAt table carryInSet)
     -- "4 for a set bit in columns 54 to 63, at fault as column 53 of its row" (document 02, W7), whoever claims that position
     past-columns : (r : ℕ) → r < rows → tile .past r ≡ true → Faulty (columns * r + 53)

@@ -1,4 +1,4 @@
--- Reading and counting the bytes of document 01, as before document 02, W7: "Show that both forms carry the same settings and answers". No call takes
+-- Reading and counting the bytes of document 01, as before document 02, W7: "Show that both forms carry the same settings and answers". No call reads or counts
 -- bytes any more; these are what the answers on words are held against (proofs/FormsLaws.antt).
 use Prim.Native.Nat.{ℕ}
 use mathlib.Core.Bool.{_&&_}

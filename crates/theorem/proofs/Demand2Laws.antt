@@ -19,7 +19,7 @@ use Rattle.fabric.proofs.WireNumberLaws.{wire-number-wire}
 use Rattle.config.proofs.MeaningLaws.{read-means}
 use Rattle.config.proofs.RoundTrip.{written-reads, read-writes}
 use Rattle.theorem.specs.Demand2.{Demand2}
-use Rattle.theorem.proofs.FileLaws.{filed-reads, read-files}
+use Rattle.theorem.proofs.FileLaws.{file-back, filed-reads, read-files}
 use Rattle.theorem.proofs.ReadingLaws.{reads-exactly, reads-one}
 use Rattle.theorem.proofs.PassesLaws.{four-exactly}
 use Rattle.theorem.proofs.FightLaws.{fight-exactly, fight-lowest, follow-fight-exactly, follow-fight-lowest}
@@ -51,6 +51,7 @@ demand2 = record {
   reads-one = reads-one;
   written-reads = written-reads;
   read-writes = read-writes;
+  file-back = file-back;
   filed-reads = filed-reads;
   read-files = read-files;
   numbered = λ B T q size lt lq. (wireOf B (portOf T q), sym (wire-number-wire B T q size lt lq));

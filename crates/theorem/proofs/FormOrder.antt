@@ -47,7 +47,7 @@ module _ (S : Size) (words bytes : List ℕ) where
       inr (long .right-size, inr ((long .bytes-long, long .words-long), inl (λ none. none _ (low .here), refl, low)))
 
   bytes-told : (r : Answer) (after : List ℕ) → BytesSay S words bytes after r → BytesOrder r
-  bytes-told Done after z = inr (z .0 .right-size, inr ((z .0 .bytes-long, z .0 .words-long), inr (fits-no-stray words (z .1 .fits), (refl, refl))))
+  bytes-told Done after z = inr (z .0 .right-size, inr ((z .0 .bytes-long, z .0 .words-long), inr (fits-no-stray words (z .2 .fits), (refl, refl))))
   bytes-told (Refused refusal) after z = bytes-no refusal (z .1)
 
   pub bytes-order : BytesOrder (bytesAnswer S words (length bytes))

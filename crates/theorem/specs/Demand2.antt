@@ -24,6 +24,7 @@ use Rattle.config.specs.Meaning.{ReadSays}
 use Rattle.asc.specs.Area.{areaAt}
 use Rattle.asc.specs.Content.{written}
 use Rattle.asc.specs.Answers as files
+use Rattle.asc.specs.declared.TextLength.the-variants.{Bytes}
 use Rattle.equations.specs.Switches.{Contention, LowestContention}
 use Rattle.block.specs.declared.Built.the-variants as builts
 use Rattle.block.specs.declared.Followed.the-variants as followeds
@@ -49,15 +50,22 @@ pub record Demand2 : Type 0 where
   pub read-writes : (S : Size) (table bits : List ℕ) (settings : ℕ) → readAnswer S table bits settings ≡ Done
       → (writeAnswer S table (decoded table (tilesOf bits) (tileCount S)) (length bits) ≡ Done)
       × (encoded table (decoded table (tilesOf bits) (tileCount S)) (tileCount S) ≡ bits)
-  -- document 02, W1: "A written file read back at its corner and size gives the same block. Demand 2 then covers this route to the bits as well":
-  -- settings that are written to bits, and these to a file, are the same when both are read back; and a file that was read, and is written, reads the same
+  -- document 02, W1: "A written file read back at its corner and size gives the same block", whether it can be decoded or not
+  pub file-back : (S : Size) (x y : ℕ) (bits text : List ℕ) → files.writeAnswer (areaAt S x y) bits (length text) ≡ Done
+      → (files.readAnswer (areaAt S x y) (written (areaAt S x y) bits) (length bits) ≡ Done)
+      × (files.bitsRead (areaAt S x y) (written (areaAt S x y) bits) ≡ bits)
+  -- "Demand 2 then covers this route to the bits as well": where the file has a length, settings that are written to bits can be written to a file, and
+  -- are the same when both are read back; and a file that was read can be written, and reads the same. `text` and `room` are the room for the file
   pub filed-reads : (S : Size) (x y : ℕ) (table settings bits text : List ℕ) → writeAnswer S table settings (length bits) ≡ Done
-      → files.writeAnswer (areaAt S x y) (encoded table settings (tileCount S)) (length text) ≡ Done
-      → (files.readAnswer (areaAt S x y) (fileOf S x y table settings) (length bits) ≡ Done)
-      × ((readAnswer S table (files.bitsRead (areaAt S x y) (fileOf S x y table settings)) (length settings) ≡ Done)
-      × (decoded table (tilesOf (files.bitsRead (areaAt S x y) (fileOf S x y table settings))) (tileCount S) ≡ settings))
-  pub read-files : (S : Size) (x y : ℕ) (text bits : List ℕ) → files.readAnswer (areaAt S x y) text (length bits) ≡ Done
-      → (files.readAnswer (areaAt S x y) (written (areaAt S x y) (files.bitsRead (areaAt S x y) text)) (length bits) ≡ Done)
+      → files.lengthAnswer (areaAt S x y) ≡ Bytes (length text)
+      → (files.writeAnswer (areaAt S x y) (encoded table settings (tileCount S)) (length text) ≡ Done)
+      × (files.readAnswer (areaAt S x y) (fileOf S x y table settings) (length bits) ≡ Done)
+      × (readAnswer S table (files.bitsRead (areaAt S x y) (fileOf S x y table settings)) (length settings) ≡ Done)
+      × (decoded table (tilesOf (files.bitsRead (areaAt S x y) (fileOf S x y table settings))) (tileCount S) ≡ settings)
+  pub read-files : (S : Size) (x y : ℕ) (text bits room : List ℕ) → files.readAnswer (areaAt S x y) text (length bits) ≡ Done
+      → files.lengthAnswer (areaAt S x y) ≡ Bytes (length room)
+      → (files.writeAnswer (areaAt S x y) (files.bitsRead (areaAt S x y) text) (length room) ≡ Done)
+      × (files.readAnswer (areaAt S x y) (written (areaAt S x y) (files.bitsRead (areaAt S x y) text)) (length bits) ≡ Done)
       × (files.bitsRead (areaAt S x y) (written (areaAt S x y) (files.bitsRead (areaAt S x y) text)) ≡ files.bitsRead (areaAt S x y) text)
   -- "Two port names are one wire exactly if the published joins inside the block link them": every port has a number, that of its wire
   pub numbered : (B : Block) (T q : ℕ) → Sized B → T < tiles B → q < portsPerTile → (w : ℕ) × (wireNumber B T q ≡ Wire w)

@@ -1,4 +1,4 @@
--- The three demands, each one record over the answers of the calls.
+-- The three demands, each one record over the answers of the calls, and SameForms beside them.
 pub mod Calls  -- built, stepped, ..: what the calls answer and write, over what is lent
 pub mod Choice  -- OnlyChoice: the one choice of values that the equations allow; StepMeans: what a step does with it
 pub mod Listing  -- Listing: one row for each wire, in document 01's order

@@ -27,7 +27,7 @@ use Rattle.codec.specs.Groups.{groupBit, groupPattern, settingOfPattern, readGr
 use Rattle.codec.specs.Decode.{settingNumber, settingAt, decode}
 use Rattle.codec.specs.Fault.{isUnlisted, tileFault}
 use Rattle.codec.specs.Limits.{bothCarries}
-use Rattle.codec.specs.Reading.{Off, CarryPair, unlisted, stray, carry-pair, past-columns, Decodable}
+use Rattle.codec.specs.Reading.{Off, CarryPair, unlisted, unclaimed, carry-pair, past-columns, Decodable}
 use Rattle.tile.specs.Taking.{Known, Taken, Undecodable}
 use Rattle.codec.specs.declared.groups.GroupRead.{GroupRead}
 use Rattle.codec.specs.declared.groups.GroupRead.the-variants.{Setting, Unlisted}
@@ -135,7 +135,7 @@ module _ (table bits settings : List ℕ) (T : TableRules logicTile table) (K : 
       (K .right (groupsFrom logicTile + g) (omega (arith, T .few-groups)) (group-known g h off)
       ∙ setting-of-group table bits g (omega (arith, T .few-groups)) h
       ∙ unlisted-zero (readGroup logicTile table (bitAt bits) g) (unlisted-exact table bits g (T .groups g h) .1 (off, none)))
-  taken-decodable single p (stray q h free e) = omega (arith, unclaimed-owner table T p free, all p h e .claimed)
+  taken-decodable single p (unclaimed q h free e) = omega (arith, unclaimed-owner table T p free, all p h e .claimed)
   taken-decodable single p (carry-pair q) = clash (pair-both table bits q) single
   taken-decodable single p (past-columns r h e) = clash e (lt-leb (2 ^ unit) (getD bits r 0) (fits r h))
 

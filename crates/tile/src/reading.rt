@@ -80,7 +80,7 @@ fn take_row(table: &[u16], own: &[u16], bits: &[u64], i: usize, settings: &mut [
 }
 
 // Whether the tile can be decoded; on a yes its settings are read. A tile with no bit set takes no time.
-// Rules out: settings kept from another tile; a yes for a bit that nothing claims, an unlisted group or the carry pair; a no for anything else.
+// Rules out: settings kept from another tile; a yes for a bit that nothing claims, a set bit past the columns, an unlisted group or the carry pair; a no for anything else.
 pub fn try_decode(table: &[u16], own: &[u16], bits: &[u64], settings: &mut [u16]) -> bool
     requires { ⌜ (TableRules logicTile (now table)) × (TableOwned logicTile (now table) (slotCount logicTile) (now own)) ×
         (length (now bits) ≡ tileNumbers) × (length (now settings) ≡ settingsLength) ⌝ }

@@ -26,7 +26,7 @@ use Rattle.words.specs.Forms.{pastColumns, SameBits, wordsOf, bytesOf}
 use Rattle.words.specs.Stray.{firstStray}
 use Rattle.words.specs.Answers.{wordsAnswer, bytesAnswer}
 use Rattle.words.specs.Meaning.{BothLong, FormNo, by-size, by-length, WordsSay, BytesNo, by-form, by-stray, BytesSay}
-use Rattle.words.proofs.FormsLaws.{words-fit, bit-of-words, bit-of-bytes, no-stray-fits}
+use Rattle.words.proofs.FormsLaws.{words-length, words-fit, bytes-length, bytes-fit, bit-of-words, bit-of-bytes, no-stray-fits}
 use Rattle.words.proofs.StrayLaws.{first-stray-exact}
 
 -- what is computed carries the same bits
@@ -56,7 +56,8 @@ module _ (S : Size) (bytes before : List ℕ) where
       unless-cases WordsMean (allowed S) _ _ (λ e. (refl, by-size (λ a. clash (allowed-true S a) e)))
       (λ s. unless-cases WordsMean (eqb (length bytes) (bytesLength S) && eqb (length before) (bitsLength S)) _ _
       (λ e. (refl, by-length (allowed-exact S .0 s) (λ l. clash (both-long-true S (length bytes) (length before) l) e)))
-      (λ e. (both-long S (length bytes) (length before) s e, words-same (tileCount S) bytes)))
+      (λ e. let long = both-long S (length bytes) (length before) s e in
+      (long, words-length (tileCount S) bytes ∙ sym (long .words-long), words-same (tileCount S) bytes)))
 
   pub words-say : (r : Answer) → r ≡ wordsAnswer S (length bytes) (length before) → (after : List ℕ)
       → after ≡ output (answerNumber r) before (wordsOf (tileCount S) bytes) → WordsSay S bytes before after r
@@ -82,7 +83,12 @@ module _ (S : Size) (words before : List ℕ) where
       (λ e. let long = both-long S (length before) (length words) s e in
       unless-cases BytesMean (eqb (firstStray words) (length words)) _ _
       (λ f. (refl, by-stray long (first-stray-exact words (first-within f))))
-      (λ f. (long, bytes-same (tileCount S) words (no-stray-fits words (eqb-true _ _ f))))))
+      (λ f. (
+        long,
+        bytes-length (tileCount S) words ∙ sym (long .bytes-long),
+        bytes-same (tileCount S) words (no-stray-fits words (eqb-true _ _ f)),
+        bytes-fit (tileCount S) words,
+      ))))
 
   pub bytes-say : (r : Answer) → r ≡ bytesAnswer S words (length before) → (after : List ℕ)
       → after ≡ output (answerNumber r) before (bytesOf (tileCount S) words) → BytesSay S words before after r

@@ -11,7 +11,8 @@ use Rattle.refusal.specs.declared.Refusal.{Refusal}
 use Rattle.refusal.specs.declared.Refusal.the-variants.{WrongSize, WrongLength, Undecodable}
 use Rattle.refusal.specs.declared.Answer.{Answer}
 use Rattle.refusal.specs.declared.Answer.the-variants.{Done, Refused}
-use Rattle.words.specs.Forms.{SameBits}
+use Rattle.words.specs.Packed.{FitsIn}
+use Rattle.words.specs.Forms.{byteBits, SameBits}
 use Rattle.words.specs.Stray.{Stray, LowestStray}
 
 -- 1 and 2 are not given: the size, and the lengths of both forms
@@ -27,14 +28,15 @@ pub data FormNo (S : Size) (bytes words : ℕ) : Refusal → Type 0 where
 
 -- bytes to words; `before` and `after` are the lent words
 abbrev pub WordsSay : Size → List ℕ → List ℕ → List ℕ → Answer → Type 0
-WordsSay S bytes before after Done = BothLong S (length bytes) (length before) × SameBits (tileCount S) bytes after
+WordsSay S bytes before after Done = BothLong S (length bytes) (length before) × (length after ≡ length before) × SameBits (tileCount S) bytes after
 WordsSay S bytes before after (Refused refusal) = (after ≡ before) × FormNo S (length bytes) (length before) refusal
 
--- words to bytes; `before` and `after` are the lent bytes, and `fits` of a yes says that no word was stray
+-- words to bytes; `before` and `after` are the lent bytes, and `fits` of a yes says that no word was stray. A byte is below 256
 pub data BytesNo (S : Size) (words : List ℕ) (bytes : ℕ) : Refusal → Type 0 where
   by-form : {refusal : Refusal} → FormNo S bytes (length words) refusal → BytesNo S words bytes refusal
   by-stray : {place : ℕ} → BothLong S bytes (length words) → LowestStray words place → BytesNo S words bytes (Undecodable place)
 
 abbrev pub BytesSay : Size → List ℕ → List ℕ → List ℕ → Answer → Type 0
-BytesSay S words before after Done = BothLong S (length before) (length words) × SameBits (tileCount S) after words
+BytesSay S words before after Done =
+    BothLong S (length before) (length words) × (length after ≡ length before) × SameBits (tileCount S) after words × FitsIn byteBits after
 BytesSay S words before after (Refused refusal) = (after ≡ before) × BytesNo S words (length before) refusal

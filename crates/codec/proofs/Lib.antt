@@ -5,7 +5,7 @@ pub mod TenLaws  -- ten-is: ten bits side by side; value-of-tens: a cell is two 
 pub mod GroupLaws  -- setting-back, pattern-back: a group's setting and its pattern
 pub mod EncodeLaws  -- encode-slot: written, then read; encode-is: read, then written
 pub mod LimitLaws  -- limit-..: the largest value of each setting; fit-..: settings that fit keep to it
-pub mod RowsLaws  -- rows-left, rows-right: a cell's bits added to its two rows
+pub mod RowsLaws  -- rows-left, rows-right, rows-all: a cell's bits added to its two rows
 pub mod RunLaws  -- run-written, run-back: a run of slots that holds a number
 pub mod TileRunLaws  -- cell-run, field-run, passive-run, group-run: the runs of a tile
 pub mod CellLaws  -- put-cells-..: cells put into settings

@@ -7,7 +7,7 @@ ghost use Rattle.routing.specs.TileKind.{bitsPerCell};
 ghost use Rattle.routing.specs.LogicTile.{logicTile, cellPosition};
 ghost use Rattle.ports.specs.Lengths.{tileNumbers, settingsLength};
 ghost use Rattle.codec.specs.Bits.{setBits, bitAt};
-ghost use Rattle.codec.specs.Cells.{cellBitIn, valueIn, cellsIn, cellSettings, writeCells, putCells, sameCell};
+ghost use Rattle.codec.specs.Cells.{cellBitIn, valueIn, cellsIn, cellSettings, writeCells, putCells, movedBit, firstTen, secondTen, sameCell};
 use crate::bits::PAST_TEN;
 use crate::bits::read_ten;
 use crate::settings::GROUPS_FROM;
@@ -91,7 +91,48 @@ pub fn cells_of(settings: &[u16]) -> [Cell; 8]
     cells
 }
 
-// A cell's 20 bits written where all of them are clear, so that an empty cell takes no time. Its two rows are held as numbers until all bits are in.
+// Bit j of a number, moved to place k.
+fn moved_bit(value: u32, j: u32, k: u32) -> u64
+    requires { ⌜ (j < bitsPerCell) × (k < 10) ⌝ }
+    ensures is { λ r. ⌜ r ≡ movedBit value j k ⌝ }
+    ensures small { λ r. ⌜ r < 1024 ⌝ }
+{
+    (((value >> j) & 1) as u64) << k
+}
+
+// What a cell's first row holds of its value: logic cell bits 0 to 9. One by one and with no loop, for every place is known.
+fn first_ten(value: u32) -> u64
+    ensures { λ r. ⌜ r ≡ firstTen value ⌝ }
+{
+    moved_bit(value, 0, 4)
+        + moved_bit(value, 3, 5)
+        + moved_bit(value, 4, 6)
+        + moved_bit(value, 7, 7)
+        + moved_bit(value, 8, 3)
+        + moved_bit(value, 11, 2)
+        + moved_bit(value, 12, 1)
+        + moved_bit(value, 15, 0)
+        + moved_bit(value, 16, 8)
+        + moved_bit(value, 17, 9)
+}
+
+// And its second row: logic cell bits 10 to 19.
+fn second_ten(value: u32) -> u64
+    ensures { λ r. ⌜ r ≡ secondTen value ⌝ }
+{
+    moved_bit(value, 1, 4)
+        + moved_bit(value, 2, 5)
+        + moved_bit(value, 5, 6)
+        + moved_bit(value, 6, 7)
+        + moved_bit(value, 9, 3)
+        + moved_bit(value, 10, 2)
+        + moved_bit(value, 13, 1)
+        + moved_bit(value, 14, 0)
+        + moved_bit(value, 18, 8)
+        + moved_bit(value, 19, 9)
+}
+
+// A cell's 20 bits written where all of them are clear, so that an empty cell takes no time. Each of its two rows is written once.
 pub fn write_value(bits: &mut [u64], i: usize, value: u32)
     requires { ⌜ (length (now bits) ≡ tileNumbers) × (i < 8) × ((j : ℕ) → j < bitsPerCell → cellBitIn (bitAt (now bits)) i j ≡ 0) ⌝ }
     ensures { λ r. ⌜ now (bits .exit) ≡ setBits (now (bits .entry)) (cellPosition i) value bitsPerCell ⌝ }
@@ -99,21 +140,10 @@ pub fn write_value(bits: &mut [u64], i: usize, value: u32)
     if value == 0 {
         return;
     }
-    let mut first = bits[2 * i];
-    let mut second = bits[2 * i + 1];
-    let mut j = 0;
-    while j < BITS_PER_CELL {
-        let k = routing::cells::lc_bit(j);
-        let bit = ((value >> j) & 1) as u64;
-        if k < 10 {
-            first += bit << (36 + k);
-        } else {
-            second += bit << (26 + k);
-        }
-        j += 1;
-    }
-    bits[2 * i] = first;
-    bits[2 * i + 1] = second;
+    let first = bits[2 * i];
+    let second = bits[2 * i + 1];
+    bits[2 * i] = first + (first_ten(value) << 36);
+    bits[2 * i + 1] = second + (second_ten(value) << 36);
 }
 
 // Eight cells written to a tile's bits, which are clear.

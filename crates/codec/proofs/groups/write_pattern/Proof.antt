@@ -61,10 +61,12 @@ write-clear-bit-requires : tie.Need-write-clear-bit-requires Inv-loop μ-loop
 write-clear-bit-requires c κs =
     let at-start = c .before .before .before .before .before .before .before in
     let at-width = c .before .before .before .before in
-    let at-loop = c .before .before .before in (
-      position-within (subst (λ (x : ℕ). x < 864) (sym (c .before .position .ensures))
-          (group-position-lt (at-start .args .table .now) (at-start .pre .0 .0) (at-start .args .g) (at-loop .loop .k) (at-start .pre .0 .1)
-          (omega (arith, at-width .width .ensures)))) (at-loop .loop .inv .1),
+    let at-loop = c .before .before .before in
+    let within = subst (λ (x : ℕ). x < 864) (sym (c .before .position .ensures))
+    (group-position-lt (at-start .args .table .now) (at-start .pre .0 .0) (at-start .args .g) (at-loop .loop .k) (at-start .pre .0 .1)
+    (omega (arith, at-width .width .ensures))) in (
+      within,
+      position-within within (at-loop .loop .inv .1),
       omega (arith, and-one (at-start .args .pattern / 2 ^ at-loop .loop .k)),
       set-bits-next (at-start .args .bits .now) (positionAt logicTile (at-start .args .table .now) (at-start .args .g)) (at-start .args .pattern)
           (at-loop .loop .k) _ (at-loop .loop .bits) (at-loop .loop .inv .2) (c .before .position .ensures)

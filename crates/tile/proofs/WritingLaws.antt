@@ -1,9 +1,11 @@
 -- The turns of the loops that write a tile: each takes the bits one run of slots further. Main laws: `cells-end`; `field-turn`,
--- `passive-turn`, `group-turn`; `passive-end`, `group-end`. Assumes nothing.
+-- `passive-turn`, `group-turn`; `passive-end`, `group-end`; groups that are off: `off-four`, `groups-off`. Assumes nothing.
 use mathlib.Core.Path.{_≡_, sym, ap, _∙_, subst}
+use mathlib.Core.Logic.{⊎-elim}
 use mathlib.Core.List.{List}
 use Prim.Native.Nat.{ℕ, zero, suc, _+_, _-_, _*_, _<_, _≤_}
 use native.Mathlib.Omega.{arith}
+use native.Mathlib.Nat.{eq-or-lt-of-le}
 use lib.ListN.{getD}
 use Rattle.lists.specs.Tables.{zeros}
 use Rattle.lists.proofs.TableLaws.{tabulate-zero}
@@ -18,12 +20,12 @@ use Rattle.routing.proofs.SlotLaws.{slot-unused-passive, slot-unused-group}
 use Rattle.routing.proofs.LogicTileLaws.{logic-tile-once}
 use Rattle.routing.proofs.TableOnceLaws.{table-once}
 use Rattle.codec.specs.Bits.{setBit, setBits, bitAt}
-use Rattle.codec.specs.Settings.{fieldSetting, passiveSetting, groupSetting, cellTable, cellFlags}
+use Rattle.codec.specs.Settings.{fieldSetting, passiveSetting, groupsFrom, groupSetting, cellTable, cellFlags}
 use Rattle.codec.specs.Groups.{groupBit, patternOf}
 use Rattle.codec.specs.Cells.{cellValue, cellNumber, cellSetting, cellSettings, emptyCell, writeCells}
 use Rattle.codec.specs.Encode.{slotValue}
 use Rattle.codec.specs.Writing.{TileWritten, Writable}
-use Rattle.codec.proofs.SetBitsLaws.{set-bits-one}
+use Rattle.codec.proofs.SetBitsLaws.{set-bits-one, set-bits-clear}
 use Rattle.codec.proofs.LimitLaws.{fit-field, fit-passive, fit-flags}
 use Rattle.codec.proofs.RunLaws.{Run, run-clear, run-written, none-written, skip-written}
 use Rattle.codec.proofs.TileRunLaws.{cell-run, field-run, passive-run, group-run}
@@ -31,6 +33,32 @@ use Rattle.codec.proofs.TileRunLaws.{cell-run, field-run, passive-run, group-ru
 -- the same bits at the same slot, otherwise spelt
 moved : (table settings : List ℕ) {m n : ℕ} (bits : List ℕ) → m ≡ n → TileWritten table settings m bits → TileWritten table settings n bits
 moved table settings bits e W = subst (λ (x : ℕ). TileWritten table settings x bits) e W
+
+-- the groups from g on and before r are off
+abbrev pub Off : List ℕ → ℕ → ℕ → Type 0
+Off settings g r = (j : ℕ) → g ≤ j → j < r → groupSetting logicTile settings j ≡ 0
+
+module _ (settings : List ℕ) (g : ℕ) where
+  -- one more, whose setting stands at n
+  off-one : (at r n : ℕ) → Off settings g at → r ≡ at + 1 → n ≡ groupsFrom logicTile + at → getD settings n 0 ≡ 0 → Off settings g r
+  off-one at r n off e m z j a b =
+      ⊎-elim (λ (q : j ≡ at). ap (λ (x : ℕ). getD settings x 0) (let i : groupsFrom logicTile + j ≡ n = omega (arith, q, m) in i) ∙ z)
+      (λ (l : j < at). off j a l) (eq-or-lt-of-le (let l : j ≤ at = omega (arith, b, e) in l))
+
+  pub off-here : groupSetting logicTile settings g ≡ 0 → Off settings g (g + 1)
+  off-here z = off-one g (g + 1) (groupsFrom logicTile + g) (λ j a b. absurd (omega arith)) (omega arith) (omega arith) z
+
+  -- four more, whose settings from n on sum to 0
+  pub off-four : (at n : ℕ) → Off settings g at → n ≡ groupsFrom logicTile + at
+      → getD settings n 0 + getD settings (n + 1) 0 + getD settings (n + 2) 0 + getD settings (n + 3) 0 ≡ 0 → Off settings g (at + 4)
+  off-four at n off m z =
+      off-one (at + 3) (at + 4) (n + 3)
+      (off-one (at + 2) (at + 3) (n + 2)
+      (off-one (at + 1) (at + 2) (n + 1)
+      (off-one at (at + 1) n off (omega arith) m (omega (arith, z)))
+      (omega arith) (omega (arith, m)) (omega (arith, z)))
+      (omega arith) (omega (arith, m)) (omega (arith, z)))
+      (omega arith) (omega (arith, m)) (omega (arith, z))
 
 module _ (table settings bits new : List ℕ) (C : Writable table settings) where
   ran : (m w n : ℕ) (at : ℕ → ℕ) (v : ℕ) → Run (slotsOf logicTile table) (slotValue table settings) m w n at v → TileWritten table settings m bits
@@ -88,6 +116,26 @@ module _ (table settings bits : List ℕ) (C : Writable table settings) where
       run-clear (slotsOf logicTile table) (slotValue table settings) (groupSlot logicTile g) maxPositions (widthOf logicTile table g)
       (positionAt logicTile table g) (patternOf logicTile table g (groupSetting logicTile settings g)) (group-run table settings (C .rules) g h)
       (table-once logicTile table logic-tile-once (C .rules)) bits W k l
+
+  -- a group that is off needs no writing, nor do all from g to r
+  group-off : (g : ℕ) → TileWritten table settings (groupSlot logicTile g) bits → g < groupCount logicTile table → groupSetting logicTile settings g ≡ 0
+      → TileWritten table settings (groupSlot logicTile (g + 1)) bits
+  group-off g W h z =
+      group-turn table settings bits bits C g W
+      (sym (ap (λ (s : ℕ). setBits bits (positionAt logicTile table g) (patternOf logicTile table g s) (widthOf logicTile table g)) z
+      ∙ set-bits-clear bits (positionAt logicTile table g) (widthOf logicTile table g) (group-clear g W h))) h
+
+  more-off : (g : ℕ) → TileWritten table settings (groupSlot logicTile g) bits → (d : ℕ) → g + d ≤ groupCount logicTile table
+      → Off settings g (g + d) → TileWritten table settings (groupSlot logicTile (g + d)) bits
+  more-off g W zero h off = moved table settings bits (omega arith) W
+  more-off g W (suc d) h off =
+      moved table settings bits (omega arith)
+      (group-off (g + d) (more-off g W d (omega arith) (λ j a b. off j a (omega arith))) (omega arith) (off (g + d) (omega arith) (omega arith)))
+
+  pub groups-off : (g r : ℕ) → TileWritten table settings (groupSlot logicTile g) bits → g ≤ r → r ≤ groupCount logicTile table
+      → Off settings g r → TileWritten table settings (groupSlot logicTile r) bits
+  groups-off g r W l h off =
+      moved table settings bits (omega arith) (more-off g W (r - g) (omega arith) (λ j a b. off j a (omega arith)))
 
   -- the number of a cell that the settings hold
   cell-number : (i : ℕ) → i < 8 → cellNumber (getD (cellSettings settings) i emptyCell) ≡ cellValue (cellTable logicTile settings i)

@@ -2,14 +2,15 @@
 // table' and 'Cells'). The functions ask for a table that breaks no rule and for exact lengths; what reading and writing are stands in `codec`.
 ghost use mathlib.Core.Path.{_≡_};
 ghost use mathlib.Core.Bool.{true};
-ghost use Prim.Native.Nat.{_<_};
+ghost use Prim.Native.Nat.{ℕ, _<_, _≤_};
 ghost use lib.ListN.{length};
 ghost use Rattle.lists.specs.Tables.{zeros};
 ghost use Rattle.routing.specs.LogicTile.{logicTile};
 ghost use Rattle.routing.specs.Rules.{TableRules};
 ghost use Rattle.routing.specs.Slots.{slotCount, fieldSlots, passiveSlots, groupSlots};
 ghost use Rattle.routing.specs.Claiming.{TableOwned};
-ghost use Rattle.ports.specs.Lengths.{tileNumbers, settingsLength};
+ghost use Rattle.ports.specs.Lengths.{tileNumbers, settingsLength, maxGroups};
+ghost use Rattle.codec.specs.Settings.{groupSetting};
 ghost use Rattle.codec.specs.Bits.{bitAt, tileOf};
 ghost use Rattle.codec.specs.Decode.{decode};
 ghost use Rattle.codec.specs.Fault.{tileFault};
@@ -125,7 +126,27 @@ fn write_passives(table: &[u16], settings: &[u16], bits: &mut [u64])
     }
 }
 
-// The groups written after the passive bits.
+// The next group to look at behind one that is off: groups that are off are passed over four at a time.
+fn after_off(settings: &[u16], g: usize, n: usize) -> usize
+    requires { ⌜ (length (now settings) ≡ settingsLength) × (g < n) × (n ≤ maxGroups) × (groupSetting logicTile (now settings) g ≡ 0) ⌝ }
+    ensures { λ r. ⌜ (g < r) × (r ≤ n) × ((j : ℕ) → g ≤ j → j < r → groupSetting logicTile (now (settings .entry)) j ≡ 0) ⌝ }
+{
+    let mut at = g + 1;
+    while at + 4 <= n {
+        let from = GROUPS_FROM + at;
+        let sum = settings[from] as u32
+            + settings[from + 1] as u32
+            + settings[from + 2] as u32
+            + settings[from + 3] as u32;
+        if sum != 0 {
+            return at;
+        }
+        at += 4;
+    }
+    at
+}
+
+// The groups written after the passive bits. Most groups of most tiles are off: nothing is written for them.
 fn write_groups(table: &[u16], settings: &[u16], bits: &mut [u64])
     requires { ⌜ (Writable (now table) (now settings)) × (TileWritten (now table) (now settings) (groupSlots logicTile) (now bits)) ⌝ }
     ensures { λ r. ⌜ TileWritten (now (table .entry)) (now (settings .entry)) (slotCount logicTile) (now (bits .exit)) ⌝ }
@@ -133,8 +154,13 @@ fn write_groups(table: &[u16], settings: &[u16], bits: &mut [u64])
     let n = routing::table::group_count(table);
     let mut g = 0;
     while g < n {
-        write_group(table, g, bits, settings[GROUPS_FROM + g]);
-        g += 1;
+        let setting = settings[GROUPS_FROM + g];
+        if setting != 0 {
+            write_group(table, g, bits, setting);
+            g += 1;
+        } else {
+            g = after_off(settings, g, n);
+        }
     }
 }
 

@@ -7,7 +7,7 @@ use Rattle.routing.specs.Slots.{groupSlot}
 use Rattle.routing.specs.Table.{groupCount}
 use Rattle.routing.specs.LogicTile.{logicTile}
 use Rattle.codec.specs.Writing.{TileWritten}
-use Rattle.tile.proofs.WritingLaws.{group-turn, group-end, group-clear}
+use Rattle.tile.proofs.WritingLaws.{group-turn, group-end, group-clear, groups-off}
 use Rattle.codec.proofs.LimitLaws.{fit-group}
 use Rattle.tile.proofs.write_groups.Statement.{statement}
 use Rattle.tile.proofs.write_groups.Tie as tie
@@ -24,42 +24,35 @@ group-count-requires c κs = let at-start = c .before .before .before in at-star
 loop-holds : tie.Need-loop-holds Inv-loop μ-loop
 loop-holds c = search needs
 
-add-write-group : tie.Need-add-write-group Inv-loop μ-loop
-add-write-group c =
-    let at-start = c .before .before .before .before .before .before .before in
-    let at-group-count = c .before .before .before in
+add-setting : tie.Need-add-setting Inv-loop μ-loop
+add-setting c =
+    let at-group-count = c .before .before in
+    let at-start = at-group-count .before .before .before .before in
     omega (arith, at-group-count .group-count .ensures, at-start .pre .0 .rules .few-groups)
 
-mul-write-group : tie.Need-mul-write-group Inv-loop μ-loop
-mul-write-group c =
-    let at-start = c .before .before .before .before .before .before .before in
-    let at-group-count = c .before .before .before in
+mul-setting : tie.Need-mul-setting Inv-loop μ-loop
+mul-setting c =
+    let at-group-count = c .before .before in
+    let at-start = at-group-count .before .before .before .before in
     omega (arith, at-group-count .group-count .ensures, at-start .pre .0 .rules .few-groups)
 
-shared-slice-read-write-group : tie.Need-shared-slice-read-write-group Inv-loop μ-loop
-shared-slice-read-write-group c =
-    let at-start = c .before .before .before .before .before .before .before .before in
-    let at-group-count = c .before .before .before .before in
+shared-slice-read-setting : tie.Need-shared-slice-read-setting Inv-loop μ-loop
+shared-slice-read-setting c =
+    let at-group-count = c .before .before .before in
+    let at-start = at-group-count .before .before .before .before in
     omega (arith, at-start .pre .0 .long, at-group-count .group-count .ensures, at-start .pre .0 .rules .few-groups)
 
 write-group-requires : tie.Need-write-group-requires Inv-loop μ-loop
 write-group-requires c κs =
-    let at-start = c .before .before .before .before .before .before .before .before in
-    let at-group-count = c .before .before .before .before in
-    let at-loop = c .before .before .before in (
-      (
-        at-start .pre .0 .rules,
-        (let q : at-loop .loop .g < groupCount logicTile (at-start .args .table .now) = omega
-            (arith, at-group-count .group-count .ensures) in q),
-        at-loop .loop .inv .1 .long,
-      ),
-      fit-group (at-start .args .table .now)
-          (at-start .args .settings .now) (at-start .pre .0 .fit) (at-loop .loop .g)
-          (omega (arith, at-group-count .group-count .ensures, at-start .pre .0 .rules .few-groups))
-          (let q : at-loop .loop .g < groupCount logicTile (at-start .args .table .now) = omega (arith, at-group-count .group-count .ensures) in q),
+    let at-loop = c .before .before .before .before in
+    let at-group-count = at-loop .before in
+    let at-start = at-group-count .before .before .before .before in
+    let is-group : at-loop .loop .g < groupCount logicTile (at-start .args .table .now) = omega (arith, at-group-count .group-count .ensures) in (
+      (at-start .pre .0 .rules, is-group, at-loop .loop .inv .1 .long),
+      fit-group (at-start .args .table .now) (at-start .args .settings .now) (at-start .pre .0 .fit) (at-loop .loop .g)
+          (omega (arith, is-group, at-start .pre .0 .rules .few-groups)) is-group,
       group-clear (at-start .args .table .now) (at-start .args .settings .now) (at-loop .loop .bits) (at-start .pre .0) (at-loop .loop .g)
-          (at-loop .loop .inv .1)
-          (let q : at-loop .loop .g < groupCount logicTile (at-start .args .table .now) = omega (arith, at-group-count .group-count .ensures) in q),
+          (at-loop .loop .inv .1) is-group,
     )
 
 add-g : tie.Need-add-g Inv-loop μ-loop
@@ -70,14 +63,34 @@ loop-less c = search needs
 
 loop-again : tie.Need-loop-again Inv-loop μ-loop
 loop-again c =
-    let at-start = c .before .before .before .before .before .before .before .before .before .before .before in
-    let at-group-count = c .before .before .before .before .before .before .before in
-    let at-loop = c .before .before .before .before .before .before in
-    let at-write-group = c .before .before in (
+    let at-write-group = c .before .before in
+    let at-loop = at-write-group .before .before .before .before .before in
+    let at-group-count = at-loop .before in
+    let at-start = at-group-count .before .before .before .before in (
       omega arith,
       group-turn (at-start .args .table .now) (at-start .args .settings .now) (at-loop .loop .bits) _ (at-start .pre .0)
           (at-loop .loop .g) (at-loop .loop .inv .1) (at-write-group .write-group .ensures)
           (let q : at-loop .loop .g < groupCount logicTile (at-start .args .table .now) = omega (arith, at-group-count .group-count .ensures) in q),
+    )
+
+after-off-requires : tie.Need-after-off-requires Inv-loop μ-loop
+after-off-requires c κs =
+    let at-group-count = c .before .before .before .before in
+    let at-start = at-group-count .before .before .before .before in
+    (at-start .pre .0 .long, omega arith, omega (arith, at-group-count .group-count .ensures, at-start .pre .0 .rules .few-groups), c .if1 .left)
+
+loop-less-2 : tie.Need-loop-less-2 Inv-loop μ-loop
+loop-less-2 c = omega (arith, c .after-off .ensures .0, c .after-off .ensures .1)
+
+loop-again-2 : tie.Need-loop-again-2 Inv-loop μ-loop
+loop-again-2 c =
+    let at-loop = c .before .before .before .before in
+    let at-group-count = at-loop .before in
+    let at-start = at-group-count .before .before .before .before in
+    let passed = c .after-off .ensures in (
+      passed .1,
+      groups-off (at-start .args .table .now) (at-start .args .settings .now) (at-loop .loop .bits) (at-start .pre .0) (at-loop .loop .g) _
+          (at-loop .loop .inv .1) (omega (arith, passed .0)) (omega (arith, passed .1, at-group-count .group-count .ensures)) (passed .2),
     )
 
 same-length : tie.Need-same-length Inv-loop μ-loop
@@ -101,12 +114,15 @@ write-groups-spec =
     μ-loop
     group-count-requires
     loop-holds
-    add-write-group
-    mul-write-group
-    shared-slice-read-write-group
+    add-setting
+    mul-setting
+    shared-slice-read-setting
     write-group-requires
     add-g
     loop-less
     loop-again
+    after-off-requires
+    loop-less-2
+    loop-again-2
     same-length
     returns)

@@ -15,7 +15,7 @@ use Rattle.routing.specs.LogicTile.{cellPosition}
 use Rattle.routing.proofs.LogicTileLaws.{lcBit, lc-bit-lt, lc-position-left, lc-position-right, cell-position-once}
 use Rattle.ports.specs.Lengths.{tileNumbers}
 use Rattle.codec.specs.Bits.{unit, bitAt, setBit, setBitIn, setBits}
-use Rattle.codec.specs.Cells.{cellBitIn, firstTen, secondTen}
+use Rattle.codec.specs.Cells.{cellBitIn, lowTen, highTen}
 use Rattle.codec.proofs.BitLaws.{add-clear, add-clear-lt}
 use Rattle.codec.proofs.SetBitsLaws.{set-bits-next, set-bits-turn}
 
@@ -187,10 +187,10 @@ module _ (bits : List ℕ) (i value : ℕ) where
     bit-two j = omega (arith, and-one (value / 2 ^ j))
 
     abbrev firstRow : ℕ
-    firstRow = getD bits (2 * i) 0 + (firstTen value * 2 ^ 36) % 2 ^ 64
+    firstRow = getD bits (2 * i) 0 + (lowTen value * 2 ^ 36) % 2 ^ 64
 
     abbrev secondRow : ℕ
-    secondRow = getD bits (2 * i + 1) 0 + (secondTen value * 2 ^ 36) % 2 ^ 64
+    secondRow = getD bits (2 * i + 1) 0 + (highTen value * 2 ^ 36) % 2 ^ 64
 
     pub rows-all : Rows bitsPerCell firstRow secondRow
     rows-all =

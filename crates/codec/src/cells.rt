@@ -7,7 +7,7 @@ ghost use Rattle.routing.specs.TileKind.{bitsPerCell};
 ghost use Rattle.routing.specs.LogicTile.{logicTile, cellPosition};
 ghost use Rattle.ports.specs.Lengths.{tileNumbers, settingsLength};
 ghost use Rattle.codec.specs.Bits.{setBits, bitAt};
-ghost use Rattle.codec.specs.Cells.{cellBitIn, valueIn, cellsIn, cellSettings, writeCells, putCells, movedBit, firstTen, secondTen, sameCell};
+ghost use Rattle.codec.specs.Cells.{cellBitIn, valueIn, cellsIn, cellSettings, writeCells, putCells, movedBit, lowTen, highTen, sameCell};
 use crate::bits::PAST_TEN;
 use crate::bits::read_ten;
 use crate::settings::GROUPS_FROM;
@@ -101,8 +101,8 @@ fn moved_bit(value: u32, j: u32, k: u32) -> u64
 }
 
 // What a cell's first row holds of its value: logic cell bits 0 to 9. One by one and with no loop, for every place is known.
-fn first_ten(value: u32) -> u64
-    ensures { λ r. ⌜ r ≡ firstTen value ⌝ }
+fn low_ten(value: u32) -> u64
+    ensures { λ r. ⌜ r ≡ lowTen value ⌝ }
 {
     moved_bit(value, 0, 4)
         + moved_bit(value, 3, 5)
@@ -117,8 +117,8 @@ fn first_ten(value: u32) -> u64
 }
 
 // And its second row: logic cell bits 10 to 19.
-fn second_ten(value: u32) -> u64
-    ensures { λ r. ⌜ r ≡ secondTen value ⌝ }
+fn high_ten(value: u32) -> u64
+    ensures { λ r. ⌜ r ≡ highTen value ⌝ }
 {
     moved_bit(value, 1, 4)
         + moved_bit(value, 2, 5)
@@ -142,8 +142,8 @@ pub fn write_value(bits: &mut [u64], i: usize, value: u32)
     }
     let first = bits[2 * i];
     let second = bits[2 * i + 1];
-    bits[2 * i] = first + (first_ten(value) << 36);
-    bits[2 * i + 1] = second + (second_ten(value) << 36);
+    bits[2 * i] = first + (low_ten(value) << FIRST_TEN);
+    bits[2 * i + 1] = second + (high_ten(value) << FIRST_TEN);
 }
 
 // Eight cells written to a tile's bits, which are clear.

@@ -6,6 +6,7 @@ use mathlib.Core.List.{List}
 use Prim.Native.Nat.{ℕ, zero, suc, _+_, _-_, _*_, _<_, _≤_}
 use native.Mathlib.Omega.{arith}
 use native.Mathlib.Nat.{eq-or-lt-of-le}
+use lib.Bits.{bitOr, or-add-and, and-le-r, or-comm}
 use lib.ListN.{getD}
 use Rattle.lists.specs.Tables.{zeros}
 use Rattle.lists.proofs.TableLaws.{tabulate-zero}
@@ -34,6 +35,10 @@ use Rattle.codec.proofs.TileRunLaws.{cell-run, field-run, passive-run, group-ru
 moved : (table settings : List ℕ) {m n : ℕ} (bits : List ℕ) → m ≡ n → TileWritten table settings m bits → TileWritten table settings n bits
 moved table settings bits e W = subst (λ (x : ℕ). TileWritten table settings x bits) e W
 
+or-none : (a b : ℕ) → bitOr a b ≡ 0 → (a ≡ 0) × (b ≡ 0)
+or-none a b e =
+    (omega (arith, e, or-add-and a b, and-le-r a b), omega (arith, e, or-comm a b, or-add-and b a, and-le-r b a))
+
 -- the groups from g on and before r are off
 abbrev pub Off : List ℕ → ℕ → ℕ → Type 0
 Off settings g r = (j : ℕ) → g ≤ j → j < r → groupSetting logicTile settings j ≡ 0
@@ -48,17 +53,19 @@ module _ (settings : List ℕ) (g : ℕ) where
   pub off-here : groupSetting logicTile settings g ≡ 0 → Off settings g (g + 1)
   off-here z = off-one g (g + 1) (groupsFrom logicTile + g) (λ j a b. absurd (omega arith)) (omega arith) (omega arith) z
 
-  -- four more, whose settings from n on sum to 0
+  -- four more, whose settings stand from n on and have no bit set
   pub off-four : (at n : ℕ) → Off settings g at → n ≡ groupsFrom logicTile + at
-      → getD settings n 0 + getD settings (n + 1) 0 + getD settings (n + 2) 0 + getD settings (n + 3) 0 ≡ 0 → Off settings g (at + 4)
+      → bitOr (bitOr (bitOr (getD settings n 0) (getD settings (n + 1) 0)) (getD settings (n + 2) 0)) (getD settings (n + 3) 0) ≡ 0
+      → Off settings g (at + 4)
   off-four at n off m z =
+      let d = or-none _ (getD settings (n + 3) 0) z in
+      let c = or-none _ (getD settings (n + 2) 0) (d .0) in
+      let b = or-none (getD settings n 0) (getD settings (n + 1) 0) (c .0) in
       off-one (at + 3) (at + 4) (n + 3)
       (off-one (at + 2) (at + 3) (n + 2)
-      (off-one (at + 1) (at + 2) (n + 1)
-      (off-one at (at + 1) n off (omega arith) m (omega (arith, z)))
-      (omega arith) (omega (arith, m)) (omega (arith, z)))
-      (omega arith) (omega (arith, m)) (omega (arith, z)))
-      (omega arith) (omega (arith, m)) (omega (arith, z))
+      (off-one (at + 1) (at + 2) (n + 1) (off-one at (at + 1) n off (omega arith) m (b .0)) (omega arith) (omega (arith, m)) (b .1))
+      (omega arith) (omega (arith, m)) (c .1))
+      (omega arith) (omega (arith, m)) (d .1)
 
 module _ (table settings bits new : List ℕ) (C : Writable table settings) where
   ran : (m w n : ℕ) (at : ℕ → ℕ) (v : ℕ) → Run (slotsOf logicTile table) (slotValue table settings) m w n at v → TileWritten table settings m bits

@@ -134,11 +134,8 @@ fn after_off(settings: &[u16], g: usize, n: usize) -> usize
     let mut at = g + 1;
     while at + 4 <= n {
         let from = GROUPS_FROM + at;
-        let sum = settings[from] as u32
-            + settings[from + 1] as u32
-            + settings[from + 2] as u32
-            + settings[from + 3] as u32;
-        if sum != 0 {
+        let any = settings[from] | settings[from + 1] | settings[from + 2] | settings[from + 3];
+        if any != 0 {
             return at;
         }
         at += 4;

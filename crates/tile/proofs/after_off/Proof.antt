@@ -27,76 +27,38 @@ add-loop c = search needs
 add-from : tie.Need-add-from Inv-loop μ-loop
 add-from c = search needs
 
-mul-sum : tie.Need-mul-sum Inv-loop μ-loop
-mul-sum c = search needs
+mul-any : tie.Need-mul-any Inv-loop μ-loop
+mul-any c = search needs
 
-shared-slice-read-sum : tie.Need-shared-slice-read-sum Inv-loop μ-loop
-shared-slice-read-sum c = search needs
+shared-slice-read-any : tie.Need-shared-slice-read-any Inv-loop μ-loop
+shared-slice-read-any c = search needs
 
-cast-sum : tie.Need-cast-sum Inv-loop μ-loop
-cast-sum c =
-    let from = groupsFrom logicTile + c .before .before .loop .at in
-    omega (arith, c .shared-slice-known .given from)
+add-any : tie.Need-add-any Inv-loop μ-loop
+add-any c = search needs
 
-add-sum : tie.Need-add-sum Inv-loop μ-loop
-add-sum c = search needs
+mul-any-2 : tie.Need-mul-any-2 Inv-loop μ-loop
+mul-any-2 c = search needs
 
-mul-sum-2 : tie.Need-mul-sum-2 Inv-loop μ-loop
-mul-sum-2 c = search needs
+shared-slice-read-any-2 : tie.Need-shared-slice-read-any-2 Inv-loop μ-loop
+shared-slice-read-any-2 c = search needs
 
-shared-slice-read-sum-2 : tie.Need-shared-slice-read-sum-2 Inv-loop μ-loop
-shared-slice-read-sum-2 c = search needs
+add-any-2 : tie.Need-add-any-2 Inv-loop μ-loop
+add-any-2 c = search needs
 
-cast-sum-2 : tie.Need-cast-sum-2 Inv-loop μ-loop
-cast-sum-2 c =
-    let from = groupsFrom logicTile + c .before .before .before .loop .at in
-    omega (arith, c .shared-slice-known2 .given (from + 1))
+mul-any-3 : tie.Need-mul-any-3 Inv-loop μ-loop
+mul-any-3 c = search needs
 
-add-sum-2 : tie.Need-add-sum-2 Inv-loop μ-loop
-add-sum-2 c =
-    let from = groupsFrom logicTile + c .before .before .before .loop .at in
-    let given = c .shared-slice-known2 .given in
-    omega (arith, given from, given (from + 1))
+shared-slice-read-any-3 : tie.Need-shared-slice-read-any-3 Inv-loop μ-loop
+shared-slice-read-any-3 c = search needs
 
-add-sum-3 : tie.Need-add-sum-3 Inv-loop μ-loop
-add-sum-3 c = search needs
+add-any-3 : tie.Need-add-any-3 Inv-loop μ-loop
+add-any-3 c = search needs
 
-mul-sum-3 : tie.Need-mul-sum-3 Inv-loop μ-loop
-mul-sum-3 c = search needs
+mul-any-4 : tie.Need-mul-any-4 Inv-loop μ-loop
+mul-any-4 c = search needs
 
-shared-slice-read-sum-3 : tie.Need-shared-slice-read-sum-3 Inv-loop μ-loop
-shared-slice-read-sum-3 c = search needs
-
-cast-sum-3 : tie.Need-cast-sum-3 Inv-loop μ-loop
-cast-sum-3 c =
-    let from = groupsFrom logicTile + c .before .before .before .before .loop .at in
-    omega (arith, c .shared-slice-known3 .given (from + 2))
-
-add-sum-4 : tie.Need-add-sum-4 Inv-loop μ-loop
-add-sum-4 c =
-    let from = groupsFrom logicTile + c .before .before .before .before .loop .at in
-    let given = c .shared-slice-known3 .given in
-    omega (arith, given from, given (from + 1), given (from + 2))
-
-add-sum-5 : tie.Need-add-sum-5 Inv-loop μ-loop
-add-sum-5 c = search needs
-
-mul-sum-4 : tie.Need-mul-sum-4 Inv-loop μ-loop
-mul-sum-4 c = search needs
-
-shared-slice-read-sum-4 : tie.Need-shared-slice-read-sum-4 Inv-loop μ-loop
-shared-slice-read-sum-4 c = search needs
-
-cast-sum-4 : tie.Need-cast-sum-4 Inv-loop μ-loop
-cast-sum-4 c =
-    let from = groupsFrom logicTile + c .before .before .before .before .before .loop .at in
-    omega (arith, c .shared-slice-known4 .given (from + 3))
-
-add-sum-6 : tie.Need-add-sum-6 Inv-loop μ-loop
-add-sum-6 c =
-    let from = groupsFrom logicTile + c .before .before .before .before .before .loop .at in
-    let given = c .shared-slice-known4 .given in
-    omega (arith, given from, given (from + 1), given (from + 2), given (from + 3))
+shared-slice-read-any-4 : tie.Need-shared-slice-read-any-4 Inv-loop μ-loop
+shared-slice-read-any-4 c = search needs
 
 returns : tie.Need-returns Inv-loop μ-loop
 returns c = c .before .before .before .before .before .before .loop .inv
@@ -130,24 +92,17 @@ after-off-spec =
     loop-holds
     add-loop
     add-from
-    mul-sum
-    shared-slice-read-sum
-    cast-sum
-    add-sum
-    mul-sum-2
-    shared-slice-read-sum-2
-    cast-sum-2
-    add-sum-2
-    add-sum-3
-    mul-sum-3
-    shared-slice-read-sum-3
-    cast-sum-3
-    add-sum-4
-    add-sum-5
-    mul-sum-4
-    shared-slice-read-sum-4
-    cast-sum-4
-    add-sum-6
+    mul-any
+    shared-slice-read-any
+    add-any
+    mul-any-2
+    shared-slice-read-any-2
+    add-any-2
+    mul-any-3
+    shared-slice-read-any-3
+    add-any-3
+    mul-any-4
+    shared-slice-read-any-4
     returns
     add-at-2
     loop-less

@@ -39,8 +39,11 @@ mul-second-2 c = search needs
 slice-read-second : tie.Need-slice-read-second
 slice-read-second c = search needs
 
-first-ten-requires : tie.Need-first-ten-requires
-first-ten-requires c κs = search needs
+low-ten-requires : tie.Need-low-ten-requires
+low-ten-requires c κs = search needs
+
+shl-bits : tie.Need-shl-bits
+shl-bits c = search needs
 
 add-bits : tie.Need-add-bits
 add-bits c =
@@ -48,7 +51,7 @@ add-bits c =
     let known = c .before .slice-known3 .given in
     let R = rows-all (at-start .args .bits .now) (at-start .args .i) (at-start .args .value) (at-start .pre .0) (at-start .pre .1) (at-start .pre .2)
     (omega (arith, known (2 * at-start .args .i))) (omega (arith, known (2 * at-start .args .i + 1))) in
-    record { fits = subst (λ (x : ℕ). getD (at-start .args .bits .now) (2 * at-start .args .i) 0 + (x * 2 ^ 36) % 2 ^ 64 < 2 ^ 64) (sym (c .first-ten .ensures)) (R .first-fits) }
+    record { fits = subst (λ (x : ℕ). getD (at-start .args .bits .now) (2 * at-start .args .i) 0 + (x * 2 ^ 36) % 2 ^ 64 < 2 ^ 64) (sym (c .low-ten .ensures)) (R .first-fits) }
 
 mul-bits : tie.Need-mul-bits
 mul-bits c = search needs
@@ -59,8 +62,11 @@ mul-bits-2 c = search needs
 slice-write-bits : tie.Need-slice-write-bits
 slice-write-bits c = search needs
 
-second-ten-requires : tie.Need-second-ten-requires
-second-ten-requires c κs = search needs
+high-ten-requires : tie.Need-high-ten-requires
+high-ten-requires c κs = search needs
+
+shl-bits-2 : tie.Need-shl-bits-2
+shl-bits-2 c = search needs
 
 add-bits-2 : tie.Need-add-bits-2
 add-bits-2 c =
@@ -68,7 +74,7 @@ add-bits-2 c =
     let known = c .before .before .slice-known3 .given in
     let R = rows-all (at-start .args .bits .now) (at-start .args .i) (at-start .args .value) (at-start .pre .0) (at-start .pre .1) (at-start .pre .2)
     (omega (arith, known (2 * at-start .args .i))) (omega (arith, known (2 * at-start .args .i + 1))) in
-    record { fits = subst (λ (x : ℕ). getD (at-start .args .bits .now) (2 * at-start .args .i + 1) 0 + (x * 2 ^ 36) % 2 ^ 64 < 2 ^ 64) (sym (c .second-ten .ensures)) (R .second-fits) }
+    record { fits = subst (λ (x : ℕ). getD (at-start .args .bits .now) (2 * at-start .args .i + 1) 0 + (x * 2 ^ 36) % 2 ^ 64 < 2 ^ 64) (sym (c .high-ten .ensures)) (R .second-fits) }
 
 mul-bits-3 : tie.Need-mul-bits-3
 mul-bits-3 c = search needs
@@ -85,7 +91,7 @@ slice-write-bits-2 c =
     omega (
       arith,
       length-set (at-start .args .bits .now) (2 * at-start .args .i)
-          (getD (at-start .args .bits .now) (2 * at-start .args .i) 0 + (c .before .first-ten .result * 2 ^ 36) % 2 ^ 64),
+          (getD (at-start .args .bits .now) (2 * at-start .args .i) 0 + (c .before .low-ten .result * 2 ^ 36) % 2 ^ 64),
       at-start .pre .0,
       at-start .pre .1,
     )
@@ -101,7 +107,7 @@ returns-2 c =
     (omega (arith, known (2 * at-start .args .i))) (omega (arith, known (2 * at-start .args .i + 1))) in
     ap₂ (λ (x y : ℕ). set (set (at-start .args .bits .now) (2 * at-start .args .i) (getD (at-start .args .bits .now) (2 * at-start .args .i) 0 + (x * 2 ^ 36) % 2 ^ 64))
     (2 * at-start .args .i + 1) (getD (at-start .args .bits .now) (2 * at-start .args .i + 1) 0 + (y * 2 ^ 36) % 2 ^ 64))
-    (c .before .first-ten .ensures) (c .second-ten .ensures)
+    (c .before .low-ten .ensures) (c .high-ten .ensures)
     ∙ R .is
 
 pub write-value-spec : {M : Type 1} → statement M
@@ -116,12 +122,14 @@ write-value-spec =
     add-second
     mul-second-2
     slice-read-second
-    first-ten-requires
+    low-ten-requires
+    shl-bits
     add-bits
     mul-bits
     mul-bits-2
     slice-write-bits
-    second-ten-requires
+    high-ten-requires
+    shl-bits-2
     add-bits-2
     mul-bits-3
     add-bits-3

@@ -130,7 +130,7 @@ def check_yes_words():
     count = Count('README.md on what a yes does not say')
     readme = re.sub(r'\s+', ' ', contents('README.md'))
     for words in ('two switches in different blocks can drive one wire, and every block gets a yes', 'A span-12 wire lies in thirteen tiles', 'on one net there too, but that is not proved', 'RAM column',
-                  'always ends with status 0', 'ignores the input', 'seven minutes', '17 to 20 minutes', 'rt version'):
+                  'always ends with status 0', 'ignores the input', 'seven minutes', '20 to 25 minutes', 'rt version'):
         count.same(words in readme, True, words)
     return count.done()
 

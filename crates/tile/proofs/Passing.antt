@@ -16,7 +16,7 @@ use Rattle.words.specs.Packed.{bitIn}
 use Rattle.codec.specs.Bits.{unit, bitAt}
 use Rattle.ports.specs.Lengths.{columns, tileNumbers}
 use Rattle.codec.specs.Reading.{past-columns}
-use Rattle.tile.specs.Taking.{Learned, Taken, TakenRow, Undecodable}
+use Rattle.tile.specs.Taking.{Learned, Taken, TakenRow, WithoutCell, Undecodable}
 use Rattle.tile.proofs.TakingLaws.{taken-kept}
 
 -- ---- the set digits of a row
@@ -26,8 +26,14 @@ pub record Passed (P : ℕ → Type 0) (row left : ℕ) : Type 0 where
   pub set : (k : ℕ) → digit left k ≡ 1 → digit row k ≡ 1
   pub passed : (k : ℕ) → k < unit → digit row k ≡ 1 → digit left k ≡ 0 → P k
 
-pub passed-start : (P : ℕ → Type 0) (row : ℕ) → Passed P row row
-passed-start P row = record { set = λ k e. e; passed = λ k l a b. absurd (omega arith) }
+-- the cell's digits are passed over, as P holds of them
+pub passed-start : (P : ℕ → Type 0) (row left : ℕ) → WithoutCell row left → ((k : ℕ) → 36 ≤ k → k < 46 → P k) → Passed P row left
+passed-start P row left W cell = record {
+  set = λ k e. ⊎-elim (λ (l : k < 36). sym (W .below k l) ∙ e)
+      (λ (l : 36 ≤ k). ⊎-elim (λ (m : k < 46). absurd (omega (arith, W .cell k l m))) (λ (m : 46 ≤ k). sym (W .above k m) ∙ e) (lt-or-le k 46)) (lt-or-le k 36);
+  passed = λ k h a b. ⊎-elim (λ (l : k < 36). absurd (omega (arith, W .below k l)))
+      (λ (l : 36 ≤ k). ⊎-elim (λ (m : k < 46). cell k l m) (λ (m : 46 ≤ k). absurd (omega (arith, W .above k m))) (lt-or-le k 46)) (lt-or-le k 36);
+}
 
 -- digit j passed; what P said of those before, Q says too
 pub passed-turn : (P Q : ℕ → Type 0) (row left new j : ℕ) → Passed P row left → new ≡ setDigit left j 0 → ((k : ℕ) → P k → Q k) → Q j

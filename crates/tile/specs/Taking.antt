@@ -1,7 +1,7 @@
 -- A tile's settings while its set bits are taken one after another, in any order. Each bit makes the setting that it belongs to known. What
 -- the functions that take them promise each other.
 use Rattle.codec.specs.Bits.{unit, bitAt, tileOf}
-use Prim.Native.Nat.{ℕ, _+_, _*_, _^_, _<_}
+use Prim.Native.Nat.{ℕ, _+_, _*_, _^_, _<_, _≤_}
 use mathlib.Core.Path.{_≡_}
 use mathlib.Core.Logic.{_≢_}
 use mathlib.Core.List.{List}
@@ -35,6 +35,12 @@ pub record Taken (table settings : List ℕ) (p : ℕ) : Type 0 where
 pub record TakenRow (table bits settings : List ℕ) (i : ℕ) : Type 0 where
   pub fits : getD bits i 0 < 2 ^ unit
   pub taken : (k : ℕ) → k < unit → digit (getD bits i 0) k ≡ 1 → Taken table settings (unit * i + k)
+
+-- what is left of a row without its cell's columns, 36 to 45 (document 01, 'Cells'): all its other digits
+pub record WithoutCell (row left : ℕ) : Type 0 where
+  pub cell : (k : ℕ) → 36 ≤ k → k < 46 → digit left k ≡ 0
+  pub below : (k : ℕ) → k < 36 → digit left k ≡ digit row k
+  pub above : (k : ℕ) → 46 ≤ k → digit left k ≡ digit row k
 
 -- what a set bit shows that cannot be taken
 abbrev pub Undecodable : List ℕ → List ℕ → Type 0

@@ -13,7 +13,7 @@ ghost use Rattle.codec.specs.Bits.{bitAt, tileOf};
 ghost use Rattle.ports.specs.Lengths.{tileNumbers, settingsLength};
 ghost use Rattle.codec.specs.Decode.{decode};
 ghost use Rattle.codec.specs.Fault.{tileFault};
-ghost use Rattle.tile.specs.Taking.{Known, Learned, Taken, TakenRow, Undecodable};
+ghost use Rattle.tile.specs.Taking.{Known, Learned, Taken, TakenRow, WithoutCell, Undecodable};
 use codec::bits::UNIT;
 use codec::bits::is_empty;
 use codec::cells::decode_cells;
@@ -55,7 +55,19 @@ fn take_bit(table: &[u16], own: &[u16], bits: &[u64], p: usize, settings: &mut [
     true
 }
 
-// The set bits of row i. A row with one past its columns cannot be decoded.
+// The weights of the first of the ten columns of a row that its cell has, and of the first one past them.
+const CELL_FROM: u64 = 68719476736;
+
+const PAST_CELL: u64 = 70368744177664;
+
+// A row without its cell's columns.
+fn without_cell(row: u64) -> u64
+    ensures { λ r. ⌜ WithoutCell row r ⌝ }
+{
+    row / PAST_CELL * PAST_CELL + row % CELL_FROM
+}
+
+// The set bits of row i outside its cell. A row with one past its columns cannot be decoded.
 // Rules out: a set bit past the columns left out.
 fn take_row(table: &[u16], own: &[u16], bits: &[u64], i: usize, settings: &mut [u16]) -> bool
     requires { ⌜ (TableRules logicTile (now table)) × (TableOwned logicTile (now table) (slotCount logicTile) (now own)) ×
@@ -68,7 +80,7 @@ fn take_row(table: &[u16], own: &[u16], bits: &[u64], i: usize, settings: &mut [
     if PAST_COLUMNS <= row {
         return false;
     }
-    let mut left = row;
+    let mut left = without_cell(row);
     while 0 < left {
         let k = digits::lowest_digit(left);
         if !take_bit(table, own, bits, UNIT * i + k, settings) {

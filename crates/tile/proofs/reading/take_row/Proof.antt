@@ -1,7 +1,7 @@
 -- `take_row` meets its contract. Invariant: the settings know all that they knew, and the set digits that are no longer left are taken
 -- (`Passed`). Measure: what is left. Assumes nothing.
 use mathlib.Core.Path.{refl, _∙_, subst, sym}
-use Prim.Native.Nat.{ℕ, _+_, _*_, _^_, _<_}
+use Prim.Native.Nat.{ℕ, _+_, _*_, _<_}
 use native.Mathlib.Omega.{arith}
 use borrow.Author.Tests.{not-true, not-false}
 use borrow.Author.Needs.{needs}
@@ -12,13 +12,14 @@ use Rattle.codec.specs.Bits.{unit}
 use Rattle.tile.specs.Taking.{Learned, Taken, TakenRow}
 use Rattle.codec.proofs.BitLaws.{bit-of-row}
 use Rattle.tile.proofs.TakingLaws.{learned-none, learned-trans, taken-kept}
+use Rattle.tile.proofs.CellColumns.{column-taken}
 use Rattle.tile.proofs.Passing.{Passed, passed-start, passed-turn, passed-end, column-lt, past-undecodable}
 use Rattle.tile.proofs.reading.take_row.Statement.{statement}
 use Rattle.tile.proofs.reading.take_row.Tie as tie
 
 abbrev Inv-loop : tie.InvT-loop
 Inv-loop table own bits i settings₀ row left₀ settings left =
-    (left < 2 ^ unit) × Learned table bits settings₀ settings × Passed (λ (k : ℕ). Taken table settings (unit * i + k)) (getD bits i 0) left
+    Learned table bits settings₀ settings × Passed (λ (k : ℕ). Taken table settings (unit * i + k)) (getD bits i 0) left
 
 abbrev μ-loop : tie.MeasureT-loop
 μ-loop table own bits i settings₀ row left₀ settings left = left
@@ -35,10 +36,16 @@ returns c =
     let at-start = c .before .before .before .before .before .before in
     (λ z. clash z refl, λ z. past-undecodable (at-start .args .table .now) (at-start .args .bits .now) (at-start .args .i) (at-start .pre .3) (c .if1 .taken))
 
+without-cell-requires : tie.Need-without-cell-requires Inv-loop μ-loop
+without-cell-requires c κs = search needs
+
 loop-holds : tie.Need-loop-holds Inv-loop μ-loop
 loop-holds c =
-    let at-start = c .before .before .before .before .before .before in
-    (omega (arith, c .if1 .left), learned-none (at-start .pre .4), passed-start _ _)
+    let at-start = c .before .before .before .before .before .before .before in (
+      learned-none (at-start .pre .4),
+      passed-start _ _ _ (c .without-cell .ensures)
+          (λ k a b. column-taken (at-start .args .table .now) (at-start .args .settings .now) (at-start .args .i) (at-start .pre .3) k a b),
+    )
 
 lowest-digit-requires : tie.Need-lowest-digit-requires Inv-loop μ-loop
 lowest-digit-requires c κs = λ z. omega (arith, c .loop-test .taken)
@@ -53,15 +60,16 @@ take-bit-requires : tie.Need-take-bit-requires Inv-loop μ-loop
 take-bit-requires c κs =
     let at-lowest-digit = c .before in
     let at-loop = at-lowest-digit .before .before in
-    let at-start = at-loop .before .before .before .before .before .before .before in
+    let at-start = at-loop .before .before .before .before .before .before .before .before in
     let k = at-lowest-digit .lowest-digit .ensures in
-    let inside = column-lt (at-loop .loop .left) (at-lowest-digit .lowest-digit .result) (at-loop .loop .inv .0) (k .one) in (
+    let on = at-loop .loop .inv .1 .set _ (k .one) in
+    let inside = column-lt _ (at-lowest-digit .lowest-digit .result) (omega (arith, at-loop .before .before .if1 .left)) on in (
       at-start .pre .0,
       at-start .pre .1,
       at-start .pre .2,
       omega (arith, inside),
-      bit-of-row (at-start .args .bits .now) (at-start .args .i) _ inside ∙ at-loop .loop .inv .2 .set _ (k .one),
-      at-loop .loop .inv .1 .known,
+      bit-of-row (at-start .args .bits .now) (at-start .args .i) _ inside ∙ on,
+      at-loop .loop .inv .0 .known,
     )
 
 same-length : tie.Need-same-length Inv-loop μ-loop
@@ -86,11 +94,9 @@ loop-again c =
     let at-take-bit = c .before .before .before .before in
     let at-lowest-digit = c .before .before .before .before .before .before in
     let at-loop = at-lowest-digit .before .before in
-    let taken = at-take-bit .take-bit .ensures .0 (not-false _ (c .before .if2 .left)) in
-    let less = lower-lt (at-loop .loop .left) (at-lowest-digit .lowest-digit .result) (at-lowest-digit .lowest-digit .ensures .one) in (
-      omega (arith, less, c .without-digit .ensures, at-loop .loop .inv .0),
-      learned-trans (at-loop .loop .inv .1) (taken .0),
-      passed-turn _ _ _ _ _ _ (at-loop .loop .inv .2) (c .without-digit .ensures) (λ k t. taken-kept (taken .0) t) (taken .1),
+    let taken = at-take-bit .take-bit .ensures .0 (not-false _ (c .before .if2 .left)) in (
+      learned-trans (at-loop .loop .inv .0) (taken .0),
+      passed-turn _ _ _ _ _ _ (at-loop .loop .inv .1) (c .without-digit .ensures) (λ k t. taken-kept (taken .0) t) (taken .1),
     )
 
 same-length-2 : tie.Need-same-length-2 Inv-loop μ-loop
@@ -99,7 +105,7 @@ same-length-2 c = search needs
 returns-3 : tie.Need-returns-3 Inv-loop μ-loop
 returns-3 c =
     let at-loop = c .before in (
-      λ z. (at-loop .loop .inv .1, record { fits = omega (arith, at-loop .before .if1 .left); taken = passed-end _ _ _ (at-loop .loop .inv .2) (omega arith) }),
+      λ z. (at-loop .loop .inv .0, record { fits = omega (arith, at-loop .before .before .if1 .left); taken = passed-end _ _ _ (at-loop .loop .inv .1) (omega arith) }),
       λ z. clash refl z,
     )
 
@@ -112,6 +118,7 @@ take-row-spec =
     mul-row
     shared-slice-read-row
     returns
+    without-cell-requires
     loop-holds
     lowest-digit-requires
     mul-take-bit

@@ -50,13 +50,15 @@ class Library:
 
     def room(self, n, lengths):
         """Arrays of so many 16-bit numbers a tile for n tiles. They serve every call that asks for the same: a call needs nothing of what they hold."""
-        return self.rooms.setdefault((n, lengths), [(ctypes.c_uint16 * (length * n))() for length in lengths])
+        if (n, lengths) not in self.rooms:
+            self.rooms[n, lengths] = [(ctypes.c_uint16 * (length * n))() for length in lengths]
+        return self.rooms[n, lengths]
 
     def asc_bits(self, text, corner, w, h):
         """The bits of a block of an .asc file, as they are lent."""
         if not all(0 <= n < 1 << 32 for n in corner):
             raise Refused(SIZE, 0)  # as it answers for every corner above 255
-        bits = lent_bits([0] * (w * h))
+        bits = (NUMBER * (TILE_NUMBERS * w * h))()
         self.call('asc_read', (w, h, *corner), [text, bits])
         return bits
 

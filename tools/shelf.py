@@ -11,6 +11,7 @@ routing table and the nets come from IceStorm's chip database. The last lines sa
 Exit status: 0 every design is a yes, 1 some design is a no, 2 none is a no but some could not be told.
 """
 import argparse
+import functools
 import json
 
 import proved
@@ -19,7 +20,9 @@ from tool import Mistake, run
 
 
 def main():
-    parser = argparse.ArgumentParser(description=__doc__, formatter_class=argparse.RawDescriptionHelpFormatter)
+    # with no width argparse takes in shutil to ask the terminal, at each run
+    formatter = functools.partial(argparse.RawDescriptionHelpFormatter, width=110)
+    parser = argparse.ArgumentParser(description=__doc__, formatter_class=formatter)
     parser.add_argument('designs', nargs='+', metavar='FILE.asc or FOLDER', help='- for standard input')
     parser.add_argument('--json', action='store_true', help='one JSON document in place of lines')
     parser.add_argument('--card', metavar='FILE.html', help='write a page on the one design that is given')

@@ -2,21 +2,21 @@
 // table' and 'Cells'). The functions ask for a table that breaks no rule and for exact lengths; what reading and writing are stands in `codec`.
 ghost use mathlib.Core.Path.{_≡_};
 ghost use mathlib.Core.Bool.{true};
-ghost use Prim.Native.Nat.{ℕ, _<_, _≤_};
+ghost use Prim.Native.Nat.{_<_};
 ghost use lib.ListN.{length};
 ghost use Rattle.lists.specs.Tables.{zeros};
 ghost use Rattle.routing.specs.LogicTile.{logicTile};
 ghost use Rattle.routing.specs.Rules.{TableRules};
 ghost use Rattle.routing.specs.Slots.{slotCount, fieldSlots, passiveSlots, groupSlots};
 ghost use Rattle.routing.specs.Claiming.{TableOwned};
-ghost use Rattle.ports.specs.Lengths.{tileNumbers, settingsLength, maxGroups};
-ghost use Rattle.codec.specs.Settings.{groupSetting};
+ghost use Rattle.ports.specs.Lengths.{tileNumbers, settingsLength};
 ghost use Rattle.codec.specs.Bits.{bitAt, tileOf};
 ghost use Rattle.codec.specs.Decode.{decode};
 ghost use Rattle.codec.specs.Fault.{tileFault};
 ghost use Rattle.codec.specs.Encode.{encode};
 ghost use Rattle.codec.specs.Limits.{settingsFit, fitsWithin};
 ghost use Rattle.codec.specs.Writing.{Writable, TileWritten};
+use crate::groups::after_off;
 use crate::reading::try_decode;
 use codec::bits::is_empty;
 use codec::bits::write_bit;
@@ -35,6 +35,7 @@ use codec::settings::setting_at;
 use ports::lengths::POSITIONS;
 use ports::lengths::SETTINGS_LENGTH;
 
+mod groups;
 mod reading;
 
 // The lowest position at fault; 864 where the tile can be decoded. `own` is the ownership map of the table.
@@ -124,23 +125,6 @@ fn write_passives(table: &[u16], settings: &[u16], bits: &mut [u64])
         write_bit(bits, p, settings[PASSIVES_FROM + j] as u8);
         j += 1;
     }
-}
-
-// The next group to look at behind one that is off: groups that are off are passed over four at a time.
-fn after_off(settings: &[u16], g: usize, n: usize) -> usize
-    requires { ⌜ (length (now settings) ≡ settingsLength) × (g < n) × (n ≤ maxGroups) × (groupSetting logicTile (now settings) g ≡ 0) ⌝ }
-    ensures { λ r. ⌜ (g < r) × (r ≤ n) × ((j : ℕ) → g ≤ j → j < r → groupSetting logicTile (now (settings .entry)) j ≡ 0) ⌝ }
-{
-    let mut at = g + 1;
-    while at + 4 <= n {
-        let from = GROUPS_FROM + at;
-        let any = settings[from] | settings[from + 1] | settings[from + 2] | settings[from + 3];
-        if any != 0 {
-            return at;
-        }
-        at += 4;
-    }
-    at
 }
 
 // The groups written after the passive bits. Most groups of most tiles are off: nothing is written for them.

@@ -1,5 +1,5 @@
-// Reading a tile in one pass over its set bits, which are few: each makes the setting that it belongs to known, or shows that the tile cannot be
-// decoded. Which position is at fault is another search (`tile_fault`).
+// Reading a tile in one pass over its set bits, which are few: each goes to the setting that it belongs to, where a group's pattern comes together, or
+// shows that the tile cannot be decoded. Then each pattern is looked up. Which position is at fault is another search (`tile_fault`).
 ghost use mathlib.Core.Path.{_≡_};
 ghost use mathlib.Core.Bool.{true, false};
 ghost use Prim.Native.Nat.{_<_};
@@ -13,13 +13,13 @@ ghost use Rattle.codec.specs.Bits.{bitAt, tileOf};
 ghost use Rattle.ports.specs.Lengths.{tileNumbers, settingsLength};
 ghost use Rattle.codec.specs.Decode.{decode};
 ghost use Rattle.codec.specs.Fault.{tileFault};
-ghost use Rattle.tile.specs.Taking.{Known, Learned, Taken, TakenRow, WithoutCell, Undecodable};
+ghost use Rattle.tile.specs.Taking.{Gathered, Learned, Taken, TakenRow, WithoutCell, Undecodable};
+use crate::groups::find_settings;
 use codec::bits::UNIT;
 use codec::bits::is_empty;
 use codec::cells::decode_cells;
 use codec::cells::put_cells;
 use codec::settings::GROUPS_FROM;
-use codec::settings::group_setting;
 use codec::settings::has_both_carries;
 use ports::lengths::MAX_POSITIONS;
 use ports::lengths::TILE_NUMBERS;
@@ -27,10 +27,10 @@ use routing::slots::FIELD_CODES;
 use routing::slots::GROUP_CODES;
 use words::stray::PAST_COLUMNS;
 
-// The set bit at p; whether it is in order. A group is read at its first set bit that is met. The cells are read as a whole, elsewhere.
+// The set bit at p; whether something claims it. A group's bit is put into the group's pattern. The cells are read as a whole, elsewhere.
 fn take_bit(table: &[u16], own: &[u16], bits: &[u64], p: usize, settings: &mut [u16]) -> bool
     requires { ⌜ (TableRules logicTile (now table)) × (TableOwned logicTile (now table) (slotCount logicTile) (now own)) ×
-        (length (now bits) ≡ tileNumbers) × (p < logicTile .positions) × (bitAt (now bits) p ≡ 1) × Known (now table) (now bits) (now settings) ⌝ }
+        (length (now bits) ≡ tileNumbers) × (p < logicTile .positions) × (bitAt (now bits) p ≡ 1) × Gathered (now table) (now bits) (now settings) ⌝ }
     ensures yes { λ r. ⌜ (r ≡ true → Learned (now (table .entry)) (now (bits .entry)) (now (settings .entry)) (now (settings .exit)) ×
         Taken (now (table .entry)) (now (settings .exit)) p) ⌝ }
     ensures no { λ r. ⌜ (r ≡ false → Undecodable (now (table .entry)) (now (bits .entry))) ⌝ }
@@ -43,15 +43,9 @@ fn take_bit(table: &[u16], own: &[u16], bits: &[u64], p: usize, settings: &mut [
         settings[code - FIELD_CODES] = 1;
         return true;
     }
-    let g = (code - GROUP_CODES) / MAX_POSITIONS;
-    if settings[GROUPS_FROM + g] != 0 {
-        return true;
-    }
-    let e = group_setting(table, g, bits);
-    if e == 0 {
-        return false;
-    }
-    settings[GROUPS_FROM + g] = e;
+    let n = code - GROUP_CODES;
+    let i = GROUPS_FROM + n / MAX_POSITIONS;
+    settings[i] = settings[i] | (1 << (n % MAX_POSITIONS));
     true
 }
 
@@ -71,7 +65,7 @@ fn without_cell(row: u64) -> u64
 // Rules out: a set bit past the columns left out.
 fn take_row(table: &[u16], own: &[u16], bits: &[u64], i: usize, settings: &mut [u16]) -> bool
     requires { ⌜ (TableRules logicTile (now table)) × (TableOwned logicTile (now table) (slotCount logicTile) (now own)) ×
-        (length (now bits) ≡ tileNumbers) × (i < tileNumbers) × Known (now table) (now bits) (now settings) ⌝ }
+        (length (now bits) ≡ tileNumbers) × (i < tileNumbers) × Gathered (now table) (now bits) (now settings) ⌝ }
     ensures yes { λ r. ⌜ (r ≡ true → Learned (now (table .entry)) (now (bits .entry)) (now (settings .entry)) (now (settings .exit)) ×
         TakenRow (now (table .entry)) (now (bits .entry)) (now (settings .exit)) i) ⌝ }
     ensures no { λ r. ⌜ (r ≡ false → Undecodable (now (table .entry)) (now (bits .entry))) ⌝ }
@@ -109,6 +103,9 @@ pub fn try_decode(table: &[u16], own: &[u16], bits: &[u64], settings: &mut [u16]
             return false;
         }
         i += 1;
+    }
+    if !find_settings(table, settings) {
+        return false;
     }
     let cells = decode_cells(bits);
     put_cells(settings, cells);

@@ -1,4 +1,4 @@
--- `after_off` meets its contract. Invariant: the groups from g on and before `at` are off. Measure: the groups left. Assumes nothing.
+-- `groups::after_off` meets its contract. Invariant: the groups from g on and before `at` are off. Measure: the groups left. Assumes nothing.
 use mathlib.Core.Path.{_≡_}
 use Prim.Native.Nat.{_+_, _-_, _<_, _≤_}
 use native.Mathlib.Omega.{arith}
@@ -6,8 +6,8 @@ use borrow.Author.Needs.{needs}
 use Rattle.routing.specs.LogicTile.{logicTile}
 use Rattle.codec.specs.Settings.{groupsFrom}
 use Rattle.tile.proofs.WritingLaws.{Off, off-here, off-four}
-use Rattle.tile.proofs.after_off.Statement.{statement}
-use Rattle.tile.proofs.after_off.Tie as tie
+use Rattle.tile.proofs.groups.after_off.Statement.{statement}
+use Rattle.tile.proofs.groups.after_off.Tie as tie
 
 abbrev Inv-loop : tie.InvT-loop
 Inv-loop settings g n at₀ at = (g < at) × (at ≤ n) × Off settings g at

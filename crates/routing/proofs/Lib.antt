@@ -4,7 +4,7 @@ pub mod SlotLaws  -- slot-at-cell, -field, -passive, -group; slot-used-..; slot-
 pub mod LogicTileLaws  -- logic-tile-once: the 160 cell positions of the logic tile are in the tile and differ
 pub mod PositionLaws  -- position-exact: the test of one position and its rule; the turns of claiming it
 pub mod EntryLaws  -- the ways through the test of an entry
-pub mod MarkLaws  -- mark-again, mark-new: an entry's pattern is new in its group exactly if it is not marked
+pub mod MarkLaws  -- mark-again, mark-new: an entry's pattern is new in its group exactly if it does not have the group's mark
 pub mod GroupLaws  -- group-exact: the test of one group and its rules
 pub mod TableCheckLaws  -- table-exact: the check and the rules; faulty-part-exact: the place of ground 3 is the first broken part
 pub mod TableOnceLaws  -- table-once: a table that keeps the rules claims no position twice

@@ -8,4 +8,4 @@ pub mod Rules  -- believed. TableRules: document 01's rules, sentence by sentenc
 pub mod Claims  -- computed: claims-exact. ClaimedOnce: "none is claimed twice", over who claims, which is what the rules say
 pub mod TableCheck  -- computed: table-exact, faulty-part-exact. faultyPart: the first part that breaks a rule (ground 3)
 pub mod Claiming  -- inner. SlotRun, TableOwned: what claiming a part's positions takes and leaves
-pub mod Marks  -- inner. Marked: the patterns of a group's first entries, while it is checked
+pub mod Marks  -- inner. Marked, MarkedBefore: the patterns of a group's first entries, marked while it is checked

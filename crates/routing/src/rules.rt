@@ -9,9 +9,11 @@ ghost use Rattle.ports.specs.Lengths.{maxGroups, tableLength};
 ghost use Rattle.routing.specs.Table.{groupCount};
 ghost use Rattle.routing.specs.Slots.{groupSlots, groupSlot, slotCount};
 ghost use Rattle.routing.specs.Claiming.{TableOwned};
+ghost use Rattle.routing.specs.Marks.{MarkedBefore};
 ghost use Rattle.routing.specs.TableCheck.{fieldsOk, passivesOk, groupOk, faultyPart, tableOk};
 use crate::claims::claim;
 use crate::claims::claim_cells;
+use crate::groups::PATTERNS;
 use crate::groups::group_alone_ok;
 use crate::slots::FIELD_SLOTS;
 use crate::slots::GROUP_SLOTS;
@@ -28,13 +30,14 @@ use ports::lengths::MAX_POSITIONS;
 use ports::lengths::POSITIONS;
 
 // Group g by itself and with all that was claimed before it.
-fn check_group(table: &[u16], g: usize, own: &mut [u16]) -> bool
+fn check_group(table: &[u16], g: usize, seen: &mut [u16; PATTERNS], own: &mut [u16]) -> bool
     requires { ⌜ (length (now table) ≡ tableLength) × (g < maxGroups) × (g < groupCount logicTile (now table)) ×
-        (TableOwned logicTile (now table) (groupSlot logicTile g) (now own)) ⌝ }
+        MarkedBefore g (now seen) × (TableOwned logicTile (now table) (groupSlot logicTile g) (now own)) ⌝ }
     ensures answer { λ r. ⌜ r ≡ groupOk logicTile (now (table .entry)) g ⌝ }
+    ensures seen { λ r. ⌜ (r ≡ true → MarkedBefore (g + 1) (now (seen .exit))) ⌝ }
     ensures map { λ r. ⌜ (r ≡ true → TableOwned logicTile (now (table .entry)) (groupSlot logicTile (g + 1)) (now (own .exit))) ⌝ }
 {
-    if !group_alone_ok(table, g) {
+    if !group_alone_ok(table, g, seen) {
         return false;
     }
     let w = width(table, g);
@@ -42,7 +45,7 @@ fn check_group(table: &[u16], g: usize, own: &mut [u16]) -> bool
     claim(table, start, w, GROUP_SLOTS + MAX_POSITIONS * g, own)
 }
 
-// The groups, after fields and passive list.
+// The groups, after fields and passive list. All of them mark their patterns in one array, which starts as zeros: see `group_alone_ok`.
 fn check_groups(table: &[u16], own: &mut [u16]) -> usize
     requires { ⌜ (length (now table) ≡ tableLength) × (fieldsOk logicTile (now table) ≡ true) ×
         (passivesOk logicTile (now table) ≡ true) × (TableOwned logicTile (now table) (groupSlots logicTile) (now own)) ⌝ }
@@ -51,12 +54,13 @@ fn check_groups(table: &[u16], own: &mut [u16]) -> usize
         (slotCount logicTile) (now (own .exit))) ⌝ }
 {
     let n = group_count(table);
+    let mut seen = [0u16; PATTERNS];
     let mut g = 0;
     while g < n {
         if g == MAX_GROUPS {
             return 2 + MAX_GROUPS;
         }
-        if !check_group(table, g, own) {
+        if !check_group(table, g, &mut seen, own) {
             return 2 + g;
         }
         g += 1;

@@ -1,5 +1,5 @@
 -- `groups::entry_ok` is `entryOk`: a return for each test. Assumes nothing.
-use mathlib.Core.Bool.{true, false}
+use mathlib.Core.Logic.{_≢_}
 use mathlib.Core.Path.{_≡_, refl, sym, ap, subst, _∙_}
 use Prim.Native.Nat.{ℕ, _+_, _^_, _<_}
 use native.Mathlib.Omega.{arith}
@@ -54,6 +54,15 @@ returns-2 c =
 cast-i : tie.Need-cast-i
 cast-i c = search needs
 
+add-mark : tie.Need-add-mark
+add-mark c = search needs
+
+cast-mark : tie.Need-cast-mark
+cast-mark c = search needs
+
+mul-if3 : tie.Need-mul-if3
+mul-if3 c = search needs
+
 element-copy-out-if3 : tie.Need-element-copy-out-if3
 element-copy-out-if3 c =
     let at-start = c .before .before .before .before .before in
@@ -83,9 +92,12 @@ returns-3 c =
       entry-again logicTile (at-start .args .table .now) (at-start .args .g) (at-start .args .e)
           (λ z. at-if1 .if1 .left (at-pattern .pattern .ensures ∙ z)) fits
           (mark-again logicTile (at-start .args .table .now) (at-start .args .g) (at-start .args .e) (at-start .args .seen .now) (at-start .pre .5) few
-          (subst (λ (x : ℕ). getD (at-start .args .seen .now) x false ≡ true) (at-pattern .pattern .ensures) (c .if3 .taken))),
+          (subst (λ (x : ℕ). getD (at-start .args .seen .now) x 0 ≡ at-start .args .g + 1) (at-pattern .pattern .ensures) (c .if3 .taken))),
       λ z. clash z refl,
     )
+
+mul-seen : tie.Need-mul-seen
+mul-seen c = search needs
 
 element-write-seen : tie.Need-element-write-seen
 element-write-seen c =
@@ -124,10 +136,10 @@ returns-4 c =
       c .is-source .ensures ∙ ap isSource (at-source .source .ensures) ∙ entry-new logicTile (at-start .args .table .now) (at-start .args .g)
           (at-start .args .e) (λ z. at-if1 .if1 .left (at-pattern .pattern .ensures ∙ z)) fits
           (mark-new logicTile (at-start .args .table .now) (at-start .args .g) (at-start .args .e) (at-start .args .seen .now) (at-start .pre .5) few
-          (at-start .pre .2) (subst (λ (x : ℕ). getD (at-start .args .seen .now) x false ≡ false) (at-pattern .pattern .ensures)
+          (at-start .pre .2) (subst (λ (x : ℕ). getD (at-start .args .seen .now) x 0 ≢ at-start .args .g + 1) (at-pattern .pattern .ensures)
           (at-if3 .if3 .left))),
       λ z. subst (λ (x : ℕ). Marked logicTile (at-start .args .table .now) (at-start .args .g) ((at-start .args .e) + 1)
-          (set (at-start .args .seen .now) x true)) (sym (at-pattern .pattern .ensures))
+          (set (at-start .args .seen .now) x (at-start .args .g + 1))) (sym (at-pattern .pattern .ensures))
           (mark-more logicTile (at-start .args .table .now) (at-start .args .g) (at-start .args .e) (at-start .args .seen .now) (at-start .pre .5) few),
     )
 
@@ -142,8 +154,12 @@ entry-ok-spec =
     shl-top
     returns-2
     cast-i
+    add-mark
+    cast-mark
+    mul-if3
     element-copy-out-if3
     returns-3
+    mul-seen
     element-write-seen
     source-requires
     is-source-requires

@@ -16,10 +16,10 @@ group-alone-ok-requires c κs = search needs
 -- it breaks a rule by itself
 returns : tie.Need-returns
 returns c =
-    let at-start = c .before .before .before .before in
+    let at-start = c .before .before .before .before .before in
     let table = at-start .args .table .now in
     let g = at-start .args .g in
-    (sym (group-alone logicTile table g (sym (c .before .group-alone-ok .ensures) ∙ not-true _ (c .if1 .taken))), λ z. clash z refl)
+    (sym (group-alone logicTile table g (sym (c .before .group-alone-ok .ensures .0) ∙ not-true _ (c .if1 .taken))), (λ z. clash z refl, λ z. clash z refl))
 
 width-requires : tie.Need-width-requires
 width-requires c κs = search needs
@@ -38,13 +38,13 @@ claim-requires c κs =
     let at-width = c .before .before in
     let at-if1 = at-width .before in
     let at-group-alone-ok = at-if1 .before in
-    let at-start = at-group-alone-ok .before .before .before in
+    let at-start = at-group-alone-ok .before .before .before .before in
     let table = at-start .args .table .now in
     let g = at-start .args .g in
-    let alone = sym (at-group-alone-ok .group-alone-ok .ensures) ∙ not-false _ (at-if1 .if1 .left) in
+    let alone = sym (at-group-alone-ok .group-alone-ok .ensures .0) ∙ not-false _ (at-if1 .if1 .left) in
     let narrow = alone-width logicTile table g alone _ (at-width .width .ensures) in (
       group-run logicTile table (omega (arith, at-start .pre .0)) g _ _ (at-start .pre .2) (at-start .pre .1) (at-width .width .ensures) narrow (c .before .positions-start .ensures),
-      at-start .pre .3,
+      at-start .pre .4,
     )
 
 same-length : tie.Need-same-length
@@ -57,13 +57,16 @@ returns-2 c =
     let at-width = at-claim .before .before .before in
     let at-if1 = at-width .before in
     let at-group-alone-ok = at-if1 .before in
-    let at-start = at-group-alone-ok .before .before .before in
+    let at-start = at-group-alone-ok .before .before .before .before in
     let table = at-start .args .table .now in
     let g = at-start .args .g in
-    let alone = sym (at-group-alone-ok .group-alone-ok .ensures) ∙ not-false _ (at-if1 .if1 .left) in
+    let alone = sym (at-group-alone-ok .group-alone-ok .ensures .0) ∙ not-false _ (at-if1 .if1 .left) in
     let narrow = alone-width logicTile table g alone _ (at-width .width .ensures) in (
       group-claimed logicTile table g alone _ (at-width .width .ensures) _ (at-claim .claim .ensures .0),
-      λ z. owned-group logicTile table g _ _ (at-start .pre .2) (at-width .width .ensures) narrow (at-claim .claim .ensures .1 z),
+      (
+        λ z. at-group-alone-ok .group-alone-ok .ensures .1 (not-false _ (at-if1 .if1 .left)),
+        λ z. owned-group logicTile table g _ _ (at-start .pre .2) (at-width .width .ensures) narrow (at-claim .claim .ensures .1 z),
+      ),
     )
 
 pub check-group-spec : {M : Type 1} → statement M

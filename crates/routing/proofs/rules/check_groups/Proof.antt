@@ -1,24 +1,28 @@
--- `rules::check_groups` finds the first broken part among the groups. Invariant: the map has the slots before group g, and the search
--- from part 2 + g on ends where the whole one does (`Seen`). Measure: the groups left. Assumes nothing.
+-- `rules::check_groups` finds the first broken part among the groups. Invariant: the map has the slots before group g, the search
+-- from part 2 + g on ends where the whole one does (`Seen`), and only groups before g have marked patterns. Measure: the groups left.
+-- Assumes nothing.
 use Rattle.routing.proofs.PartSearch.{faulty-not-ok, Seen, seen-start, seen-over, seen-broken, seen-step, seen-end}
 use Rattle.routing.proofs.ClaimingLaws.{owned-all}
+use Rattle.routing.proofs.MarkLaws.{mark-start}
 use Rattle.routing.specs.Claiming.{TableOwned}
+use Rattle.routing.specs.Marks.{MarkedBefore}
 use Rattle.routing.specs.Slots.{groupSlot}
 use Rattle.ports.specs.Lengths.{maxGroups}
 use Rattle.routing.specs.LogicTile.{logicTile}
 use borrow.Author.Tests.{not-true, not-false}
 use borrow.Author.Needs.{needs}
 use native.Mathlib.Omega.{arith}
-use mathlib.Core.Path.{sym, _∙_}
+use mathlib.Core.Path.{refl, sym, _∙_}
 use Prim.Native.Nat.{_-_, _≤_}
 use Rattle.routing.proofs.rules.check_groups.Statement.{statement}
 use Rattle.routing.proofs.rules.check_groups.Tie as tie
 
 abbrev Inv-loop : tie.InvT-loop
-Inv-loop table own₀ n g₀ own g = (g ≤ n) × (g ≤ maxGroups) × TableOwned logicTile table (groupSlot logicTile g) own × Seen logicTile table n g
+Inv-loop table own₀ n seen₀ g₀ own seen g =
+    (g ≤ n) × (g ≤ maxGroups) × TableOwned logicTile table (groupSlot logicTile g) own × Seen logicTile table n g × MarkedBefore g seen
 
 abbrev μ-loop : tie.MeasureT-loop
-μ-loop table own₀ n g₀ own g = n - g
+μ-loop table own₀ n seen₀ g₀ own seen g = n - g
 
 group-count-requires : tie.Need-group-count-requires Inv-loop μ-loop
 group-count-requires c κs = search needs
@@ -27,7 +31,8 @@ loop-holds : tie.Need-loop-holds Inv-loop μ-loop
 loop-holds c =
     let at-start = c .before .before .before in
     let table = at-start .args .table .now in
-    (omega arith, omega arith, at-start .pre .3, seen-start logicTile table _ (c .group-count .ensures) (at-start .pre .1) (at-start .pre .2))
+    let start = seen-start logicTile table _ (c .group-count .ensures) (at-start .pre .1) (at-start .pre .2) in
+    (omega arith, omega arith, at-start .pre .3, start, mark-start _ refl)
 
 add-result : tie.Need-add-result Inv-loop μ-loop
 add-result c = search needs
@@ -52,11 +57,11 @@ returns c =
 
 check-group-requires : tie.Need-check-group-requires Inv-loop μ-loop
 check-group-requires c κs =
-    let at-loop = c .before .before .before in
+    let at-loop = c .before .before .before .before in
     let at-group-count = at-loop .before in
     let at-start = at-group-count .before .before .before in
     let count = at-group-count .group-count .ensures in
-    (at-start .pre .0, omega arith, omega arith, at-loop .loop .inv .2)
+    (at-start .pre .0, omega arith, omega arith, at-loop .loop .inv .4, at-loop .loop .inv .2)
 
 add-result-2 : tie.Need-add-result-2 Inv-loop μ-loop
 add-result-2 c = search needs
@@ -68,7 +73,7 @@ same-length-2 c = search needs
 returns-2 : tie.Need-returns-2 Inv-loop μ-loop
 returns-2 c =
     let at-check-group = c .before .before .before in
-    let at-loop = at-check-group .before .before .before .before in
+    let at-loop = at-check-group .before .before .before .before .before in
     let at-group-count = at-loop .before in
     let at-start = at-group-count .before .before .before in
     let table = at-start .args .table .now in
@@ -87,7 +92,7 @@ loop-less c = search needs
 loop-again : tie.Need-loop-again Inv-loop μ-loop
 loop-again c =
     let at-check-group = c .before .before .before in
-    let at-loop = at-check-group .before .before .before .before in
+    let at-loop = at-check-group .before .before .before .before .before in
     let at-group-count = at-loop .before in
     let at-start = at-group-count .before .before .before in
     let table = at-start .args .table .now in
@@ -95,8 +100,9 @@ loop-again c =
     let group = sym (at-check-group .check-group .ensures .0) ∙ passes in (
       omega arith,
       omega arith,
-      at-check-group .check-group .ensures .1 passes,
+      at-check-group .check-group .ensures .1 .1 passes,
       seen-step logicTile table (at-group-count .group-count .result) (at-loop .loop .g) (at-loop .loop .inv .3) (omega arith) (omega arith) group,
+      at-check-group .check-group .ensures .1 .0 passes,
     )
 
 add-result-3 : tie.Need-add-result-3 Inv-loop μ-loop

@@ -38,7 +38,8 @@ fn blocks(data: &Path) -> Vec<(Block, bool)> {
     blocks.push((big.beside_logic(), true));
     blocks.push((big.empty(), true));
     let made = [worst::chain_block(), worst::loop_block(), worst::groups_block(), worst::entries_block()];
-    blocks.extend(made.map(|block| (block, false)));
+    let crowded = [worst::tile_wire_block(), worst::row_wire_block()];
+    blocks.extend(made.into_iter().chain(crowded).map(|block| (block, false)));
     blocks
 }
 

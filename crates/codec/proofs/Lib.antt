@@ -1,6 +1,7 @@
 -- The laws of `codec` that its callers cite.
 pub mod BitLaws  -- bit-set-same, bit-set-other: a bit written and read; bits-ext: lists that agree at each bit are equal
 pub mod SetBitsLaws  -- set-bits-at, set-bits-other, set-bits-back: a number's digits at a run of positions
+pub mod HeldLaws  -- held-there, held-added: a row held as it stands, and a clear bit added to it
 pub mod TenLaws  -- ten-is: ten bits side by side; value-of-tens: a cell is two tens
 pub mod GroupLaws  -- setting-back, pattern-back: a group's setting and its pattern
 pub mod EncodeLaws  -- encode-slot: written, then read; encode-is: read, then written

@@ -105,7 +105,7 @@ module _ (bits : List ℕ) (i value : ℕ) where
     free = set-bits-next bits (cellPosition i) value j p here (R .is) refl (clear j l) (λ m q z. omega (arith, cell-position-once i j i m l (omega arith) z .1))
 
     written : setBit here p bit ≡ setBits bits (cellPosition i) value (j + 1)
-    written = set-bits-turn bits (cellPosition i) value j p here (R .is) refl
+    written = ap (setBit here p) (and-one (value / 2 ^ j)) ∙ set-bits-turn bits (cellPosition i) value j p here (R .is) refl
 
     -- a bit of the first row
     module _ (h : k < 10) where

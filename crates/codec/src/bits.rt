@@ -2,7 +2,6 @@
 ghost use mathlib.Core.Path.{_≡_};
 ghost use Prim.Native.Nat.{_+_, _/_, _%_, _<_, _≤_};
 ghost use lib.ListN.{length};
-ghost use Rattle.routing.specs.LogicTile.{logicTile};
 ghost use Rattle.codec.specs.Bits.{unit, bitAt, setBit, tenFrom, isEmpty, bitCount};
 ghost use Rattle.ports.specs.Lengths.{tileNumbers};
 use ports::lengths::COLUMNS;
@@ -40,24 +39,6 @@ pub fn write_bit(bits: &mut [u64], p: usize, value: u8)
     let i = p / UNIT;
     let row = bits[i];
     bits[i] = digits::with_digit(row, p % UNIT, value);
-}
-
-// The row of a position. A product in place of a quotient: 1,214 is a little more than 65,536 / 54, and exact for a tile's positions.
-fn row_of(p: usize) -> usize
-    requires { ⌜ p < logicTile .positions ⌝ }
-    ensures { λ r. ⌜ r ≡ p / unit ⌝ }
-{
-    (p * 1214) >> 16
-}
-
-// The same where the bit is clear, so that there is nothing to take away.
-pub fn write_clear_bit(bits: &mut [u64], p: usize, value: u8)
-    requires { ⌜ (p < logicTile .positions) × (p / unit < length (now bits)) × (value < 2) × (bitAt (now bits) p ≡ 0) ⌝ }
-    ensures { λ r. ⌜ now (bits .exit) ≡ setBit (now (bits .entry)) p value ⌝ }
-{
-    let i = row_of(p);
-    let row = bits[i];
-    bits[i] = row + ((value as u64) << (p - UNIT * i));
 }
 
 // Whether no bit of a tile is set, nor one past a row's columns.

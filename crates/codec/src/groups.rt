@@ -1,13 +1,16 @@
 // The bits of one group of the routing table, and its setting (document 01, 'The routing table').
 ghost use mathlib.Core.Path.{_≡_};
 ghost use Prim.Native.Nat.{ℕ, _<_, _≤_};
+ghost use Rattle.ports.specs.Lengths.{tileNumbers};
 ghost use Rattle.routing.specs.LogicTile.{logicTile};
 ghost use Rattle.routing.specs.Table.{groupCount, widthOf, positionAt, entryCount};
 ghost use Rattle.routing.specs.Rules.{TableRules};
 ghost use Rattle.codec.specs.Bits.{setBits, bitAt};
+ghost use Rattle.codec.specs.Held.{withHeld};
 ghost use Rattle.codec.specs.Groups.{GroupLent, groupBit, groupPattern, settingOfPattern, readGroup, patternOf};
 use crate::bits::read_bit;
-use crate::bits::write_clear_bit;
+use crate::held::HeldRow;
+use crate::held::write_digit;
 
 // What reading a group gives: 0 for off, an entry from 1, or, for a pattern that the table does not list, the position at fault.
 pub enum GroupRead {
@@ -58,33 +61,49 @@ pub fn read_group(table: &[u16], g: usize, bits: &[u64]) -> GroupRead
     setting_of(table, g, pattern)
 }
 
-// A pattern written to a group's positions, which are clear, the first with weight 1.
-pub fn write_pattern(table: &[u16], g: usize, bits: &mut [u64], pattern: u16)
-    requires { ⌜ (GroupLent (now table) g (now bits)) ×
-        ((k : ℕ) → k < widthOf logicTile (now table) g → groupBit logicTile (now table) (bitAt (now bits)) g k ≡ 0) ⌝ }
-    ensures { λ r. ⌜ now (bits .exit) ≡ setBits (now (bits .entry)) (positionAt logicTile (now (table .entry)) g) pattern
-        (widthOf logicTile (now (table .entry)) g) ⌝ }
+// A pattern written to a group's positions, which are clear, the first with weight 1; one row is held over the positions.
+pub fn write_pattern(
+    table: &[u16],
+    g: usize,
+    bits: &mut [u64],
+    held: HeldRow,
+    pattern: u16,
+) -> HeldRow
+    requires { ⌜ (GroupLent (now table) g (now bits)) × (held .row < tileNumbers) ×
+        ((k : ℕ) → k < widthOf logicTile (now table) g → groupBit logicTile (now table) (bitAt (withHeld (now bits) held)) g k ≡ 0) ⌝ }
+    ensures row { λ r. ⌜ r .row < tileNumbers ⌝ }
+    ensures bits { λ r. ⌜ withHeld (now (bits .exit)) r ≡ setBits (withHeld (now (bits .entry)) held)
+        (positionAt logicTile (now (table .entry)) g) pattern (widthOf logicTile (now (table .entry)) g) ⌝ }
 {
     let n = routing::table::width(table, g);
+    let mut next = held;
     let mut k = 0;
     while k < n {
         let p = routing::table::position(table, g, k);
-        write_clear_bit(bits, p, ((pattern >> k) & 1) as u8);
+        next = write_digit(bits, next, p, pattern, k);
         k += 1;
     }
+    next
 }
 
 // A group's setting written where all its bits are clear, so that a group that is off takes no time.
-pub fn write_group(table: &[u16], g: usize, bits: &mut [u64], setting: u16)
-    requires { ⌜ (GroupLent (now table) g (now bits)) ×
-        (setting ≤ entryCount logicTile (now table) g) × ((k : ℕ) → k < widthOf logicTile (now table) g → groupBit logicTile
-        (now table) (bitAt (now bits)) g k ≡ 0) ⌝ }
-    ensures { λ r. ⌜ now (bits .exit) ≡ setBits (now (bits .entry)) (positionAt logicTile (now (table .entry)) g)
-        (patternOf logicTile (now (table .entry)) g setting) (widthOf logicTile (now (table .entry)) g) ⌝ }
+pub fn write_group(
+    table: &[u16],
+    g: usize,
+    bits: &mut [u64],
+    held: HeldRow,
+    setting: u16,
+) -> HeldRow
+    requires { ⌜ (GroupLent (now table) g (now bits)) × (held .row < tileNumbers) × (setting ≤ entryCount logicTile (now table) g) ×
+        ((k : ℕ) → k < widthOf logicTile (now table) g → groupBit logicTile (now table) (bitAt (withHeld (now bits) held)) g k ≡ 0) ⌝ }
+    ensures row { λ r. ⌜ r .row < tileNumbers ⌝ }
+    ensures bits { λ r. ⌜ withHeld (now (bits .exit)) r ≡ setBits (withHeld (now (bits .entry)) held)
+        (positionAt logicTile (now (table .entry)) g) (patternOf logicTile (now (table .entry)) g setting)
+        (widthOf logicTile (now (table .entry)) g) ⌝ }
 {
     if setting == 0 {
-        return;
+        return held;
     }
     let pattern = routing::table::pattern(table, g, setting as usize - 1);
-    write_pattern(table, g, bits, pattern);
+    write_pattern(table, g, bits, held, pattern)
 }

@@ -6,4 +6,5 @@ pub mod bits;
 pub mod cells;
 pub mod fault;
 pub mod groups;
+pub mod held;
 pub mod settings;

@@ -27,6 +27,8 @@ use codec::cells::put_cells;
 use codec::cells::write_cells;
 use codec::fault::is_fault_at;
 use codec::groups::write_group;
+use codec::held::hold_first;
+use codec::held::store_held;
 use codec::settings::GROUPS_FROM;
 use codec::settings::PASSIVES_FROM;
 use codec::settings::group_setting;
@@ -133,16 +135,18 @@ fn write_groups(table: &[u16], settings: &[u16], bits: &mut [u64])
     ensures { λ r. ⌜ TileWritten (now (table .entry)) (now (settings .entry)) (slotCount logicTile) (now (bits .exit)) ⌝ }
 {
     let n = routing::table::group_count(table);
+    let mut held = hold_first(bits);
     let mut g = 0;
     while g < n {
         let setting = settings[GROUPS_FROM + g];
         if setting != 0 {
-            write_group(table, g, bits, setting);
+            held = write_group(table, g, bits, held, setting);
             g += 1;
         } else {
             g = after_off(settings, g, n);
         }
     }
+    store_held(bits, held);
 }
 
 // A tile's settings written to its bits; the cells go through the array by value.

@@ -7,6 +7,7 @@ use Rattle.routing.specs.LogicTile.{logicTile}
 use Rattle.routing.specs.Table.{widthOf, positionAt}
 use Rattle.codec.specs.Groups.{patternOf}
 use Rattle.codec.specs.Bits.{setBits}
+use Rattle.codec.specs.Held.{withHeld}
 use Rattle.codec.proofs.GroupLaws.{pattern-entry}
 use Rattle.codec.proofs.SetBitsLaws.{set-bits-clear}
 use Rattle.codec.proofs.groups.write_group.Statement.{statement}
@@ -15,10 +16,13 @@ use Rattle.codec.proofs.groups.write_group.Tie as tie
 returns : tie.Need-returns
 returns c =
     let at-start = c .before .before .before in
-    sym (ap (λ (s : ℕ). setBits (at-start .args .bits .now) (positionAt logicTile (at-start .args .table .now) (at-start .args .g))
-    (patternOf logicTile (at-start .args .table .now) (at-start .args .g) s) (widthOf logicTile (at-start .args .table .now) (at-start .args .g)))
-    (c .if1 .taken) ∙ set-bits-clear (at-start .args .bits .now) (positionAt logicTile (at-start .args .table .now) (at-start .args .g))
-    (widthOf logicTile (at-start .args .table .now) (at-start .args .g)) (at-start .pre .2))
+    let meant = withHeld (at-start .args .bits .now) (at-start .args .held) in (
+      at-start .pre .1,
+      sym (ap (λ (s : ℕ). setBits meant (positionAt logicTile (at-start .args .table .now) (at-start .args .g))
+          (patternOf logicTile (at-start .args .table .now) (at-start .args .g) s) (widthOf logicTile (at-start .args .table .now) (at-start .args .g)))
+          (c .if1 .taken) ∙ set-bits-clear meant (positionAt logicTile (at-start .args .table .now) (at-start .args .g))
+          (widthOf logicTile (at-start .args .table .now) (at-start .args .g)) (at-start .pre .3)),
+    )
 
 sub-pattern : tie.Need-sub-pattern
 sub-pattern c = search needs
@@ -43,11 +47,13 @@ returns-2 c =
     let at-start = c .before .before .before .before .before .before .before .before in
     let at-if1 = c .before .before .before .before .before in
     let at-pattern = c .before .before .before .before in
-    let at-write-pattern = c .before .before in
-    at-write-pattern .write-pattern .ensures ∙ ap (λ (v : ℕ). setBits (at-start .args .bits .now)
-    (positionAt logicTile (at-start .args .table .now) (at-start .args .g)) v (widthOf logicTile (at-start .args .table .now) (at-start .args .g)))
-    (at-pattern .pattern .ensures ∙ pattern-entry logicTile (at-start .args .table .now) (at-start .args .g) (at-start .args .setting)
-    (at-if1 .if1 .left))
+    let at-write-pattern = c .before .before in (
+      at-write-pattern .write-pattern .ensures .0,
+      at-write-pattern .write-pattern .ensures .1 ∙ ap (λ (v : ℕ). setBits (withHeld (at-start .args .bits .now) (at-start .args .held))
+          (positionAt logicTile (at-start .args .table .now) (at-start .args .g)) v (widthOf logicTile (at-start .args .table .now) (at-start .args .g)))
+          (at-pattern .pattern .ensures ∙ pattern-entry logicTile (at-start .args .table .now) (at-start .args .g) (at-start .args .setting)
+          (at-if1 .if1 .left)),
+    )
 
 pub write-group-spec : {M : Type 1} → statement M
 write-group-spec =

@@ -1,26 +1,27 @@
 -- `write_pattern` meets its contract. Invariant: the first k digits are written. Measure: the positions left. Assumes nothing.
 use mathlib.Core.Path.{_≡_, sym, ap, _∙_, subst}
-use Prim.Native.Nat.{ℕ, _-_, _<_, _≤_, _/_, _^_}
+use Prim.Native.Nat.{ℕ, _-_, _<_, _≤_}
 use native.Mathlib.Omega.{arith}
 use borrow.Author.Needs.{needs}
 use lib.ListN.{length}
-use Rattle.digits.proofs.MaskLaws.{and-one}
 use Rattle.routing.specs.Table.{widthOf, positionAt}
 use Rattle.routing.specs.LogicTile.{logicTile}
 use Rattle.ports.specs.Lengths.{tileNumbers}
 use Rattle.codec.specs.Bits.{setBits}
+use Rattle.codec.specs.Held.{withHeld}
 use Rattle.codec.proofs.TileRunLaws.{group-position-lt}
 use Rattle.codec.proofs.SetBitsLaws.{set-bits-next, set-bits-turn}
 use Rattle.codec.proofs.FaultyLaws.{group-position-once}
-use Rattle.codec.proofs.BitLaws.{position-within}
 use Rattle.codec.proofs.groups.write_pattern.Statement.{statement}
 use Rattle.codec.proofs.groups.write_pattern.Tie as tie
 
 abbrev Inv-loop : tie.InvT-loop
-Inv-loop table g bits₀ pattern n k₀ bits k = (k ≤ n) × (length bits ≡ tileNumbers) × (bits ≡ setBits bits₀ (positionAt logicTile table g) pattern k)
+Inv-loop table g bits₀ pattern n next₀ k₀ bits next k =
+    (k ≤ n) × (length bits ≡ tileNumbers) × (next .row < tileNumbers) ×
+    (withHeld bits next ≡ setBits (withHeld bits₀ next₀) (positionAt logicTile table g) pattern k)
 
 abbrev μ-loop : tie.MeasureT-loop
-μ-loop table g bits₀ pattern n k₀ bits k = n - k
+μ-loop table g bits₀ pattern n next₀ k₀ bits next k = n - k
 
 width-requires : tie.Need-width-requires Inv-loop μ-loop
 width-requires c κs = let at-start = c .before .before in (at-start .pre .0 .0 .long, omega (arith, at-start .pre .0 .0 .few-groups))
@@ -39,38 +40,22 @@ position-requires c κs =
           (arith, at-width .width .ensures, at-start .pre .0 .0 .groups (at-start .args .g) (at-start .pre .0 .1) .few-positions),
     )
 
-cast-write-clear-bit : tie.Need-cast-write-clear-bit Inv-loop μ-loop
-cast-write-clear-bit c =
-    let at-start = c .before .before .before .before .before .before .before in
-    let at-width = c .before .before .before .before in
-    omega (arith, at-width .width .ensures, at-start .pre .0 .0 .groups (at-start .args .g) (at-start .pre .0 .1) .few-positions)
-
-shr-write-clear-bit : tie.Need-shr-write-clear-bit Inv-loop μ-loop
-shr-write-clear-bit c =
-    let at-start = c .before .before .before .before .before .before .before in
-    let at-width = c .before .before .before .before in
-    omega (arith, at-width .width .ensures, at-start .pre .0 .0 .groups (at-start .args .g) (at-start .pre .0 .1) .few-positions)
-
-cast-write-clear-bit-2 : tie.Need-cast-write-clear-bit-2 Inv-loop μ-loop
-cast-write-clear-bit-2 c =
-    let at-start = c .before .before .before .before .before .before .before in
-    let at-loop = c .before .before .before in
-    omega (arith, and-one (at-start .args .pattern / 2 ^ at-loop .loop .k))
-
-write-clear-bit-requires : tie.Need-write-clear-bit-requires Inv-loop μ-loop
-write-clear-bit-requires c κs =
+write-digit-requires : tie.Need-write-digit-requires Inv-loop μ-loop
+write-digit-requires c κs =
     let at-start = c .before .before .before .before .before .before .before in
     let at-width = c .before .before .before .before in
     let at-loop = c .before .before .before in
-    let within = subst (λ (x : ℕ). x < 864) (sym (c .before .position .ensures))
-    (group-position-lt (at-start .args .table .now) (at-start .pre .0 .0) (at-start .args .g) (at-loop .loop .k) (at-start .pre .0 .1)
-    (omega (arith, at-width .width .ensures))) in (
-      within,
-      position-within within (at-loop .loop .inv .1),
-      omega (arith, and-one (at-start .args .pattern / 2 ^ at-loop .loop .k)),
-      set-bits-next (at-start .args .bits .now) (positionAt logicTile (at-start .args .table .now) (at-start .args .g)) (at-start .args .pattern)
-          (at-loop .loop .k) _ (at-loop .loop .bits) (at-loop .loop .inv .2) (c .before .position .ensures)
-          (at-start .pre .1 (at-loop .loop .k) (omega (arith, at-width .width .ensures)))
+    let few = at-start .pre .0 .0 .groups (at-start .args .g) (at-start .pre .0 .1) .few-positions in (
+      subst (λ (x : ℕ). x < 864) (sym (c .before .position .ensures))
+          (group-position-lt (at-start .args .table .now) (at-start .pre .0 .0) (at-start .args .g) (at-loop .loop .k) (at-start .pre .0 .1)
+          (omega (arith, at-width .width .ensures))),
+      at-loop .loop .inv .1,
+      at-loop .loop .inv .2,
+      omega (arith, at-width .width .ensures, few),
+      set-bits-next (withHeld (at-start .args .bits .now) (at-start .args .held))
+          (positionAt logicTile (at-start .args .table .now) (at-start .args .g)) (at-start .args .pattern)
+          (at-loop .loop .k) _ (withHeld (at-loop .loop .bits) (at-loop .loop .next)) (at-loop .loop .inv .3) (c .before .position .ensures)
+          (at-start .pre .2 (at-loop .loop .k) (omega (arith, at-width .width .ensures)))
           (λ j l e. omega (
             arith,
             group-position-once (at-start .args .table .now) (at-start .pre .0 .0) (at-start .args .g) (at-loop .loop .k) j (at-start .pre .0 .1)
@@ -89,12 +74,13 @@ loop-again c =
     let at-start = c .before .before .before .before .before .before .before .before .before .before in
     let at-loop = c .before .before .before .before .before .before in
     let at-position = c .before .before .before .before in
-    let at-write-clear-bit = c .before .before in (
+    let at-write-digit = c .before .before in (
       omega arith,
-      at-write-clear-bit .write-clear-bit .kept .0 ∙ at-loop .loop .inv .1,
-      at-write-clear-bit .write-clear-bit .ensures ∙ set-bits-turn
-          (at-start .args .bits .now) (positionAt logicTile (at-start .args .table .now) (at-start .args .g)) (at-start .args .pattern)
-          (at-loop .loop .k) _ (at-loop .loop .bits) (at-loop .loop .inv .2) (at-position .position .ensures),
+      at-write-digit .write-digit .kept .0 ∙ at-loop .loop .inv .1,
+      at-write-digit .write-digit .ensures .0,
+      at-write-digit .write-digit .ensures .1 ∙ set-bits-turn (withHeld (at-start .args .bits .now) (at-start .args .held))
+          (positionAt logicTile (at-start .args .table .now) (at-start .args .g)) (at-start .args .pattern)
+          (at-loop .loop .k) _ (withHeld (at-loop .loop .bits) (at-loop .loop .next)) (at-loop .loop .inv .3) (at-position .position .ensures),
     )
 
 same-length : tie.Need-same-length Inv-loop μ-loop
@@ -104,10 +90,12 @@ returns : tie.Need-returns Inv-loop μ-loop
 returns c =
     let at-start = c .before .before .before .before .before in
     let at-width = c .before .before in
-    let at-loop = c .before in
-    at-loop .loop .inv .2 ∙ ap (setBits (at-start .args .bits .now) (positionAt logicTile (at-start .args .table .now) (at-start .args .g))
-    (at-start .args .pattern)) (let e : at-loop .loop .k ≡ widthOf logicTile (at-start .args .table .now) (at-start .args .g) = omega
-    (arith, at-width .width .ensures) in e)
+    let at-loop = c .before in (
+      at-loop .loop .inv .2,
+      at-loop .loop .inv .3 ∙ ap (setBits (withHeld (at-start .args .bits .now) (at-start .args .held))
+          (positionAt logicTile (at-start .args .table .now) (at-start .args .g)) (at-start .args .pattern))
+          (let e : at-loop .loop .k ≡ widthOf logicTile (at-start .args .table .now) (at-start .args .g) = omega (arith, at-width .width .ensures) in e),
+    )
 
 pub write-pattern-spec : {M : Type 1} → statement M
 write-pattern-spec =
@@ -118,10 +106,7 @@ write-pattern-spec =
     width-requires
     loop-holds
     position-requires
-    cast-write-clear-bit
-    shr-write-clear-bit
-    cast-write-clear-bit-2
-    write-clear-bit-requires
+    write-digit-requires
     add-k
     loop-less
     loop-again

@@ -1,24 +1,25 @@
--- The eight cells by value. Main laws: `value-lt`; `put-cells-table`, `-flags`, `-kept`: settings
+-- The eight cells by value. Main laws: `value-lt`; `no-cells-written`: no cell, nothing to write; `put-cells-table`, `-flags`, `-kept`: settings
 -- that cells were put into; `table-digit`, `flags-digit`: their digits are the tile's bits; `same-cell-table`, `-flags`: how two compare. Assumes nothing.
-use mathlib.Core.Path.{_≡_, refl, sym, ap, _∙_}
+use mathlib.Core.Path.{_≡_, refl, sym, ap, ap₂, _∙_}
 use mathlib.Core.Logic.{⊎-elim, _≢_}
-use mathlib.Core.Bool.{false}
+use mathlib.Core.Bool.{true, false}
 use mathlib.Core.List.{List}
 use Prim.Native.Nat.{ℕ, zero, suc, _+_, _*_, _/_, _%_, _^_, _<_, _≤_}
 use native.Mathlib.Omega.{arith}
 use native.Mathlib.Numerals.{add-one}
-use borrow.Author.Tests.{eq-eqb, ne-eqb}
+use borrow.Author.Tests.{eqb-true, eq-eqb, ne-eqb}
 use lib.Dec.{eqb}
 use lib.ListN.{length, getD, set, length-set}
 use lib.Seq.{getD-set-same, getD-set-other}
 use Rattle.lists.specs.Tables.{zeros}
 use Rattle.lists.proofs.CaseLaws.{lt-or-le}
+use Rattle.lists.proofs.SearchLaws.{all-at}
 use Rattle.lists.proofs.TableLaws.{tabulate-zero}
 use lib.Pow.{shr-shr}
 use Rattle.digits.specs.Digits.{digit}
 use Rattle.digits.proofs.DigitLaws.{from-digits-lt, digit-from-digits, digit-mod}
 use Rattle.cell.specs.declared.logic.Cell.{Cell}
-use Rattle.cell.specs.Settings.{flagsOf}
+use Rattle.cell.specs.Settings.{cellOf, flagsOf}
 use Rattle.cell.proofs.SettingsLaws.{flags-of-cell}
 use Rattle.routing.specs.TileKind.{bitsPerCell}
 use Rattle.routing.specs.LogicTile.{logicTile, lcBits, lcPosition, cellPosition}
@@ -26,9 +27,10 @@ use Rattle.routing.proofs.LogicTileLaws.{cell-position-lt, cell-position-once}
 use Rattle.codec.specs.Bits.{bitAt, setBits}
 use Rattle.ports.specs.Lengths.{tileNumbers, settingsLength}
 use Rattle.codec.specs.Settings.{cellsFrom}
-use Rattle.codec.specs.Cells.{cellNumber, cellBitIn, valueIn, cellIn, cellsIn, emptyCell, writeCells, putCells, sameCell}
+use Rattle.codec.specs.Cells.{cellValue, cellNumber, cellBitIn, valueIn, cellIn, cellsIn, cellSetting, cellSettings, emptyCell}
+use Rattle.codec.specs.Cells.{cellZero, noCells, writeCells, putCells, sameCell}
 use Rattle.codec.proofs.BitLaws.{bit-lt, bit-of-zeros, position-within}
-use Rattle.codec.proofs.SetBitsLaws.{set-bits-other, set-bits-back}
+use Rattle.codec.proofs.SetBitsLaws.{set-bits-other, set-bits-back, set-bits-clear}
 
 pub value-lt : (bits : List ℕ) (i : ℕ) → valueIn (bitAt bits) i < 2 ^ bitsPerCell
 value-lt bits i = from-digits-lt (cellBitIn (bitAt bits) i) (λ j. bit-lt bits _) bitsPerCell
@@ -87,6 +89,27 @@ pub write-cells-clear : (bits : List ℕ) (cells : List Cell) (now : List ℕ) (
 write-cells-clear bits cells now i z e h j l =
     ap (λ (x : List ℕ). cellBitIn (bitAt x) i j) e ∙ write-cells-later bits cells i i j (omega arith) h l
     ∙ ap (λ (x : List ℕ). cellBitIn (bitAt x) i j) z ∙ bit-of-zeros tileNumbers (cellPosition i j)
+
+-- settings without cells: nothing is written
+module _ (settings bits : List ℕ) (none : noCells settings ≡ true) (z : bits ≡ zeros tileNumbers) where
+  zero-at : (k m : ℕ) → k < 16 → m ≡ cellsFrom logicTile + k → getD settings m 0 ≡ 0
+  zero-at k m h e = rw e (eqb-true (getD settings (cellsFrom logicTile + k) 0) 0 (all-at (cellZero settings) 0 16 k none (omega arith) (omega arith)))
+
+  no-cell : (i : ℕ) → i < 8 → cellNumber (getD (cellSettings settings) i emptyCell) ≡ 0
+  unfolding cellSettings
+  no-cell i h =
+      ap cellNumber (tabulate-zero (cellSetting settings) emptyCell 8 i h
+      ∙ ap₂ cellOf (zero-at (2 * i) _ (omega arith) (omega arith)) (zero-at (2 * i + 1) _ (omega arith) (omega arith)))
+      ∙ ap (cellValue 0) (flags-of-cell 0 0 (omega arith))
+
+  pub no-cells-written : (n : ℕ) → n ≤ 8 → writeCells bits (cellSettings settings) n ≡ bits
+  unfolding writeCells
+  no-cells-written zero h = refl
+  no-cells-written (suc n) h =
+      ap (λ (v : ℕ). setBits (writeCells bits (cellSettings settings) n) (cellPosition n) v bitsPerCell) (no-cell n (omega arith))
+      ∙ set-bits-clear (writeCells bits (cellSettings settings) n) (cellPosition n) bitsPerCell
+      (write-cells-clear bits (cellSettings settings) (writeCells bits (cellSettings settings) n) n z refl (omega arith))
+      ∙ no-cells-written n (omega arith)
 
 module _ (settings : List ℕ) (cells : List Cell) where
   pub put-cells-length : (n : ℕ) → length (putCells settings cells n) ≡ length settings

@@ -9,7 +9,7 @@ pub mod LimitLaws  -- limit-..: the largest value of each setting; fit-..: setti
 pub mod RowsLaws  -- rows-left, rows-right, rows-all: a cell's bits added to its two rows
 pub mod RunLaws  -- run-written, run-back: a run of slots that holds a number
 pub mod TileRunLaws  -- cell-run, field-run, passive-run, group-run: the runs of a tile
-pub mod CellLaws  -- put-cells-..: cells put into settings
+pub mod CellLaws  -- put-cells-..: cells put into settings; no-cells-written: no cell, nothing to write
 pub mod SettingAtLaws  -- setting-..: what is read to each setting, one law for each way
 pub mod DecodeLaws  -- decode-field, .. decode-flags: the decoding, kind by kind; setting-kinds; decode-filled
 pub mod FaultLaws  -- fault-..: a position at fault, by what claims it; map-..: by the ownership map

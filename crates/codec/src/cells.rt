@@ -7,7 +7,7 @@ ghost use Rattle.routing.specs.TileKind.{bitsPerCell};
 ghost use Rattle.routing.specs.LogicTile.{logicTile, cellPosition};
 ghost use Rattle.ports.specs.Lengths.{tileNumbers, settingsLength};
 ghost use Rattle.codec.specs.Bits.{setBits, bitAt};
-ghost use Rattle.codec.specs.Cells.{cellBitIn, valueIn, cellsIn, cellSettings, writeCells, putCells, movedBit, lowTen, highTen, sameCell};
+ghost use Rattle.codec.specs.Cells.{cellBitIn, valueIn, cellsIn, cellSettings, writeCells, putCells, noCells, movedBit, lowTen, highTen, sameCell};
 use crate::bits::PAST_TEN;
 use crate::bits::read_ten;
 use crate::settings::GROUPS_FROM;
@@ -18,6 +18,9 @@ use routing::cells::BITS_PER_CELL;
 
 // Where the cells stand in a tile's settings: table and flags of each.
 pub const CELLS_FROM: usize = GROUPS_FROM + MAX_GROUPS;
+
+// How many numbers that is.
+const CELL_NUMBERS: usize = 16;
 
 // A cell has two rows of a tile. Its logic cell bits 0 to 9 stand side by side in the first, 10 to 19 in the second.
 const CELL_POSITIONS: usize = 2 * COLUMNS;
@@ -91,6 +94,23 @@ pub fn cells_of(settings: &[u16]) -> [Cell; 8]
     cells
 }
 
+// Whether a tile's settings have no cell with anything set. No early exit, so the loop vectorises.
+// Rules out: looking at the tables alone; leaving the last cell.
+fn has_no_cells(settings: &[u16]) -> bool
+    requires { ⌜ length (now settings) ≡ settingsLength ⌝ }
+    ensures { λ r. ⌜ r ≡ noCells (now (settings .entry)) ⌝ }
+{
+    let mut none = true;
+    let mut k = 0;
+    while k < CELL_NUMBERS {
+        if settings[CELLS_FROM + k] != 0 {
+            none = false;
+        }
+        k += 1;
+    }
+    none
+}
+
 // Bit j of a number, moved to place k.
 fn moved_bit(value: u32, j: u32, k: u32) -> u64
     requires { ⌜ (j < bitsPerCell) × (k < 10) ⌝ }
@@ -158,6 +178,18 @@ pub fn write_cells(bits: &mut [u64], cells: [Cell; 8])
         write_value(bits, i, value);
         i += 1;
     }
+}
+
+// The cells of a tile's settings written to its bits, which are clear. A tile that only passes wires on has none: there is nothing to write.
+pub fn encode_cells(settings: &[u16], bits: &mut [u64])
+    requires { ⌜ (length (now settings) ≡ settingsLength) × (now bits ≡ zeros tileNumbers) ⌝ }
+    ensures { λ r. ⌜ now (bits .exit) ≡ writeCells (now (bits .entry)) (cellSettings (now (settings .entry))) 8 ⌝ }
+{
+    if has_no_cells(settings) {
+        return;
+    }
+    let cells = cells_of(settings);
+    write_cells(bits, cells);
 }
 
 // Eight cells put into a tile's settings.

@@ -10,7 +10,6 @@ use lib.Bits.{bitOr, or-add-and, and-le-r, or-comm}
 use lib.ListN.{getD}
 use Rattle.lists.specs.Tables.{zeros}
 use Rattle.lists.proofs.TableLaws.{tabulate-zero}
-use Rattle.cell.specs.declared.logic.Cell.{Cell}
 use Rattle.cell.proofs.SettingsLaws.{flags-of-cell}
 use Rattle.routing.specs.TileKind.{bitsPerCell}
 use Rattle.routing.specs.LogicTile.{logicTile, cellPosition}
@@ -166,9 +165,9 @@ module _ (table settings bits : List ℕ) (C : Writable table settings) where
       (cells-written W n (omega arith))
       (ap (λ (v : ℕ). setBits (writeCells bits (cellSettings settings) n) (cellPosition n) v bitsPerCell) (cell-number n (omega arith))))
 
-  -- all eight, as the code has them
-  pub cells-end : (n : ℕ) (cells : List Cell) (new : List ℕ) → n ≡ tileNumbers → bits ≡ zeros n → cells ≡ cellSettings settings → new ≡ writeCells bits cells 8
+  -- all eight, to bits that are clear
+  pub cells-end : (n : ℕ) (new : List ℕ) → n ≡ tileNumbers → bits ≡ zeros n → new ≡ writeCells bits (cellSettings settings) 8
       → TileWritten table settings (fieldSlots logicTile) new
-  cells-end n cells new l z e q =
-      subst (TileWritten table settings (fieldSlots logicTile)) (sym (q ∙ ap (λ (c : List Cell). writeCells bits c 8) e))
+  cells-end n new l z e =
+      subst (TileWritten table settings (fieldSlots logicTile)) (sym e)
       (cells-written (none-written (slotsOf logicTile table) (slotValue table settings) bits n l z) 8 (omega arith))

@@ -21,10 +21,9 @@ use crate::reading::try_decode;
 use codec::bits::is_empty;
 use codec::bits::write_bit;
 use codec::cells::CELLS_FROM;
-use codec::cells::cells_of;
 use codec::cells::decode_cells;
+use codec::cells::encode_cells;
 use codec::cells::put_cells;
-use codec::cells::write_cells;
 use codec::fault::is_fault_at;
 use codec::groups::write_group;
 use codec::held::hold_first;
@@ -156,8 +155,7 @@ pub fn encode_tile(table: &[u16], settings: &[u16], bits: &mut [u64])
     ensures { λ r. ⌜ now (bits .exit) ≡ encode (now (table .entry)) (now (settings .entry)) ⌝ }
 {
     lists::clear_words(bits);
-    let cells = cells_of(settings);
-    write_cells(bits, cells);
+    encode_cells(settings, bits);
     write_fields(table, settings, bits);
     write_passives(table, settings, bits);
     write_groups(table, settings, bits);

@@ -15,37 +15,37 @@ use Rattle.tile.proofs.encode_tile.Tie as tie
 clear-words-requires : tie.Need-clear-words-requires
 clear-words-requires c κs = search needs
 
-cells-of-requires : tie.Need-cells-of-requires
-cells-of-requires c κs = let at-start = c .before .before .before .before .before .before .before in at-start .pre .1
-
-write-cells-requires : tie.Need-write-cells-requires
-write-cells-requires c κs =
-    let at-start = c .before .before .before .before .before .before .before .before .before in
-    let at-clear-words = c .before .before .before .before in
-    at-clear-words .clear-words .ensures ∙ ap zeros (at-start .pre .3)
+encode-cells-requires : tie.Need-encode-cells-requires
+encode-cells-requires c κs =
+    let at-clear-words = c .before .before .before in
+    let at-start = at-clear-words .before .before .before .before .before in
+    (at-start .pre .1, at-clear-words .clear-words .ensures ∙ ap zeros (at-start .pre .3))
 
 write-fields-requires : tie.Need-write-fields-requires
 write-fields-requires c κs =
-    let at-start = c .before .before .before .before .before .before .before .before .before .before .before .before .before in
-    let at-clear-words = c .before .before .before .before .before .before .before .before in
-    let at-cells-of = c .before .before .before .before .before in
-    let at-write-cells = c .before .before .before in (
+    let at-encode-cells = c .before .before .before in
+    let at-clear-words = at-encode-cells .before .before .before .before in
+    let at-start = at-clear-words .before .before .before .before .before in (
       (record { rules = at-start .pre .0; long = at-start .pre .1; fit = at-start .pre .2 }),
       cells-end (at-start .args .table .now)
-          (at-start .args .settings .now) _ (record { rules = at-start .pre .0; long = at-start .pre .1; fit = at-start .pre .2 }) _ _ _ (at-start .pre .3)
-          (at-clear-words .clear-words .ensures) (at-cells-of .cells-of .ensures) (at-write-cells .write-cells .ensures),
+          (at-start .args .settings .now) _ (record { rules = at-start .pre .0; long = at-start .pre .1; fit = at-start .pre .2 }) _ _ (at-start .pre .3)
+          (at-clear-words .clear-words .ensures) (at-encode-cells .encode-cells .ensures),
     )
 
 write-passives-requires : tie.Need-write-passives-requires
 write-passives-requires c κs =
-    let at-start = c .before .before .before .before .before .before .before .before .before .before .before .before .before .before .before .before .before in
     let at-write-fields = c .before .before .before in
+    let at-encode-cells = at-write-fields .before .before .before .before in
+    let at-clear-words = at-encode-cells .before .before .before .before in
+    let at-start = at-clear-words .before .before .before .before .before in
     ((record { rules = at-start .pre .0; long = at-start .pre .1; fit = at-start .pre .2 }), at-write-fields .write-fields .ensures)
 
 write-groups-requires : tie.Need-write-groups-requires
 write-groups-requires c κs =
-    let at-start = c .before .before .before .before .before .before .before .before .before .before .before .before .before .before .before .before .before .before .before .before .before in
     let at-write-passives = c .before .before .before in
+    let at-write-fields = at-write-passives .before .before .before .before in
+    let at-clear-words = at-write-fields .before .before .before .before .before .before .before .before in
+    let at-start = at-clear-words .before .before .before .before .before in
     ((record { rules = at-start .pre .0; long = at-start .pre .1; fit = at-start .pre .2 }), at-write-passives .write-passives .ensures)
 
 same-length : tie.Need-same-length
@@ -53,8 +53,11 @@ same-length c = search needs
 
 returns : tie.Need-returns
 returns c =
-    let at-start = c .before .before .before .before .before .before .before .before .before .before .before .before .before .before .before .before .before .before .before .before .before .before .before .before in
     let at-write-groups = c .before .before in
+    let at-write-passives = at-write-groups .before .before .before .before in
+    let at-write-fields = at-write-passives .before .before .before .before in
+    let at-clear-words = at-write-fields .before .before .before .before .before .before .before .before in
+    let at-start = at-clear-words .before .before .before .before .before in
     all-written (slotsOf logicTile (at-start .args .table .now)) (slotValue (at-start .args .table .now) (at-start .args .settings .now))
     (slot-value-lt (at-start .args .table .now) (at-start .args .settings .now)) _ (at-write-groups .write-groups .ensures)
 
@@ -63,8 +66,7 @@ encode-tile-spec =
     tie.close
     (tie.spec
     clear-words-requires
-    cells-of-requires
-    write-cells-requires
+    encode-cells-requires
     write-fields-requires
     write-passives-requires
     write-groups-requires

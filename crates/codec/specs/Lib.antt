@@ -1,6 +1,6 @@
 -- A tile's bits and its settings.
 pub mod Bits  -- believed. bitAt: the bit at a position; bitCount. setBit: a bit written
-pub mod Held  -- inner. withHeld: the bits of a tile of which one row is held apart
+pub mod Held  -- inner. withHeld: the bits of a tile of which one row is held apart; ClearFrom, DigitsWritten: a run of digits half written
 pub mod Settings  -- believed. The layout of a tile's settings
 pub mod Groups  -- believed: groupPattern; the rest is computed: points-exact. readGroup: the setting that a group's bits give, or the position at fault
 pub mod Cells  -- believed: cellValue; the rest is computed: decode-reads, bits-back. The eight cells, by value

@@ -153,7 +153,7 @@ fn high_ten(value: u32) -> u64
 }
 
 // A cell's 20 bits written where all of them are clear, so that an empty cell takes no time. Each of its two rows is written once.
-pub fn write_value(bits: &mut [u64], i: usize, value: u32)
+fn write_value(bits: &mut [u64], i: usize, value: u32)
     requires { ⌜ (length (now bits) ≡ tileNumbers) × (i < 8) × ((j : ℕ) → j < bitsPerCell → cellBitIn (bitAt (now bits)) i j ≡ 0) ⌝ }
     ensures { λ r. ⌜ now (bits .exit) ≡ setBits (now (bits .entry)) (cellPosition i) value bitsPerCell ⌝ }
 {
@@ -167,7 +167,7 @@ pub fn write_value(bits: &mut [u64], i: usize, value: u32)
 }
 
 // Eight cells written to a tile's bits, which are clear.
-pub fn write_cells(bits: &mut [u64], cells: [Cell; 8])
+fn write_cells(bits: &mut [u64], cells: [Cell; 8])
     requires { ⌜ now bits ≡ zeros tileNumbers ⌝ }
     ensures { λ r. ⌜ now (bits .exit) ≡ writeCells (now (bits .entry)) cells 8 ⌝ }
 {

@@ -6,7 +6,7 @@ ghost use Rattle.routing.specs.LogicTile.{logicTile};
 ghost use Rattle.routing.specs.Table.{groupCount, widthOf, positionAt, entryCount};
 ghost use Rattle.routing.specs.Rules.{TableRules};
 ghost use Rattle.codec.specs.Bits.{setBits, bitAt};
-ghost use Rattle.codec.specs.Held.{withHeld};
+ghost use Rattle.codec.specs.Held.{withHeld, ClearFrom, DigitsWritten};
 ghost use Rattle.codec.specs.Groups.{GroupLent, groupBit, groupPattern, settingOfPattern, readGroup, patternOf};
 use crate::bits::read_bit;
 use crate::held::HeldRow;
@@ -19,7 +19,7 @@ pub enum GroupRead {
 }
 
 // The pattern that a group's bits have, the first position with weight 1.
-pub fn read_pattern(table: &[u16], g: usize, bits: &[u64]) -> u16
+fn read_pattern(table: &[u16], g: usize, bits: &[u64]) -> u16
     requires { ⌜ GroupLent (now table) g (now bits) ⌝ }
     ensures { λ r. ⌜ r ≡ groupPattern logicTile (now (table .entry)) (bitAt (now (bits .entry))) g ⌝ }
 {
@@ -61,29 +61,37 @@ pub fn read_group(table: &[u16], g: usize, bits: &[u64]) -> GroupRead
     setting_of(table, g, pattern)
 }
 
-// A pattern written to a group's positions, which are clear, the first with weight 1; one row is held over the positions.
-pub fn write_pattern(
-    table: &[u16],
-    g: usize,
-    bits: &mut [u64],
-    held: HeldRow,
-    pattern: u16,
-) -> HeldRow
+// The digits of a pattern after its first written to a group's positions, which are clear; one row is held over the positions.
+fn write_others(table: &[u16], g: usize, bits: &mut [u64], held: HeldRow, pattern: u16) -> HeldRow
     requires { ⌜ (GroupLent (now table) g (now bits)) × (held .row < tileNumbers) ×
-        ((k : ℕ) → k < widthOf logicTile (now table) g → groupBit logicTile (now table) (bitAt (withHeld (now bits) held)) g k ≡ 0) ⌝ }
+        ClearFrom (positionAt logicTile (now table) g) 1 (widthOf logicTile (now table) g) (withHeld (now bits) held) ⌝ }
     ensures row { λ r. ⌜ r .row < tileNumbers ⌝ }
-    ensures bits { λ r. ⌜ withHeld (now (bits .exit)) r ≡ setBits (withHeld (now (bits .entry)) held)
-        (positionAt logicTile (now (table .entry)) g) pattern (widthOf logicTile (now (table .entry)) g) ⌝ }
+    ensures bits { λ r. ⌜ DigitsWritten (positionAt logicTile (now (table .entry)) g) pattern 1 (widthOf logicTile (now (table .entry)) g)
+        (withHeld (now (bits .entry)) held) (withHeld (now (bits .exit)) r) ⌝ }
 {
     let n = routing::table::width(table, g);
     let mut next = held;
-    let mut k = 0;
+    let mut k = 1;
     while k < n {
         let p = routing::table::position(table, g, k);
         next = write_digit(bits, next, p, pattern, k);
         k += 1;
     }
     next
+}
+
+// A pattern written to a group's positions, which are clear, the first with weight 1. Every group has a first position, and many have no other, so it
+// is not left to the loop.
+fn write_pattern(table: &[u16], g: usize, bits: &mut [u64], held: HeldRow, pattern: u16) -> HeldRow
+    requires { ⌜ (GroupLent (now table) g (now bits)) × (held .row < tileNumbers) ×
+        ((k : ℕ) → k < widthOf logicTile (now table) g → groupBit logicTile (now table) (bitAt (withHeld (now bits) held)) g k ≡ 0) ⌝ }
+    ensures row { λ r. ⌜ r .row < tileNumbers ⌝ }
+    ensures bits { λ r. ⌜ withHeld (now (bits .exit)) r ≡ setBits (withHeld (now (bits .entry)) held)
+        (positionAt logicTile (now (table .entry)) g) pattern (widthOf logicTile (now (table .entry)) g) ⌝ }
+{
+    let first = routing::table::position(table, g, 0);
+    let next = write_digit(bits, held, first, pattern, 0);
+    write_others(table, g, bits, next, pattern)
 }
 
 // A group's setting written where all its bits are clear, so that a group that is off takes no time.

@@ -8,7 +8,6 @@ use Prim.Native.Nat.{ℕ, _+_, _*_, _/_, _%_, _^_, _<_, _≤_}
 use native.Mathlib.Omega.{arith}
 use native.Mathlib.Nat.{div-add-mod', mod-lt, zero-div}
 use borrow.Author.Tests.{eqb-true}
-use lib.Arith.{digits-lt}
 use lib.Count.{ones}
 use lib.Pow.{pow-pos}
 use lib.Dec.{eqb}
@@ -21,12 +20,12 @@ use Rattle.lists.proofs.SearchLaws.{all-at}
 use Rattle.lists.proofs.CaseLaws.{lt-or-le, eq-or-ne}
 use Rattle.lists.proofs.CountLaws.{count-ext, count-add}
 use Rattle.digits.specs.Digits.{digit, isSet, setDigit}
-use Rattle.digits.proofs.DigitLaws.{digit-mod, digit-set-same, digit-set-other, set-digit-lt, from-digits-ext}
+use Rattle.digits.proofs.DigitLaws.{digit-mod, digit-set-same, digit-set-other, set-digit-lt}
 use Rattle.digits.proofs.OnesLaws.{ones-count}
 use Rattle.digits.proofs.MaskLaws.{digit-shl}
 use Rattle.digits.proofs.WriteLaws.{digit-split}
 use Rattle.words.specs.Packed.{bitIn}
-use Rattle.words.proofs.PackedLaws.{bit-in-lt, bit-in-number, number-is}
+use Rattle.words.proofs.PackedLaws.{bit-in-lt, bit-in-number, bits-in-ext}
 use Rattle.codec.specs.Bits.{unit, bitAt, setBitIn, setBit, Fits, isSetAt, isZeroAt, isEmpty}
 use Rattle.ports.specs.Lengths.{tileNumbers}
 
@@ -80,14 +79,6 @@ module _ (u : ℕ) (some : 0 < u) where
 
             outside : length bits ≤ p / u → getD (setBitIn u bits p v) i 0 < 2 ^ u
             outside h = subst (λ (l : List ℕ). getD l i 0 < 2 ^ u) (sym (set-out bits (p / u) new h)) (b i)
-
-  bits-in-ext : (xs ys : List ℕ) → length xs ≡ length ys → ((i : ℕ) → getD xs i 0 < 2 ^ u) → ((i : ℕ) → getD ys i 0 < 2 ^ u)
-      → ((p : ℕ) → p < length xs * u → bitIn u xs p ≡ bitIn u ys p) → xs ≡ ys
-  bits-in-ext xs ys n bx by h =
-      ext-getD 0 xs ys n
-      (λ i l. sym (number-is u some xs i (bx i))
-      ∙ from-digits-ext (λ (k : ℕ). bitIn u xs (i * u + k)) (λ (k : ℕ). bitIn u ys (i * u + k)) u (λ k m. h (i * u + k) (digits-lt l m))
-      ∙ number-is u some ys i (by i))
 
   -- one number more: the ones more of its u digits
   ones-in-step : (bits : List ℕ) (i : ℕ)

@@ -1,11 +1,11 @@
--- Bits in numbers of u bits each. Main laws: `bit-packed`, `bit-past`, `packed-back`, `bit-in-part`. Assumes nothing.
+-- Bits in numbers of u bits each. Main laws: `bit-packed`, `bit-past`, `packed-back`, `bits-in-ext`, `bit-in-part`. Assumes nothing.
 use mathlib.Core.Path.{_≡_, refl, sym, ap, _∙_, subst}
 use mathlib.Core.Logic.{⊎-elim}
 use mathlib.Core.List.{List}
 use Prim.Native.Nat.{ℕ, zero, suc, _+_, _-_, _*_, _/_, _%_, _^_, _<_, _≤_}
 use native.Mathlib.Omega.{arith}
 use native.Mathlib.Nat.{add-mul, div-add-mod', mod-lt, zero-div, div-lt-iff-lt-mul, le-div-iff-mul-le}
-use lib.Arith.{digits-div, digits-mod}
+use lib.Arith.{digits-div, digits-mod, digits-lt}
 use lib.Pow.{pow-pos}
 use lib.ListN.{length, getD, take, drop, length-take, List·getD-eq-default}
 use lib.Seq.{getD-take, getD-drop, ext-getD}
@@ -79,6 +79,14 @@ module _ (u : ℕ) (some : 0 < u) where
       ext-getD 0 (packed u (bitIn u xs) n) xs (packed-length (bitIn u xs) (bit-in-lt xs) n ∙ sym e)
       (λ i h. packed-at (bitIn u xs) (bit-in-lt xs) n i
       (subst (λ (x : ℕ). i < x) (packed-length (bitIn u xs) (bit-in-lt xs) n) h) ∙ number-is xs i (fits i))
+
+  -- two lists of numbers that agree at each bit are equal
+  pub bits-in-ext : (xs ys : List ℕ) → length xs ≡ length ys → FitsIn u xs → FitsIn u ys → ((p : ℕ) → p < length xs * u → bitIn u xs p ≡ bitIn u ys p) → xs ≡ ys
+  bits-in-ext xs ys n bx by h =
+      ext-getD 0 xs ys n
+      (λ i l. sym (number-is xs i (bx i))
+      ∙ from-digits-ext (λ (k : ℕ). bitIn u xs (i * u + k)) (λ (k : ℕ). bitIn u ys (i * u + k)) u (λ k m. h (i * u + k) (digits-lt l m))
+      ∙ number-is ys i (by i))
 
   -- ---- past the end, and in a part
 

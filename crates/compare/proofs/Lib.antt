@@ -10,3 +10,4 @@ pub mod EntryLaws  -- one law for each way through compareAnswer; compare-cleare
 pub mod PartLaws  -- the same for partAnswer; part-passed: what a yes has passed; part-is: the part handed back
 pub mod ListLaws  -- rows-few, list-filled: what list_settings has when the rows are stored
 pub mod MeaningLaws  -- compare-says: what every answer says
+pub mod ExactLaws  -- compare-exact: no second answer, and no second list, fits what is said

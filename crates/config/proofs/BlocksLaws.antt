@@ -1,4 +1,4 @@
--- The tiles of a block that was decoded or encoded, and what the tests of a tile say of it. Main laws: `decoded-at`, `decoded-reads`,
+-- The tiles of a block that was decoded or encoded, and what the tests of a tile say of it. Main laws: `decoded-at`, `decoded-reads`, `tiles-read-one`,
 -- `encoded-at`, `encoded-reads`, `bitless-lowest`, `none-bitless`. Assumes nothing.
 use mathlib.Core.Path.{_≡_, sym, subst}
 use mathlib.Core.Bool.{true}
@@ -26,7 +26,7 @@ use Rattle.codec.specs.Writing.{Writable}
 use Rattle.codec.proofs.DecodeLaws.{decode-length}
 use Rattle.codec.proofs.EncodeLaws.{encode-length, encode-fits}
 use Rattle.codec.proofs.TileRunLaws.{slot-value-lt}
-use Rattle.codec.proofs.ReadingLaws.{decode-reads, settings-fit-exact}
+use Rattle.codec.proofs.ReadingLaws.{decode-reads, reads-unique, settings-fit-exact}
 use Rattle.codec.proofs.SettingsBack.{settings-back, encode-decodable}
 use Rattle.config.specs.Blocks.{bitsAt, settingsAt, roomLength, decodedAt, decoded, bitlessAt, bitlessTile, encodedAt, encoded, tilesOf}
 use Rattle.config.specs.Facts.{LowestBitless, TilesRead}
@@ -64,6 +64,10 @@ module _ (table bits : List ℕ) (n : ℕ) where
       decodable = clean;
       reads = λ t l. subst (ReadsTo table (bitAt (bitsAt bits t))) (sym (decoded-at t l)) (decode-reads table (bitsAt bits t) T);
     }
+
+    -- and nothing else: tiles read to one settings only
+    pub tiles-read-one : (a b : List ℕ) → TilesRead table (tilesOf bits) a n → TilesRead table (tilesOf bits) b n → (t : ℕ) → t < n → settingsAt a t ≡ settingsAt b t
+    tiles-read-one a b x y t l = reads-unique table (bitsAt bits t) T (x .decodable t l) (settingsAt a t) (settingsAt b t) (x .reads t l) (y .reads t l)
 
 -- ---- settings to bits
 

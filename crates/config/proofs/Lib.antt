@@ -4,6 +4,6 @@ pub mod RoundTrip  -- written-reads, read-writes: both round trips of a block
 pub mod PassedLaws  -- read-passed, read-clean, write-passed, write-fit: what a yes has passed
 pub mod EntryLaws  -- read-.., write-..: the answers, ground by ground; lengths-exact
 pub mod BitCountLaws  -- count-..: the same of a bit count
-pub mod BlocksLaws  -- decoded-at, encoded-at: the tiles of a block; bitless-lowest: the place of ground 9
+pub mod BlocksLaws  -- decoded-at, encoded-at: the tiles of a block; tiles-read-one: tiles read to one settings only; bitless-lowest: the place of ground 9
 pub mod FaultPlaceLaws  -- fault-place-exact, fault-unique: the place of ground 4; no-fault-decodable, decodable-no-fault: where there is none
 pub mod FormsLaws  -- settings-same, read-same, count-same: bytes and their words carry the same settings and answers

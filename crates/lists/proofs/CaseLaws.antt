@@ -23,6 +23,11 @@ eq-or-ne a b = elim (ℕ-discrete a b) [ yes h ↦ inl h | no h ↦ inr h ]
 pub clash : {A : Type 0} {b : Bool} → b ≡ true → b ≡ false → A
 clash p q = absurd (true≢false (sym p ∙ q))
 
+-- a test whose fact does not hold fails
+pub test-false : {P : Type 0} (b : Bool) → (b ≡ true → P) → (P → ⊥) → b ≡ false
+test-false true there none = absurd (none (there refl))
+test-false false there none = refl
+
 -- ---- a && b
 
 pub and-left : (a b : Bool) → a && b ≡ true → a ≡ true

@@ -1,5 +1,5 @@
 -- A listing, proved once: the rows of a rising enumeration, filled up with zeros, are everything that is asked for, in order. Main laws: `rows-listed`;
--- `listed-once`: no row stands twice; `listed-unique`: no other list and no other count would do; `listed-empty`.
+-- `listed-once`: no row stands twice; `listed-unique`: no other list and no other count would do; `listed-empty`; `listed-as`.
 use mathlib.Core.Path.{_≡_, refl, sym, ap, ap₂, _∙_, subst}
 use mathlib.Core.Bool.{Bool, true, false}
 use mathlib.Core.List.{List, [], _∷_, _++_, append-nil}
@@ -147,6 +147,17 @@ module _ {Is : List ℕ → Type 0} {k : ℕ} {list : List ℕ} {count : ℕ} (L
     (λ e row h. let (i, l, q) = L .every row h in absurd (omega arith)),
     λ none. ⊎-elim (λ (l : 0 < count). absurd (none (part k 0 list) (L .only 0 l))) (λ (h : count ≤ 0). let q : count ≡ 0 = omega arith in q) (lt-or-le 0 count),
   )
+
+-- what is listed, said in another way
+pub listed-as : {Is Other : List ℕ → Type 0} {k : ℕ} {list : List ℕ} {count : ℕ} → ((row : List ℕ) → Is row → Other row)
+    → ((row : List ℕ) → Other row → Is row) → Lists Is k list count → Lists Other k list count
+listed-as there back L = record {
+  room = L .room;
+  only = λ i l. there _ (L .only i l);
+  every = λ row h. L .every row (back row h);
+  rising = L .rising;
+  rest = L .rest;
+}
 
 -- ---- no other list and no other count would do
 

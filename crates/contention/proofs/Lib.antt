@@ -8,3 +8,4 @@ pub mod Tallying  -- tallied-..: the chains with the count of their rows, one sw
 pub mod LengthLaws  -- contention-long-exact: the test of the lengths is the facts
 pub mod EntryLaws  -- rows-.., bits-.., answer-..: the answers, ground by ground; room-cleared: the work room
 pub mod MeaningLaws  -- contentions-say: every answer says what specs/Meaning.antt has
+pub mod ExactLaws  -- contentions-exact: no second answer, and no second list, fits what is said

@@ -1,4 +1,4 @@
--- The computed rows are just the differences. Main law: `differences-listed`. Assumes nothing.
+-- The computed rows are just the differences. Main laws: `differences-listed`, `differences-length`. Assumes nothing.
 use Prim.Native.Nat.{ℕ, _+_, _-_, _*_, _/_, _%_, _<_, _≤_, _^_}
 use mathlib.Core.Path.{_≡_, sym, ap, subst, _∙_}
 use mathlib.Core.Bool.{true, not}
@@ -9,7 +9,9 @@ use native.Mathlib.Nat.{div-add-mod, mod-lt}
 use borrow.Author.Tests.{eq-eqb, ne-eqb, not-true}
 use Rattle.lists.proofs.CaseLaws.{lt-or-le, clash}
 use Rattle.lists.specs.Listing.{Precedes, here, later, Lists, zeroFilled}
-use Rattle.lists.proofs.ListingLaws.{Enumerates, rows-listed}
+use lib.ListN.{length}
+use Rattle.lists.proofs.RowLaws.{rows-length}
+use Rattle.lists.proofs.ListingLaws.{Enumerates, rows-listed, filled-length}
 use Rattle.ports.specs.Lengths.{maxPassives, maxGroups}
 use Rattle.cell.proofs.SettingsLaws.{flags-of-cell}
 use Rattle.routing.specs.LogicTile.{logicTile}
@@ -226,3 +228,10 @@ module _ (table : List ℕ) (first second : ℕ → TileBits) (old new : List �
       → Lists (DiffersIn table old new n) rowLength (zeroFilled m (differences old new n)) (differenceCount old new n)
   differences-listed m fits =
       rows-listed (DiffersIn table old new n) rowLength (blockDiffers old new) (blockRow old new) (placesPerTile * n) differences-enumerated m fits
+
+-- a list that is long enough keeps its length
+pub differences-length : (old new : List ℕ) (n m : ℕ) → rowLength * differenceCount old new n ≤ m → length (zeroFilled m (differences old new n)) ≡ m
+differences-length old new n m fits =
+    let e : length (differences old new n) ≡ rowLength * differenceCount old new n =
+    rows-length (blockDiffers old new) (blockRow old new) rowLength (placesPerTile * n) (λ x l. block-row-length old new x) in
+    filled-length m (differences old new n) (omega (arith, e))

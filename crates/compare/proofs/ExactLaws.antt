@@ -132,19 +132,18 @@ module _ (A B : Size) (table first second : List ℕ) (lent : CompareLent) where
   yes-told list long y =
       rows-told old new n list _ (count-is (y .both-read) (y .listed)) (let l = y .listed .room in omega arith) ∙ read-told (y .both-read) list
 
-  says-told : (before after : List ℕ) (r : Compared) → CompareSays A B table first second lent before after r → length after ≡ length before
-      → r ≡ told (length before)
-  says-told before after (Rows rows) says long = yes-told (length before) long says
-  says-told before after (Refused refusal) says long = no-told (length before) (says .1)
+  says-told : (before after : List ℕ) (r : Compared) → CompareSays A B table first second lent before after r → r ≡ told (length before)
+  says-told before after (Rows rows) says = yes-told (length before) (says .0) (says .1)
+  says-told before after (Refused refusal) says = no-told (length before) (says .1)
 
-  -- one answer, and one list, only. That a list keeps its length is no part of what a yes says: a longer one, with more zeros behind the rows, would do
+  -- one answer, and one list, only
   pub compare-exact : (before a b : List ℕ) (r q : Compared) → CompareSays A B table first second lent before a r
-      → CompareSays A B table first second lent before b q → length a ≡ length before → length b ≡ length before → (r ≡ q) × (a ≡ b)
-  compare-exact before a b r q x y la lb =
-      let e : r ≡ q = says-told before a r x la ∙ sym (says-told before b q y lb) in
+      → CompareSays A B table first second lent before b q → (r ≡ q) × (a ≡ b)
+  compare-exact before a b r q x y =
+      let e : r ≡ q = says-told before a r x ∙ sym (says-told before b q y) in
       (e, same r x (subst (CompareSays A B table first second lent before b) (sym e) y))
     where
       same : (r : Compared) → CompareSays A B table first second lent before a r → CompareSays A B table first second lent before b r → a ≡ b
       same (Rows rows) x y =
-          listed-unique (listed-decoded (x .both-read) (x .listed)) (listed-decoded (y .both-read) (y .listed)) (omega arith) (la ∙ sym lb)
+          listed-unique (listed-decoded (x .1 .both-read) (x .1 .listed)) (listed-decoded (y .1 .both-read) (y .1 .listed)) (omega arith) (x .0 ∙ sym (y .0))
       same (Refused refusal) x y = x .0 ∙ sym (y .0)

@@ -39,7 +39,7 @@ use Rattle.compare.specs.Meaning.{Alike, BothRead, ListsDifferences, Com
 use Rattle.compare.specs.declared.Compared.{Compared}
 use Rattle.compare.specs.declared.Compared.the-variants.{Rows, Refused}
 use Rattle.compare.proofs.LengthLaws.{same-size-exact, compare-long-exact}
-use Rattle.compare.proofs.DifferenceLaws.{differences-listed}
+use Rattle.compare.proofs.DifferenceLaws.{differences-listed, differences-length}
 use Rattle.compare.proofs.EmptyLaws.{empty-exact}
 
 module _ (A B : Size) (table first second before after : List ℕ) (list : List ℕ) where
@@ -103,13 +103,16 @@ module _ (A B : Size) (table first second before after : List ℕ) (list : List 
           unless-cases Says (leb (rowLength * differenceCount old new (tileCount A)) (length list)) _ _
           (λ e. refused (ListTooShort (differenceCount old new (tileCount A)))
           (too-short _ old new _ read (listed (rowLength * differenceCount old new (tileCount A)) (omega arith)) (leb-false _ _ e)))
-          (λ e. record {
-            old = old;
-            new = new;
-            both-read = read;
-            listed = listed (length list) (leb-true _ _ e);
-            empty = empty-exact A table first second (settingsTotal A) first-done second-done;
-          })
+          (λ e. (
+            differences-length old new (tileCount A) (length list) (leb-true _ _ e),
+            record {
+              old = old;
+              new = new;
+              both-read = read;
+              listed = listed (length list) (leb-true _ _ e);
+              empty = empty-exact A table first second (settingsTotal A) first-done second-done;
+            },
+          ))
 
   -- ---- grounds 3 and 4
 

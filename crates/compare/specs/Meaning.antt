@@ -67,7 +67,7 @@ module _ (A B : Size) (table first second : List ℕ) (lent : CompareLent) where
     -- "It is empty exactly if the bits are equal."
     pub empty : (rows ≡ 0) ↔ (first ≡ second)
 
-  -- `before` and `after` are the lent list; "On a refusal the outputs keep their old contents"
+  -- `before` and `after` are the lent list, which keeps its length; "On a refusal the outputs keep their old contents"
   abbrev pub CompareSays : (before after : List ℕ) → Compared → Type 0
-  CompareSays before after (Rows rows) = Compares after rows
+  CompareSays before after (Rows rows) = (length after ≡ length before) × Compares after rows
   CompareSays before after (Refused refusal) = (after ≡ before) × CompareNo (length before) refusal

@@ -1,4 +1,4 @@
--- The computed rows are just the contentions. Main laws: `contentions-listed`, `empty-exact`. Assumes nothing.
+-- The computed rows are just the contentions. Main laws: `contentions-listed`, `contentions-length`, `empty-exact`. Assumes nothing.
 use Prim.Native.Nat.{ℕ, suc, _+_, _*_, _/_, _%_, _<_, _≤_}
 use mathlib.Core.Path.{_≡_, refl, ap, subst, _∙_}
 use mathlib.Core.Bool.{true}
@@ -12,8 +12,8 @@ use lib.ListN.{length}
 use Rattle.lists.specs.Search.{countBelow}
 use Rattle.lists.proofs.CaseLaws.{and-left, and-right, and-true, lt-or-le, eq-or-ne}
 use Rattle.lists.specs.Listing.{Precedes, here, later, Lists, zeroFilled}
-use Rattle.lists.proofs.RowLaws.{row-reached, count-pass}
-use Rattle.lists.proofs.ListingLaws.{Enumerates, rows-listed, listed-empty}
+use Rattle.lists.proofs.RowLaws.{row-reached, count-pass, rows-length}
+use Rattle.lists.proofs.ListingLaws.{Enumerates, rows-listed, filled-length, listed-empty}
 use Rattle.ports.specs.declared.size.Block.{Block}
 use Rattle.ports.specs.Block.{tiles}
 use Rattle.ports.specs.Lengths.{ports}
@@ -134,6 +134,13 @@ module _ (B : Block) (t st : List ℕ) where
         → Lists (ContentionRow B t st) rowLength (zeroFilled m (contentions B t st)) (contentionCount B t st)
     contentions-listed m fits =
         rows-listed (ContentionRow B t st) rowLength (contentionAt B t st) (contentionRow B t st) (switches B * ports B) contentions-enumerated m fits
+
+    -- a list that is long enough keeps its length
+    pub contentions-length : (m : ℕ) → rowLength * contentionCount B t st ≤ m → length (zeroFilled m (contentions B t st)) ≡ m
+    contentions-length m fits =
+        let e : length (contentions B t st) ≡ rowLength * contentionCount B t st =
+        rows-length (contentionAt B t st) (contentionRow B t st) rowLength (switches B * ports B) (contentions-enumerated .long) in
+        filled-length m (contentions B t st) (omega (arith, e))
 
     -- no row exactly if there is no contention
     pub empty-exact : (contentionCount B t st ≡ 0) ↔ NoContention B t st

@@ -92,16 +92,17 @@ module _ (B : Block) (t bits : List ℕ) (lent : ContentionLent) where
   no-told list (too-short rows full read L short) = rows-short B t st rows list (count-is read L) short ∙ read-told read list
 
   says-told : (before after : List ℕ) (r : ContentionList) → ContentionsSay B t bits lent before after r → r ≡ told (length before)
-  says-told before after (Rows rows) y = rows-yes B t st rows (length before) (count-is (y .read) (y .listed)) (y .fits) ∙ read-told (y .read) (length before)
+  says-told before after (Rows rows) (long, y) =
+      rows-yes B t st rows (length before) (count-is (y .read) (y .listed)) (y .fits) ∙ read-told (y .read) (length before)
   says-told before after (Refused refusal) says = no-told (length before) (says .1)
 
-  -- one answer, and one list, only. That a list keeps its length is no part of what a yes says: a longer one, with more zeros behind the rows, would do
+  -- one answer, and one list, only
   pub contentions-exact : (before a b : List ℕ) (r q : ContentionList) → ContentionsSay B t bits lent before a r → ContentionsSay B t bits lent before b q
-      → length a ≡ length before → length b ≡ length before → (r ≡ q) × (a ≡ b)
-  contentions-exact before a b r q x y la lb =
+      → (r ≡ q) × (a ≡ b)
+  contentions-exact before a b r q x y =
       let e : r ≡ q = says-told before a r x ∙ sym (says-told before b q y) in
       (e, same r x (subst (ContentionsSay B t bits lent before b) (sym e) y))
     where
       same : (r : ContentionList) → ContentionsSay B t bits lent before a r → ContentionsSay B t bits lent before b r → a ≡ b
-      same (Rows rows) x y = listed-unique (x .listed) (y .listed) (omega arith) (la ∙ sym lb)
+      same (Rows rows) x y = listed-unique (x .1 .listed) (y .1 .listed) (omega arith) (x .0 ∙ sym (y .0))
       same (Refused refusal) x y = x .0 ∙ sym (y .0)

@@ -35,7 +35,7 @@ use Rattle.contention.specs.Contentions.{rowLength, contentionCount, con
 use Rattle.contention.specs.Lengths.{contentionLent, contentionExact, ContentionLong}
 use Rattle.contention.specs.Entry.{contentionsNumber, rowsAnswer, afterRead, settingsRead, bitsAnswer, contentionsAnswer, contentionsList}
 use Rattle.contention.specs.Meaning.{RefusedFive, Readable, ContentionsNo, wrong-size, wrong-length, broken, undecodable, too-short, ContentionsSay}
-use Rattle.contention.proofs.ContentionLaws.{contentions-listed, empty-exact}
+use Rattle.contention.proofs.ContentionLaws.{contentions-listed, contentions-length, empty-exact}
 use Rattle.contention.proofs.RefusalLaws.{five-exact}
 use Rattle.contention.proofs.LengthLaws.{contention-long-exact}
 use Rattle.contention.proofs.EntryLaws.{read-lengths}
@@ -88,12 +88,15 @@ module _ (B : Block) (t bits settings wires heads nexts old : List ℕ) where
           too-short _ (zeroFilled (rowLength * contentionCount B t st) (contentions B t st)) read
               (contentions-listed B t st ok (rowLength * contentionCount B t st) (omega arith)) (leb-false _ _ f),
         ))
-        (λ f. record {
-          read = read;
-          fits = leb-true _ _ f;
-          listed = contentions-listed B t st ok (length old) (leb-true _ _ f);
-          empty = read-empty B t bits settings size done;
-        })
+        (λ f. (
+          contentions-length B t st ok (length old) (leb-true _ _ f),
+          record {
+            read = read;
+            fits = leb-true _ _ f;
+            listed = contentions-listed B t st ok (length old) (leb-true _ _ f);
+            empty = read-empty B t bits settings size done;
+          },
+        ))
       where
         ok : Routed B t st
         ok = read-routed B t bits settings size done

@@ -59,7 +59,7 @@ module _ (B : Block) (t bits : List ℕ) (lent : ContentionLent) where
     -- "the list is empty exactly if refusal 5 would not be given"
     pub empty : (rows ≡ 0) ↔ (RefusedFive B t bits → ⊥)
 
-  -- `before` and `after` are the lent list; "On a refusal the outputs keep their old contents"
+  -- `before` and `after` are the lent list, which keeps its length; "On a refusal the outputs keep their old contents"
   abbrev pub ContentionsSay : (before after : List ℕ) → ContentionList → Type 0
-  ContentionsSay before after (Rows rows) = Listed (length before) after rows
+  ContentionsSay before after (Rows rows) = (length after ≡ length before) × Listed (length before) after rows
   ContentionsSay before after (Refused refusal) = (after ≡ before) × ContentionsNo (length before) refusal

@@ -59,7 +59,7 @@ module _ (B : Block) (t bits list settings wires heads nexts : List ℕ) where
       (contentions-say B t bits settings wires heads nexts list after (contended B t bits list settings wires heads nexts) refl refl)
     where
       go : (a : ContentionList) (now : List ℕ) → ContentionsSay B t bits lent list now a → ContentionOrder a
-      go (Rows rows) now s =
+      go (Rows rows) now (long, s) =
           let R = s .read in
           let fits : (n : ℕ) → RowsNeeded (ContentionRow B t (settingsRead B t bits)) rowLength n → rowLength * n ≤ length list
           = λ n N. let f = s .fits in let e = ap (λ (x : ℕ). rowLength * x) (count-unique (s .listed) (N .listed)) in omega arith in

@@ -1,7 +1,7 @@
 -- The tiles of a block that was decoded or encoded, and what the tests of a tile say of it. Main laws: `decoded-at`, `decoded-reads`, `tiles-read-one`,
--- `encoded-at`, `encoded-reads`, `bitless-lowest`, `none-bitless`. Assumes nothing.
-use mathlib.Core.Path.{_≡_, sym, subst}
-use mathlib.Core.Bool.{true}
+-- `decoded-is`; `encoded-at`, `encoded-reads`, `encoded-is`; `bitless-lowest`, `bitless-is`, `none-bitless`, `bits-none`. Assumes nothing.
+use mathlib.Core.Path.{_≡_, sym, subst, ap, _∙_}
+use mathlib.Core.Bool.{true, not}
 use mathlib.Core.Logic.{⊎-elim}
 use mathlib.Core.List.{List, _++_}
 use Prim.Native.Nat.{ℕ, zero, suc, _+_, _-_, _*_, _^_, _<_, _≤_}
@@ -10,9 +10,9 @@ use borrow.Author.Tests.{not-true, not-false}
 use lib.ListN.{length, take, getD, List·getD-append}
 use lib.Seq.{length-take-le, getD-append-add}
 use Rattle.lists.specs.Parts.{joined}
-use Rattle.lists.proofs.CaseLaws.{clash, lt-or-le}
-use Rattle.lists.proofs.SearchLaws.{first-true, first-before}
-use Rattle.lists.proofs.PartLaws.{part-length, joined-length, part-joined}
+use Rattle.lists.proofs.CaseLaws.{clash, test-false, lt-or-le}
+use Rattle.lists.proofs.SearchLaws.{first-at, first-none, first-true, first-before}
+use Rattle.lists.proofs.PartLaws.{part-length, joined-length, part-joined, joined-is}
 use Rattle.routing.specs.LogicTile.{logicTile}
 use Rattle.routing.specs.Rules.{TableRules}
 use Rattle.routing.specs.Slots.{slotsOf}
@@ -28,6 +28,7 @@ use Rattle.codec.proofs.EncodeLaws.{encode-length, encode-fits}
 use Rattle.codec.proofs.TileRunLaws.{slot-value-lt}
 use Rattle.codec.proofs.ReadingLaws.{decode-reads, reads-unique, settings-fit-exact}
 use Rattle.codec.proofs.SettingsBack.{settings-back, encode-decodable}
+use Rattle.codec.proofs.BitsBack.{bits-back}
 use Rattle.config.specs.Blocks.{bitsAt, settingsAt, roomLength, decodedAt, decoded, bitlessAt, bitlessTile, encodedAt, encoded, tilesOf}
 use Rattle.config.specs.Facts.{LowestBitless, TilesRead}
 
@@ -68,6 +69,13 @@ module _ (table bits : List ℕ) (n : ℕ) where
     -- and nothing else: tiles read to one settings only
     pub tiles-read-one : (a b : List ℕ) → TilesRead table (tilesOf bits) a n → TilesRead table (tilesOf bits) b n → (t : ℕ) → t < n → settingsAt a t ≡ settingsAt b t
     tiles-read-one a b x y t l = reads-unique table (bitsAt bits t) T (x .decodable t l) (settingsAt a t) (settingsAt b t) (x .reads t l) (y .reads t l)
+
+    -- what they read to is what is decoded
+    pub decoded-is : (a : List ℕ) → length a ≡ settingsLength * n → TilesRead table (tilesOf bits) a n → decoded table (tilesOf bits) n ≡ a
+    unfolding decodedAt
+    decoded-is a long x =
+        joined-is settingsLength n (decodedAt table (tilesOf bits)) a long
+        (λ t l. reads-unique table (bitsAt bits t) T (x .decodable t l) _ _ (decode-reads table (bitsAt bits t) T) (x .reads t l))
 
 -- ---- settings to bits
 
@@ -111,7 +119,7 @@ module _ (table settings : List ℕ) (n : ℕ) where
     fit-bits t h e = settings-fit-exact table (settingsAt settings t) T (settings-at-length settings n t long h) .0 e
 
     -- settings that fit can be written
-    pub fit-writable : (t : ℕ) → t < n → settingsFit table (settingsAt settings t) ≡ true → Writable table (settingsAt settings t)
+    fit-writable : (t : ℕ) → t < n → settingsFit table (settingsAt settings t) ≡ true → Writable table (settingsAt settings t)
     fit-writable t h e = record { rules = T; long = settings-at-length settings n t long h; fit = e }
 
     pub bitless-lowest : bitlessTile table settings n < n → LowestBitless table settings n (bitlessTile table settings n)
@@ -123,9 +131,24 @@ module _ (table settings : List ℕ) (n : ℕ) where
       lower = λ s l. fit-bits s (omega arith) (not-false _ (first-before (bitlessAt table settings) 0 n s (omega arith) l));
     }
 
+    bits-fit : (t : ℕ) → t < n → HasBits table (settingsAt settings t) → settingsFit table (settingsAt settings t) ≡ true
+    bits-fit t h H = settings-fit-exact table (settingsAt settings t) T (settings-at-length settings n t long h) .1 H
+
+    -- no other tile is the lowest
+    pub bitless-is : (t : ℕ) → LowestBitless table settings n t → t ≡ bitlessTile table settings n
+    unfolding bitlessAt
+    bitless-is t low =
+        sym (first-at (bitlessAt table settings) t n (low .within)
+        (ap not (test-false (settingsFit table (settingsAt settings t)) (fit-bits t (low .within)) (low .bitless)))
+        (λ s l. ap not (bits-fit s (let h = low .within in omega arith) (low .lower s l))))
+
     pub none-bitless : n ≤ bitlessTile table settings n → (t : ℕ) → t < n → HasBits table (settingsAt settings t)
     unfolding bitlessAt
     none-bitless pass t h = fit-bits t h (not-false _ (first-before (bitlessAt table settings) 0 n t (omega arith) (omega arith)))
+
+    pub bits-none : ((t : ℕ) → t < n → HasBits table (settingsAt settings t)) → n ≡ bitlessTile table settings n
+    unfolding bitlessAt
+    bits-none has = sym (first-none (bitlessAt table settings) n (λ t l. ap not (bits-fit t l (has t l))))
 
     -- what is encoded reads to the settings
     pub encoded-reads : ((t : ℕ) → t < n → settingsFit table (settingsAt settings t) ≡ true) → TilesRead table (tilesOf (encoded table settings n)) settings n
@@ -135,3 +158,12 @@ module _ (table settings : List ℕ) (n : ℕ) where
           (subst (ReadsTo table (bitAt (encode table (settingsAt settings t)))) (settings-back table (settingsAt settings t) (fit-writable t l (fit t l)))
           (decode-reads table (encode table (settingsAt settings t)) T));
     }
+
+  -- and nothing else: bits that read to the settings are what is encoded
+  pub encoded-is : TableRules logicTile table → (bits : List ℕ) → length bits ≡ tileNumbers * n → TilesRead table (tilesOf bits) settings n
+      → encoded table settings n ≡ bits
+  unfolding encodedAt
+  encoded-is T bits long x =
+      joined-is tileNumbers n (encodedAt table settings) bits long
+      (λ t l. ap (encode table) (sym (reads-unique table (bitsAt bits t) T (x .decodable t l) _ _ (decode-reads table (bitsAt bits t) T) (x .reads t l)))
+      ∙ bits-back table (bitsAt bits t) T (x .decodable t l) (bits-at-length bits n t long l))

@@ -7,27 +7,18 @@ use Prim.Native.Nat.{ℕ, _<_}
 use native.Mathlib.Omega.{arith}
 use lib.ListN.{length}
 use Rattle.lists.proofs.SearchLaws.{first-none}
-use Rattle.lists.proofs.PartLaws.{joined-is}
 use Rattle.refusal.specs.declared.Answer.the-variants.{Done}
 use Rattle.ports.specs.declared.size.Size.{Size}
 use Rattle.ports.specs.Block.{tileCount}
-use Rattle.routing.specs.LogicTile.{logicTile}
-use Rattle.codec.specs.Bits.{bitAt}
-use Rattle.ports.specs.Lengths.{tileNumbers, settingsLength}
-use Rattle.codec.specs.Decode.{decode}
-use Rattle.codec.specs.Encode.{encode}
 use Rattle.codec.specs.Limits.{settingsFit}
-use Rattle.codec.specs.Reading.{Decodable}
 use Rattle.codec.proofs.ReadingLaws.{decode-fits}
-use Rattle.codec.proofs.SettingsBack.{settings-back}
-use Rattle.codec.proofs.BitsBack.{bits-back}
-use Rattle.config.specs.Blocks.{bitsAt, settingsAt, decodedAt, decoded, bitlessAt, encodedAt, encoded, tilesOf}
+use Rattle.config.specs.Blocks.{bitsAt, decoded, bitlessAt, encoded, tilesOf}
 use Rattle.config.specs.Entry.{readAnswer, writeAnswer}
-use Rattle.config.specs.Facts.{Checked}
+use Rattle.config.specs.Facts.{Checked, TilesRead}
 use Rattle.config.proofs.EntryLaws.{read-done, write-done}
 use Rattle.config.proofs.FaultPlaceLaws.{decodable-no-fault}
 use Rattle.config.proofs.PassedLaws.{read-passed, read-clean, write-passed, write-fit}
-use Rattle.config.proofs.BlocksLaws.{bits-at-length, decoded-length, decoded-at, encoded-length, encoded-at, encoded-reads, fit-writable}
+use Rattle.config.proofs.BlocksLaws.{decoded-length, decoded-at, decoded-reads, decoded-is, encoded-length, encoded-reads, encoded-is}
 
 -- "Writing settings gives bits that read back the same"
 module _ (S : Size) (table settings : List ℕ) (bits : ℕ) (done : writeAnswer S table settings bits ≡ Done) where
@@ -37,15 +28,8 @@ module _ (S : Size) (table settings : List ℕ) (bits : ℕ) (done : writeAnswer
   abbrev written : List ℕ
   written = encoded table settings (tileCount S)
 
-  written-clean : (t : ℕ) → t < tileCount S → Decodable table (tilesOf written t)
-  written-clean = encoded-reads table settings (tileCount S) (W .rules) (W .lengths .settings-long) (write-fit S table settings bits done) .decodable
-
-  written-back : (t : ℕ) → t < tileCount S → decodedAt table (tilesOf written) t ≡ settingsAt settings t
-  unfolding decodedAt
-  written-back t l =
-      ap (λ (b : List ℕ). decode table (bitAt b)) (encoded-at table settings (tileCount S) t l)
-      ∙ settings-back table (settingsAt settings t)
-      (fit-writable table settings (tileCount S) (W .rules) (W .lengths .settings-long) t l (write-fit S table settings bits done t l))
+  back : TilesRead table (tilesOf written) settings (tileCount S)
+  back = encoded-reads table settings (tileCount S) (W .rules) (W .lengths .settings-long) (write-fit S table settings bits done)
 
   pub written-reads : (readAnswer S table (encoded table settings (tileCount S)) (length settings) ≡ Done)
       × (decoded table (tilesOf (encoded table settings (tileCount S))) (tileCount S) ≡ settings)
@@ -59,8 +43,8 @@ module _ (S : Size) (table settings : List ℕ) (bits : ℕ) (done : writeAnswer
       };
       rules = W .rules;
     })
-        _ (decodable-no-fault table written (W .rules) (tileCount S) written-clean) (omega arith)),
-    joined-is settingsLength (tileCount S) (decodedAt table (tilesOf written)) settings (W .lengths .settings-long) written-back,
+        _ (decodable-no-fault table written (W .rules) (tileCount S) (back .decodable)) (omega arith)),
+    decoded-is table written (tileCount S) (W .rules) settings (W .lengths .settings-long) back,
   )
 
 -- "bits that were read are written back the same"
@@ -77,14 +61,6 @@ module _ (S : Size) (table bits : List ℕ) (settings : ℕ) (done : readAnswer 
       ap not (ap (settingsFit table) (decoded-at table bits (tileCount S) t l)
       ∙ decode-fits table (bitsAt bits t) (R .rules) (read-clean S table bits settings done t l))
 
-  taken-back : (t : ℕ) → t < tileCount S → encodedAt table taken t ≡ bitsAt bits t
-  unfolding encodedAt
-  taken-back t l =
-      ap (encode table) (decoded-at table bits (tileCount S) t l)
-      ∙ bits-back table (bitsAt bits t) (R .rules)
-      (read-clean S table bits settings done t l)
-      (bits-at-length bits (tileCount S) t (R .lengths .bits-long) l)
-
   pub read-writes : (writeAnswer S table (decoded table (tilesOf bits) (tileCount S)) (length bits) ≡ Done)
       × (encoded table (decoded table (tilesOf bits) (tileCount S)) (tileCount S) ≡ bits)
   read-writes = (
@@ -98,5 +74,6 @@ module _ (S : Size) (table bits : List ℕ) (settings : ℕ) (done : readAnswer 
       rules = R .rules;
     })
         (tileCount S) (sym (first-none (bitlessAt table taken) (tileCount S) taken-fits)) (omega arith)),
-    joined-is tileNumbers (tileCount S) (encodedAt table taken) bits (R .lengths .bits-long) taken-back,
+    encoded-is table taken (tileCount S) (R .rules) bits (R .lengths .bits-long)
+        (decoded-reads table bits (tileCount S) (R .rules) (read-clean S table bits settings done)),
   )

@@ -6,3 +6,4 @@ pub mod BuildingLaws  -- list-.., bits-.., build-..: the answers of building, gr
 pub mod DriverLaws  -- port-.., settings-.., follow-..: the answers of following, ground by ground; follow-cleared: the work room
 pub mod MeaningLaws  -- list-says, build-says: every answer of building says what specs/Meaning.antt has
 pub mod DriverMeaningLaws  -- follow-says: every answer of following says what specs/DriverMeaning.antt has
+pub mod ExactLaws  -- list-exact, build-exact, follow-exact: what an answer says fits one answer only

@@ -1,5 +1,5 @@
 -- Every answer of a step says what specs/Meaning.antt has. Main law: `step-says`. Assumes nothing.
-use Prim.Native.Nat.{ℕ, _*_, _<_}
+use Prim.Native.Nat.{ℕ, _<_}
 use mathlib.Core.Path.{_≡_, sym, subst}
 use mathlib.Core.Logic.{_↔_}
 use mathlib.Core.Bool.{true}
@@ -16,15 +16,12 @@ use Rattle.ports.specs.declared.size.Block.{Block}
 use Rattle.ports.specs.Block.{tiles, sized}
 use Rattle.ports.specs.Lengths.{ports}
 use Rattle.ports.proofs.BlockLaws.{sized-true, sized-exact}
-use Rattle.netlist.specs.Checking.{FirstBad}
-use Rattle.netlist.proofs.CheckingLaws.{first-bad-exact}
 use Rattle.routing.specs.LogicTile.{logicTile}
 use Rattle.routing.specs.TableCheck.{tableOk}
 use Rattle.routing.proofs.TableCheckLaws.{table-exact, table-broken}
 use Rattle.config.specs.Blocks.{bitlessTile}
 use Rattle.config.proofs.BlocksLaws.{bitless-lowest, none-bitless}
-use Rattle.stepper.specs.Settling.{wireMarks, badRow}
-use Rattle.stepper.proofs.SettledLaws.{marks-length}
+use Rattle.stepper.specs.Settling.{badRow}
 use Rattle.sim.specs.Stepping.{aboveOne, badByte, runAnswer, inputsAnswer, stepAnswer}
 use Rattle.sim.specs.declared.lengths.StepLent.{StepLent}
 use Rattle.sim.specs.declared.lengths.StepRoomLent.{StepRoomLent}
@@ -32,6 +29,7 @@ use Rattle.sim.specs.Lengths.{inputsLent, stepLent, stepExact, StepLong}
 use Rattle.sim.specs.Meaning.{FirstAbove, Steppable, Stands, StepSays, wrong-size, wrong-length, broken, bitless, bad-row, not-a-bit}
 use Rattle.sim.proofs.ByteLaws.{bits-of-joined}
 use Rattle.sim.proofs.LengthLaws.{step-long-exact}
+use Rattle.sim.proofs.StepLaws.{bad-row-first}
 
 first-above : (bytes : List ℕ) → badByte bytes < length bytes → FirstAbove bytes (badByte bytes)
 first-above bytes l = record {
@@ -47,19 +45,14 @@ module _ (B : Block) (t st list state before after : List ℕ) (room : StepRoomL
   abbrev Says : Answer → Type 0
   Says = StepSays B t st list state before after lent
 
-  bad : FirstBad list (8 * tiles B) (wireMarks B) (ports B) (badRow B list)
-  bad =
-      subst (λ (n : ℕ). FirstBad list (8 * tiles B) (wireMarks B) n (badRow B list)) (marks-length B)
-      (first-bad-exact list (8 * tiles B) (wireMarks B))
-
   -- grounds 12 and 10
   run-means : Steppable B t st list state before after lent
       → Says (runAnswer B list state before after)
   unfolding runAnswer
   run-means can =
-      unless-cases Says (leb (ports B) (badRow B list)) _ _ (λ e. bad-row _ can (leb-false _ _ e) bad)
+      unless-cases Says (leb (ports B) (badRow B list)) _ _ (λ e. bad-row _ can (leb-false _ _ e) (bad-row-first B list))
       (λ e. let pass = leb-true (ports B) _ e in
-      let stands : Stands B t st list state before after lent = λ i l. bad .before i (omega arith) in
+      let stands : Stands B t st list state before after lent = λ i l. bad-row-first B list .before i (omega arith) in
       unless-cases Says (leb (length (state ++ before ++ after)) (badByte (state ++ before ++ after))) _ _
       (λ f. not-a-bit _ can stands (first-above (state ++ before ++ after) (leb-false _ _ f)))
       (λ f. let bits = bits-of-joined state before after (leb-true (length (state ++ before ++ after)) _ f) in

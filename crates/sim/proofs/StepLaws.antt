@@ -1,7 +1,7 @@
--- What a step answers, one law a ground, and what a yes shows. Main laws: `run-row`, `run-byte`, `run-done`, `run-shows`; `inputs-table`,
+-- What a step answers, one law a ground, and what a yes shows. Main laws: `bad-row-first`, `run-row`, `run-byte`, `run-done`, `run-shows`; `inputs-table`,
 -- `inputs-settings`, `inputs-run`, `inputs-shows`; `step-size`, `step-length`, `step-inputs`; `room-cleared`.
 use Prim.Native.Nat.{ℕ, _*_, _<_, _≤_}
-use mathlib.Core.Path.{_≡_, refl, sym, _∙_, ap}
+use mathlib.Core.Path.{_≡_, refl, sym, _∙_, ap, subst}
 use mathlib.Core.Bool.{Bool, true, false}
 use mathlib.Core.List.{List, _++_}
 use native.Mathlib.Omega.{arith}
@@ -20,6 +20,7 @@ use Rattle.ports.specs.declared.size.Block.{Block}
 use Rattle.ports.specs.Block.{tiles, sized}
 use Rattle.ports.specs.Lengths.{ports}
 use Rattle.netlist.specs.Rows.{rowLength}
+use Rattle.netlist.specs.Checking.{FirstBad}
 use Rattle.netlist.specs.Running.{Bits}
 use Rattle.netlist.proofs.CheckingLaws.{first-bad-exact}
 use Rattle.routing.specs.LogicTile.{logicTile}
@@ -35,12 +36,14 @@ never-done q e = let z : _≡_ {A = ℕ} 0 1 = cc in omega arith
 
 -- ---- grounds 12 and 10
 
+-- the row that is found is the first that may not stand where it does
+pub bad-row-first : (B : Block) (list : List ℕ) → FirstBad list (8 * tiles B) (wireMarks B) (ports B) (badRow B list)
+bad-row-first B list =
+    subst (λ (n : ℕ). FirstBad list (8 * tiles B) (wireMarks B) n (badRow B list)) (marks-length B) (first-bad-exact list (8 * tiles B) (wireMarks B))
+
 module _ (B : Block) (list state before after : List ℕ) where
   abbrev joined : List ℕ
   joined = state ++ before ++ after
-
-  pub bad-row-le : badRow B list ≤ ports B
-  bad-row-le = let l = first-bad-exact list (8 * tiles B) (wireMarks B) .within in let n = marks-length B in omega arith
 
   pub run-row : badRow B list < ports B → Refused (Row (badRow B list)) ≡ runAnswer B list state before after
   unfolding runAnswer
@@ -65,7 +68,7 @@ module _ (B : Block) (list state before after : List ℕ) where
         (leb-true _ _ (row .0), leb-true _ _ (byte .0))
 
     run-passed : badRow B list ≡ ports B
-    run-passed = let l = checks-passed .0 in omega (arith, bad-row-le)
+    run-passed = let l = checks-passed .0 in omega (arith, bad-row-first B list .within)
 
     run-bits : Bits state × Bits before × Bits after
     run-bits = bits-of-joined state before after (checks-passed .1)

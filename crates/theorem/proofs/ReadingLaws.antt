@@ -6,19 +6,18 @@ use mathlib.Core.Logic.{_↔_}
 use mathlib.Core.List.{List}
 use native.Mathlib.Omega.{arith}
 use lib.ListN.{length}
-use Rattle.lists.proofs.PartLaws.{joined-is}
 use Rattle.refusal.specs.declared.Answer.the-variants.{Done}
 use Rattle.ports.specs.declared.size.Size.{Size}
 use Rattle.ports.specs.Block.{tileCount}
-use Rattle.ports.specs.Lengths.{settingsLength, settingsTotal}
+use Rattle.ports.specs.Lengths.{settingsTotal}
 use Rattle.codec.specs.Reading.{Decodable, ReadsTo}
-use Rattle.codec.proofs.ReadingLaws.{decode-reads, reads-unique}
-use Rattle.config.specs.Blocks.{bitsAt, settingsAt, tilesOf, decodedAt, decoded}
+use Rattle.config.specs.Blocks.{settingsAt, tilesOf, decoded}
 use Rattle.config.specs.Entry.{readAnswer}
 use Rattle.config.specs.Facts.{Checked}
 use Rattle.config.proofs.EntryLaws.{read-done}
 use Rattle.config.proofs.PassedLaws.{read-passed, read-clean}
 use Rattle.config.proofs.FaultPlaceLaws.{decodable-no-fault}
+use Rattle.config.proofs.BlocksLaws.{decoded-is}
 
 module _ (S : Size) (table bits : List ℕ) (settings : ℕ) where
   pub reads-exactly : (readAnswer S table bits settings ≡ Done)
@@ -32,9 +31,6 @@ module _ (S : Size) (table bits : List ℕ) (settings : ℕ) where
 
   pub reads-one : readAnswer S table bits settings ≡ Done → (st : List ℕ) → length st ≡ settingsTotal S
       → ((T : ℕ) → T < tileCount S → ReadsTo table (tilesOf bits T .bit) (settingsAt st T)) → decoded table (tilesOf bits) (tileCount S) ≡ st
-  unfolding decodedAt
   reads-one done st long to =
-      let C = read-passed S table bits settings done in
-      joined-is settingsLength (tileCount S) (decodedAt table (tilesOf bits)) st long
-      (λ T l. reads-unique table (bitsAt bits T) (C .rules) (read-clean S table bits settings done T l)
-      _ _ (decode-reads table (bitsAt bits T) (C .rules)) (to T l))
+      decoded-is table bits (tileCount S) (read-passed S table bits settings done .rules) st long
+      (record { decodable = read-clean S table bits settings done; reads = to })

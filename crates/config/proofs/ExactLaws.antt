@@ -42,19 +42,16 @@ module _ (S : Size) (table bits : List ℕ) where
       let e = fault-place-exact table bits (C .rules) (tileCount S) place .0 low in
       read-undecodable S table bits n C place (e .0) (e .1)
 
-  read-told : (before after : List ℕ) (r : Answer) → ReadSays S table bits before after r → length after ≡ length before
-      → r ≡ readAnswer S table bits (length before)
-  read-told before after Done x long =
-      subst (λ (n : ℕ). Done ≡ readAnswer S table bits n) long
+  read-told : (before after : List ℕ) (r : Answer) → ReadSays S table bits before after r → r ≡ readAnswer S table bits (length before)
+  read-told before after Done x =
+      subst (λ (n : ℕ). Done ≡ readAnswer S table bits n) (x .2)
       (read-done S table bits (length after) (x .0) _ (decodable-no-fault table bits (x .0 .rules) (tileCount S) (x .1 .decodable)) (omega arith))
-  read-told before after (Refused refusal) x long = read-no-told (length before) (x .1)
+  read-told before after (Refused refusal) x = read-no-told (length before) (x .1)
 
-  -- one answer, and one content, only. That the lent settings keep their length is no part of what a yes says: where a wrong length was lent, a yes with
-  -- settings of the right length would do beside ground 2
-  pub read-exact : (before a b : List ℕ) (r q : Answer) → ReadSays S table bits before a r → ReadSays S table bits before b q → length a ≡ length before
-      → length b ≡ length before → (r ≡ q) × (a ≡ b)
-  read-exact before a b r q x y la lb =
-      let e : r ≡ q = read-told before a r x la ∙ sym (read-told before b q y lb) in
+  -- one answer, and one content, only
+  pub read-exact : (before a b : List ℕ) (r q : Answer) → ReadSays S table bits before a r → ReadSays S table bits before b q → (r ≡ q) × (a ≡ b)
+  read-exact before a b r q x y =
+      let e : r ≡ q = read-told before a r x ∙ sym (read-told before b q y) in
       (e, same r x (subst (ReadSays S table bits before b) (sym e) y))
     where
       is : (c : List ℕ) → ReadSays S table bits before c Done → decoded table (tilesOf bits) (tileCount S) ≡ c
@@ -84,21 +81,20 @@ module _ (S : Size) (table settings : List ℕ) where
   tiles-have bits n long x t l =
       record { bits = bitsAt bits t; long = bits-at-length bits n t long l; decodable = x .decodable t l; reads = x .reads t l }
 
-  write-told : (before after : List ℕ) (r : Answer) → WriteSays S table settings before after r → length after ≡ length before
-      → r ≡ writeAnswer S table settings (length before)
-  write-told before after Done x long =
-      subst (λ (n : ℕ). Done ≡ writeAnswer S table settings n) long
+  write-told : (before after : List ℕ) (r : Answer) → WriteSays S table settings before after r → r ≡ writeAnswer S table settings (length before)
+  write-told before after Done x =
+      subst (λ (n : ℕ). Done ≡ writeAnswer S table settings n) (x .2)
       (write-done S table settings (length after) (x .0) _
       (bits-none table settings (tileCount S) (x .0 .rules) (x .0 .lengths .settings-long)
       (tiles-have after (tileCount S) (x .0 .lengths .bits-long) (x .1)))
       (omega arith))
-  write-told before after (Refused refusal) x long = write-no-told (length before) (x .1)
+  write-told before after (Refused refusal) x = write-no-told (length before) (x .1)
 
-  -- one answer, and one content, only; of the length the same holds as for `read`
+  -- one answer, and one content, only
   pub write-exact : (before a b : List ℕ) (r q : Answer) → WriteSays S table settings before a r → WriteSays S table settings before b q
-      → length a ≡ length before → length b ≡ length before → (r ≡ q) × (a ≡ b)
-  write-exact before a b r q x y la lb =
-      let e : r ≡ q = write-told before a r x la ∙ sym (write-told before b q y lb) in
+      → (r ≡ q) × (a ≡ b)
+  write-exact before a b r q x y =
+      let e : r ≡ q = write-told before a r x ∙ sym (write-told before b q y) in
       (e, same r x (subst (WriteSays S table settings before b) (sym e) y))
     where
       is : (c : List ℕ) → WriteSays S table settings before c Done → encoded table settings (tileCount S) ≡ c

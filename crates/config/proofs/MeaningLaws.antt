@@ -1,5 +1,5 @@
 -- Every answer of `read` and `write` says what specs/Meaning.antt has it say. Main laws: `read-means`, `write-means`. Assumes nothing.
-use mathlib.Core.Path.{_≡_, refl, sym, subst}
+use mathlib.Core.Path.{_≡_, refl, sym, subst, _∙_}
 use mathlib.Core.Bool.{true, false}
 use mathlib.Core.List.{List}
 use Prim.Native.Nat.{ℕ, _*_}
@@ -74,6 +74,7 @@ module _ (S : Size) (table bits : List ℕ) where
           rules = C .rules;
         },
         decoded-reads table bits (tileCount S) (C .rules) (no-fault-decodable table bits (C .rules) (tileCount S) (leb-true _ _ c)),
+        decoded-length table bits (tileCount S) ∙ sym (C .lengths .settings-long),
       ))
 
   -- the same over what `read` promises of its answer and of the lent settings
@@ -116,6 +117,7 @@ module _ (S : Size) (table settings : List ℕ) where
         encoded-reads table settings (tileCount S) (C .rules) (C .lengths .settings-long)
             (λ i z. not-false _ (first-before (bitlessAt table settings) 0 (tileCount S) i (omega arith)
             (omega (arith, leb-true (tileCount S) (bitlessTile table settings (tileCount S)) c)))),
+        encoded-length table settings (tileCount S) ∙ sym (C .lengths .bits-long),
       ))
 
   -- the same over what `write` promises of its answer and of the lent bits

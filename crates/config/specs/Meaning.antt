@@ -21,7 +21,9 @@ pub data ReadNo (S : Size) (table bits : List ℕ) (settings : ℕ) : Refusal �
   undecodable : (place : ℕ) → Checked S table (length bits) settings → LowestFault table (tilesOf bits) (tileCount S) place
       → ReadNo S table bits settings (Undecodable place)
 
--- what an answer of `read` says, `before` and `after` being the lent settings; "On a refusal the outputs keep their old contents"
+-- what an answer of `read` says, `before` and `after` being the lent settings, which keep their length; "On a refusal the outputs keep their old
+-- contents"
 abbrev pub ReadSays : Size → List ℕ → List ℕ → List ℕ → List ℕ → Answer → Type 0
-ReadSays S table bits before after Done = Checked S table (length bits) (length after) × TilesRead table (tilesOf bits) after (tileCount S)
+ReadSays S table bits before after Done =
+    Checked S table (length bits) (length after) × TilesRead table (tilesOf bits) after (tileCount S) × (length after ≡ length before)
 ReadSays S table bits before after (Refused refusal) = (after ≡ before) × ReadNo S table bits (length before) refusal

@@ -20,7 +20,8 @@ pub data WriteNo (S : Size) (table settings : List ℕ) (bits : ℕ) : Refusal �
   bitless : (tile : ℕ) → Checked S table bits (length settings) → LowestBitless table settings (tileCount S) tile
       → WriteNo S table settings bits (NoSuchSettings tile)
 
--- what an answer of `write` says, `before` and `after` being the lent bits; "Writing settings gives bits that read back the same"
+-- what an answer of `write` says, `before` and `after` being the lent bits, which keep their length; "Writing settings gives bits that read back the same"
 abbrev pub WriteSays : Size → List ℕ → List ℕ → List ℕ → List ℕ → Answer → Type 0
-WriteSays S table settings before after Done = Checked S table (length after) (length settings) × TilesRead table (tilesOf after) settings (tileCount S)
+WriteSays S table settings before after Done =
+    Checked S table (length after) (length settings) × TilesRead table (tilesOf after) settings (tileCount S) × (length after ≡ length before)
 WriteSays S table settings before after (Refused refusal) = (after ≡ before) × WriteNo S table settings (length before) refusal

@@ -1,6 +1,6 @@
 -- The bits of a tile in the form in which they are lent: words, one for each row. Beside this file, Held.antt, `src/bits.rt`, `src/held.rt` and their
--- laws, three others know that form: `bitsOf` (Encode.antt), which makes it, `take_row` of `tile`, which goes through a tile row by row, and `asc`,
--- whose rows are the same.
+-- laws, these know that form: `bitsOf` (Encode.antt), which makes it; `write_value` (src/cells.rt), which writes a cell's two rows; `is_past_at`
+-- (src/fault.rt), which looks past a row's columns; `take_row` of `tile`, which goes through a tile row by row; and `asc`, whose rows are the same.
 use Prim.Native.Nat.{ℕ, zero, suc, _+_, _/_, _%_}
 use mathlib.Core.Bool.{Bool}
 use mathlib.Core.List.{List}

@@ -14,6 +14,7 @@ withHeld bits h = set bits (h .row) (h .word)
 abbrev pub ClearFrom : (ℕ → ℕ) → ℕ → ℕ → List ℕ → Type 0
 ClearFrom at k n bits = (j : ℕ) → k ≤ j → j < n → bitAt bits (at j) ≡ 0
 
--- digits of v go to the positions `at`: where the first k stood before, whatever the bits were without them, the first n stand after
+-- digits of v go to the positions `at`: where the first k stood before, whatever the bits were without them, the first n stand after. Of other bits
+-- before it says nothing
 abbrev pub DigitsWritten : (ℕ → ℕ) → ℕ → ℕ → ℕ → (before after : List ℕ) → Type 0
 DigitsWritten at v k n before after = (bits : List ℕ) → before ≡ setBits bits at v k → after ≡ setBits bits at v n

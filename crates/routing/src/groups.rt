@@ -19,10 +19,10 @@ use ports::lengths::MAX_ENTRIES;
 use ports::lengths::MAX_POSITIONS;
 
 // How many patterns eight positions have.
-pub const PATTERNS: usize = 256;
+pub const PATTERN_COUNT: usize = 256;
 
 // Entry e of group g, by itself and with the entries before it, whose patterns are those that are marked g + 1 in `seen`.
-fn entry_ok(table: &[u16], g: usize, e: usize, seen: &mut [u16; PATTERNS]) -> bool
+fn entry_ok(table: &[u16], g: usize, e: usize, seen: &mut [u16; PATTERN_COUNT]) -> bool
     requires { ⌜ (length (now table) ≡ tableLength) × (g < maxGroups) × (e < entryCount logicTile (now table) g) ×
         (widthOf logicTile (now table) g ≤ maxPositions) × (entryCount logicTile (now table) g ≤ maxEntries) × Marked logicTile
         (now table) g e (now seen) ⌝ }
@@ -48,7 +48,7 @@ fn entry_ok(table: &[u16], g: usize, e: usize, seen: &mut [u16; PATTERNS]) -> bo
 
 // Group g by itself. A pattern of group g is marked g + 1 in `seen`. The groups before have left lower marks, so that nothing is cleared
 // between groups, which would take a tenth of the time of reading a small block.
-pub fn group_alone_ok(table: &[u16], g: usize, seen: &mut [u16; PATTERNS]) -> bool
+pub fn group_alone_ok(table: &[u16], g: usize, seen: &mut [u16; PATTERN_COUNT]) -> bool
     requires { ⌜ (length (now table) ≡ tableLength) × (g < maxGroups) × MarkedBefore g (now seen) ⌝ }
     ensures answer { λ r. ⌜ r ≡ groupAloneOk logicTile (now (table .entry)) g ⌝ }
     ensures seen { λ r. ⌜ (r ≡ true → MarkedBefore (g + 1) (now (seen .exit))) ⌝ }

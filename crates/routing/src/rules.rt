@@ -13,7 +13,7 @@ ghost use Rattle.routing.specs.Marks.{MarkedBefore};
 ghost use Rattle.routing.specs.TableCheck.{fieldsOk, passivesOk, groupOk, faultyPart, tableOk};
 use crate::claims::claim;
 use crate::claims::claim_cells;
-use crate::groups::PATTERNS;
+use crate::groups::PATTERN_COUNT;
 use crate::groups::group_alone_ok;
 use crate::slots::FIELD_SLOTS;
 use crate::slots::GROUP_SLOTS;
@@ -30,7 +30,7 @@ use ports::lengths::MAX_POSITIONS;
 use ports::lengths::POSITIONS;
 
 // Group g by itself and with all that was claimed before it.
-fn check_group(table: &[u16], g: usize, seen: &mut [u16; PATTERNS], own: &mut [u16]) -> bool
+fn check_group(table: &[u16], g: usize, seen: &mut [u16; PATTERN_COUNT], own: &mut [u16]) -> bool
     requires { ⌜ (length (now table) ≡ tableLength) × (g < maxGroups) × (g < groupCount logicTile (now table)) ×
         MarkedBefore g (now seen) × (TableOwned logicTile (now table) (groupSlot logicTile g) (now own)) ⌝ }
     ensures answer { λ r. ⌜ r ≡ groupOk logicTile (now (table .entry)) g ⌝ }
@@ -54,7 +54,7 @@ fn check_groups(table: &[u16], own: &mut [u16]) -> usize
         (slotCount logicTile) (now (own .exit))) ⌝ }
 {
     let n = group_count(table);
-    let mut seen = [0u16; PATTERNS];
+    let mut seen = [0u16; PATTERN_COUNT];
     let mut g = 0;
     while g < n {
         if g == MAX_GROUPS {

@@ -35,7 +35,7 @@ pub record Gathered (table bits settings : List ℕ) : Type 0 where
 
 -- settings that have gathered all that those before had
 pub record Learned (table bits before after : List ℕ) : Type 0 where
-  pub known : Gathered table bits after
+  pub gathered : Gathered table bits after
   pub kept : (n : ℕ) → n < groupsFrom logicTile → getD before n 0 ≢ 0 → getD after n 0 ≢ 0
   pub grown : (g k : ℕ) → digit (groupSetting logicTile before g) k ≡ 1 → digit (groupSetting logicTile after g) k ≡ 1
 

@@ -148,7 +148,7 @@ fn write_groups(table: &[u16], settings: &[u16], bits: &mut [u64])
     store_held(bits, held);
 }
 
-// A tile's settings written to its bits; the cells go through the array by value.
+// A tile's settings written to its bits: the cells first, then fields, passive bits and groups.
 pub fn encode_tile(table: &[u16], settings: &[u16], bits: &mut [u64])
     requires { ⌜ (TableRules logicTile (now table)) × (length (now settings) ≡ settingsLength) ×
         (settingsFit (now table) (now settings) ≡ true) × (length (now bits) ≡ tileNumbers) ⌝ }

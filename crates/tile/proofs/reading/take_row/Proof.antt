@@ -1,4 +1,4 @@
--- `take_row` meets its contract. Invariant: the settings know all that they knew, and the set digits that are no longer left are taken
+-- `take_row` meets its contract. Invariant: the settings have gathered all that they had, and the set digits that are no longer left are taken
 -- (`Passed`). Measure: what is left. Assumes nothing.
 use mathlib.Core.Path.{refl, _∙_, subst, sym}
 use Prim.Native.Nat.{ℕ, _+_, _*_, _<_}
@@ -69,7 +69,7 @@ take-bit-requires c κs =
       at-start .pre .2,
       omega (arith, inside),
       bit-of-row (at-start .args .bits .now) (at-start .args .i) _ inside ∙ on,
-      at-loop .loop .inv .0 .known,
+      at-loop .loop .inv .0 .gathered,
     )
 
 same-length : tie.Need-same-length Inv-loop μ-loop

@@ -82,7 +82,7 @@ loop-again c =
     let at-take-row = c .before .before .before in
     let at-loop = at-take-row .before .before .before in
     let taken = at-take-row .take-row .ensures .0 (not-false _ (c .if2 .left)) in
-    (omega arith, taken .0 .known, taken-turn (at-loop .loop .inv .2) (taken .0) (taken .1))
+    (omega arith, taken .0 .gathered, taken-turn (at-loop .loop .inv .2) (taken .0) (taken .1))
 
 find-settings-requires : tie.Need-find-settings-requires Inv-loop μ-loop
 find-settings-requires c κs =

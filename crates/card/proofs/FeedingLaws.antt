@@ -51,10 +51,10 @@ use Rattle.card.proofs.MarkingLaws.{Marked, marked_none, marked_both, marked_as,
 use Rattle.card.proofs.ReachLaws.{Comes, reach_length, reach_exact}
 use Rattle.card.proofs.LeavingLaws.{leaving_length, leaving_exact}
 
--- ---- the wires of flip_flops
+-- ---- the wires of flip-flops
 
 module _ (B : Block) (st : List ℕ) where
-  -- cell c is a flip_flop_lem, and wire w one of its
+  -- cell c is a flip-flop, and wire w one of its
   abbrev OfCell : ℕ → ℕ → Type 0
   OfCell c w = (flop_cell st c ≡ true) × (PortsOf B (c / 8) (372 + 4 * (c % 8)) 4 w ⊎ PortsOf B (c / 8) clk 3 w)
 

@@ -140,7 +140,7 @@ module _ (p : ℕ → Bool) (m : List ℕ) where
       go true = refl
       go false = sym (ap (set m w) (sym z) ∙ set-get_or m w 0)
 
--- ---- flip_flops
+-- ---- flip-flops
 
 module _ (B : Block) (st m : List ℕ) where
   pub flop_no : (c : ℕ) → flop_cell st c ≡ false → m ≡ flop_mark B st c m

@@ -15,7 +15,7 @@ use Rattle.card.specs.Marks.{leaving_marks, feeding_marks}
 pub data Wire (Is : ℕ → Type 0) : List ℕ → Type 0 where
   wire : (w : ℕ) → Is w → Wire Is (w ∷ [])
 
--- "W, H, how many cells are not all zero, how many flip_flops, leaving wires, and open wires [..], each of the two lists after its count, the rest zeros",
+-- "W, H, how many cells are not all zero, how many flip-flops, leaving wires, and open wires [..], each of the two lists after its count, the rest zeros",
 -- "Wires rise by number, each once". `numbers` is how many numbers that are, without the rest.
 pub record Card (B : Block) (t st card : List ℕ) (numbers : ℕ) : Type 0 where
   pub width : get_or card 0 0 ≡ B.w

@@ -1,5 +1,5 @@
 -- The shelf card of document 02, W14.
-pub mod Cells  -- believed. used_cell, flop_cell: a cell that is not all zero, a flip_flop_lem
+pub mod Cells  -- believed. used_cell, flop_cell: a cell that is not all zero, a flip-flop
 pub mod Leaving  -- believed. LeavingWire: a driven span wire with a port whose join to another tile fails
 pub mod Feeding  -- believed. FeedingWire: an open wire that a leaving wire or a flip-flop's wire depends on
 pub mod Marks  -- computed: leaving_exact, feeding_exact. The marks of these wires, as the code makes them

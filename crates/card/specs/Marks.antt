@@ -69,9 +69,9 @@ driven_marks sources m = kept (listed sources) m
 unfoldable pub leaving_marks : Block → (t st : List ℕ) → List ℕ
 leaving_marks B t st = driven_marks (sources_of B t st) (exit_marks B (tiles B) (zeros (ports B)))
 
--- ---- what leaving wires and flip_flops depend on
+-- ---- what leaving wires and flip-flops depend on
 
--- the in, clk, cen and s_r wires of cell c, if it is a flip_flop_lem: in_0 to in_3 stand one after another, and so do clk, cen and s_r
+-- the in, clk, cen and s_r wires of cell c, if it is a flip-flop: in_0 to in_3 stand one after another, and so do clk, cen and s_r
 unfoldable pub flop_mark : Block → (st : List ℕ) → ℕ → List ℕ → List ℕ
 flop_mark B st c m = cond (flop_cell st c) (mark_ports B (c / 8) clk 3 (mark_ports B (c / 8) (372 + 4 * (c % 8)) 4 m)) m
 

@@ -1,4 +1,4 @@
-// How many cells are in use, and how many flip_flops there are.
+// How many cells are in use, and how many flip-flops there are.
 ghost use Rattle.std.specs.Prelude.{◌≡◌, ◌*◌, ◌/◌, ◌≤◌, length};
 ghost use Rattle.lists.specs.Search.{count_below};
 ghost use Rattle.ports.specs.Lengths.{settings_length};
@@ -22,7 +22,7 @@ fn is_used(st: &[u16], c: usize) -> bool
     tile_setting(st, tile, n + 1) != 0
 }
 
-// Whether cell c of a block has its flip_flop_lem enabled.
+// Whether cell c of a block has its flip-flop enabled.
 pub fn is_flop(st: &[u16], c: usize) -> bool
     requires { TileInside st.now (c / 8) }
     ensures { result ≡ flop_cell st.now c }
@@ -48,7 +48,7 @@ pub fn count_used(st: &[u16], n: usize) -> usize
     k
 }
 
-// How many of the cells of n tiles are flip_flops.
+// How many of the cells of n tiles are flip-flops.
 pub fn count_flops(st: &[u16], n: usize) -> usize
     requires { (n ≤ 64) × (length st.now ≡ settings_length * n) }
     ensures { result ≡ count_below (flop_cell st.now) (8 * n) }

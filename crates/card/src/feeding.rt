@@ -1,4 +1,4 @@
-// The open wires that a leaving wire or a flip_flop_lem depends on.
+// The open wires that a leaving wire or a flip-flop depends on.
 ghost use Rattle.std.specs.Prelude.{◌≡◌, ◌*◌, ◌<◌, length};
 ghost use Rattle.ports.specs.Block.{tiles};
 ghost use Rattle.ports.specs.Lengths.{ports};
@@ -14,7 +14,7 @@ use netlist::row::{Row, wide};
 use ports::lengths::CELLS_PER_TILE;
 use ports::size::Block;
 
-// The in, clk, cen and s_r wires of cell c, if its flip_flop_lem is enabled, are marked.
+// The in, clk, cen and s_r wires of cell c, if its flip-flop is enabled, are marked.
 fn mark_flop(b: Block, st: &[u16], wires: &[u16], c: usize, marks: &mut [u16])
     requires { Mapped b st.now wires.now × (c < 8 * tiles b) × (length marks.old ≡ ports b) }
     ensures { marks.new ≡ flop_mark b st.now c marks.old }
@@ -115,8 +115,8 @@ fn keep_open(b: Block, st: &[u16], wires: &[u16], sources: &[u16], marks: &mut [
     }
 }
 
-// Marks of the leaving wires become those of the open wires that these or a flip_flop_lem depend on.
-// Rules out: only what such a wire reads itself; open wires that only a lookup without a flip_flop_lem depends on.
+// Marks of the leaving wires become those of the open wires that these or a flip-flop depend on.
+// Rules out: only what such a wire reads itself; open wires that only a lookup without a flip-flop depends on.
 pub fn mark_feeding(
     b: Block,
     st: &[u16],

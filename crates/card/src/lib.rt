@@ -1,5 +1,5 @@
-// The shelf card of a lodged design (document 02, W14): size, cells in use, flip_flops, the wires that leave the block, and the open wires that these or
-// the flip_flops depend on.
+// The shelf card of a lodged design (document 02, W14): size, cells in use, flip-flops, the wires that leave the block, and the open wires that these or
+// the flip-flops depend on.
 //
 // `shelf_card` takes any input and has no `requires`. It builds the block, and then takes time linear in ports and switches: `leaving` marks the wires
 // that leave, `feeding` marks what is depended on in one pass over the list, from its last row down. specs/Leaving.antt and specs/Feeding.antt say which

@@ -2,4 +2,4 @@
 pub mod Settings  -- believed. cellOf, flagsOf: a cell's settings and its flags as a number
 pub mod Lookup  -- believed. lookup_bit, looked_up, majority
 pub mod Halves  -- inner. halved, ByHalves: the lookup as four choices
-pub mod NextState  -- believed. ticked, next_sync, next_async, next_state: how a flip_flop_lem moves in one step
+pub mod NextState  -- believed. ticked, next_sync, next_async, next_state: how a flip-flop moves in one step

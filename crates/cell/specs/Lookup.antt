@@ -23,6 +23,6 @@ looked_value (Refused refusal) = place_of refusal
 unfoldable pub looked_up : ℕ → ℕ → Looked
 looked_up table inputs = unless (ltb inputs 16) (Refused (OutOfRange inputs)) (Bit (digit table inputs))
 
--- "cout is the majority of in_1, in_2 and carry_in_lem"
+-- "cout is the majority of in_1, in_2 and carry-in"
 unfoldable pub majority : ℕ → ℕ → ℕ → ℕ
 majority a b c = cond (leb 2 (a + b + c)) 1 0

@@ -29,7 +29,7 @@ next_async state tick rise enable after set lookup =
 abbrev pub bit_of : Bool → ℕ
 bit_of on = cond on 1 0
 
--- "Bit [..] 9 [enables] the flip_flop_lem, 18 sets rather than resets, 19 makes that asynchronous"; "without a flip_flop_lem, keep".
+-- "Bit [..] 9 [enables] the flip-flop, 18 sets rather than resets, 19 makes that asynchronous"; "without a flip-flop, keep".
 unfoldable pub next_state : Cell → Control → ℕ → ℕ → ℕ
 next_state cell control lookup state =
     cond cell.flipflop

@@ -1,4 +1,4 @@
--- A cell's settings and their flags as one number (document 01, 'Cells' and frame 07: "flags (1 carry, 2 flip_flop_lem, 4 set, 8 asynchronous)").
+-- A cell's settings and their flags as one number (document 01, 'Cells' and frame 07: "flags (1 carry, 2 flip-flop, 4 set, 8 asynchronous)").
 use Rattle.std.specs.Prelude.{ℕ, ◌+◌, cond}
 use Rattle.cell.specs.declared.logic.Cell.{Cell}
 use Rattle.digits.specs.Digits.{is_set}

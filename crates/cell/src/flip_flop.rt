@@ -1,4 +1,4 @@
-// A cell's flip_flop_lem: its state by value, which a step takes and hands back.
+// A cell's flip-flop: its state by value, which a step takes and hands back.
 ghost use Rattle.std.specs.Prelude.{◌≡◌};
 ghost use Rattle.cell.specs.NextState.{ticked, rose, next_sync, next_async, next_state, bit_of};
 
@@ -65,7 +65,7 @@ impl FlipFlop {
         self
     }
 
-    // The state after a step, for a cell with these settings. Without a flip_flop_lem it is kept.
+    // The state after a step, for a cell with these settings. Without a flip-flop it is kept.
     pub fn step(self, cell: Cell, control: Control, lookup: u8) -> FlipFlop
         ensures { result.value ≡ next_state cell control lookup self.value }
     {

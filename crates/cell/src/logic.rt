@@ -20,7 +20,7 @@ pub struct Cell {
 }
 
 impl Cell {
-    // A cell from its table and its flags as a number: 1 carry, 2 flip_flop_lem, 4 set, 8 asynchronous.
+    // A cell from its table and its flags as a number: 1 carry, 2 flip-flop, 4 set, 8 asynchronous.
     pub fn new(table: u16, flags: u16) -> Cell
         ensures { result ≡ cell_of table flags }
     {

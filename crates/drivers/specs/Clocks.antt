@@ -1,4 +1,4 @@
--- Ground 8: "clk of a tile with a flip_flop_lem, or s_r of one with an asynchronous flip_flop_lem, comes from a cell", place "lowest tile".
+-- Ground 8: "clk of a tile with a flip-flop, or s_r of one with an asynchronous flip-flop, comes from a cell", place "lowest tile".
 use Rattle.std.specs.Prelude.{ℕ, ◌≤◌, ◌<◌, ◌≡◌, Bool, true, false, not, ◌&&◌, ◌||◌, List}
 use Rattle.ports.specs.Lengths.{cells_per_tile}
 use Rattle.lists.specs.Search.{first, some_below}
@@ -13,7 +13,7 @@ use Rattle.drivers.specs.declared.follow.Driver.{Driver}
 use Rattle.drivers.specs.declared.follow.Driver.TheVariants.{Open, Constant, Cell}
 use Rattle.drivers.specs.Following.{DrivenBy, driver_of}
 
--- "19 makes that asynchronous": flag 8; without bit 9 it is no flip_flop_lem
+-- "19 makes that asynchronous": flag 8; without bit 9 it is no flip-flop
 abbrev pub async_flop_on : List ℕ → ℕ → ℕ → Bool
 async_flop_on st T i = flop_on st T i && is_set (flags_at st T i) 3
 
@@ -22,7 +22,7 @@ module _ (B : Block) (t st : List ℕ) where
   abbrev pub ComesFromCell : ℕ → Type 0
   ComesFromCell w = (u : ℕ) × DrivenBy B t st w (Cell u)
 
-  -- tile T has a flip_flop_lem and its clk comes from a cell, or an asynchronous one and its s_r does
+  -- tile T has a flip-flop and its clk comes from a cell, or an asynchronous one and its s_r does
   pub data FromCell (T : ℕ) : Type 0 where
     clock : (i : ℕ) → i < 8 → flop_on st T i ≡ true → ComesFromCell (wire B T clk) → FromCell T
     reset : (i : ℕ) → i < 8 → async_flop_on st T i ≡ true → ComesFromCell (wire B T s_r) → FromCell T

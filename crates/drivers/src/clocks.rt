@@ -1,4 +1,4 @@
-// The clock check (document 01, ground 8): no clk of a tile with a flip_flop_lem, and no s_r of one with an asynchronous flip_flop_lem, comes from a cell.
+// The clock check (document 01, ground 8): no clk of a tile with a flip-flop, and no s_r of one with an asynchronous flip-flop, comes from a cell.
 ghost use Rattle.std.specs.Prelude.{◌≡◌, not, ◌&&◌, ◌<◌, length};
 ghost use Rattle.ports.specs.Block.{tiles};
 ghost use Rattle.ports.specs.Lengths.{ports, ports_per_tile};
@@ -24,7 +24,7 @@ pub fn clock_ok(d: Driver) -> bool
     true
 }
 
-// Whether a cell of the tile has a flip_flop_lem.
+// Whether a cell of the tile has a flip-flop.
 fn has_flop(st: &[u16], tile: usize) -> bool
     requires { TileInside st.now tile }
     ensures { result ≡ any_cell (flop_on st.now tile) }
@@ -92,7 +92,7 @@ fn is_clocked(b: Block, st: &[u16], wires: &[u16], sources: &[u16], tile: usize)
 }
 
 // The lowest tile whose clock or reset comes from a cell, or the number of tiles. It says so where no wire depends on itself (`clocked_exact`).
-// Rules out: asking for a clock where no cell has a flip_flop_lem; bit 19 without bit 9 taken as a flip_flop_lem.
+// Rules out: asking for a clock where no cell has a flip-flop; bit 19 without bit 9 taken as a flip-flop.
 pub fn clocked_tile(b: Block, st: &[u16], wires: &[u16], sources: &[u16]) -> usize
     requires { Mapped b st.now wires.now × (length sources.now ≡ ports b) × Bounded sources.now }
     ensures { result ≡ clocked_tile b st.now sources.now }

@@ -70,10 +70,10 @@ module _ (B : Block) (t st : List ℕ) where
       pub switch : (s : ℕ) → s < switches B → enabled B t st s ≡ true → get_or v (target B t s) 0 ≡ get_or v (origin B t st s) 0
       -- "lout is the lookup"
       pub lout : (T i : ℕ) → T < tiles B → i < 8 → val T (lout_port i) ≡ looked T i
-      -- "out is the flip_flop_lem where enabled, else the lookup"
+      -- "out is the flip-flop where enabled, else the lookup"
       pub out_flop : (T i : ℕ) → T < tiles B → i < 8 → flop_on st T i ≡ true → val T (out_port i) ≡ get_or state (8 * T + i) 0
       pub out_look : (T i : ℕ) → T < tiles B → i < 8 → flop_on st T i ≡ false → val T (out_port i) ≡ looked T i
-      -- "cout is the majority of in_1, in_2 and carry_in_lem where carry is enabled, else 0"
+      -- "cout is the majority of in_1, in_2 and carry-in where carry is enabled, else 0"
       pub cout_on : (T i : ℕ) → T < tiles B → i < 8 → carry_on st T i ≡ true
           → val T (cout_port i) ≡ majority (val T (in_port i 1)) (val T (in_port i 2)) (val T (carry_port i))
       pub cout_off : (T i : ℕ) → T < tiles B → i < 8 → carry_on st T i ≡ false → val T (cout_port i) ≡ 0
@@ -87,7 +87,7 @@ module _ (B : Block) (t st : List ℕ) where
       -- "Span, neigh_op, glb_netwk, carry_in and ltin wires that nothing drives are open: the caller lends their value, read at the wire's number."
       pub open_wires : (T q : ℕ) → T < tiles B → OpenPort q → Undriven (wire B T q) → val T q ≡ get_or lent (wire B T q) 0
 
-  -- "A wire depends on those its equation reads, by structure, even where a table ignores an input [..]. A flip_flop_lem out and a disabled cout
+  -- "A wire depends on those its equation reads, by structure, even where a table ignores an input [..]. A flip-flop out and a disabled cout
   -- depend on nothing." The equation of wire w reads wire d.
   pub data ReadsWire : ℕ → ℕ → Type 0 where
     switch_reads : (s : ℕ) → s < switches B → enabled B t st s ≡ true → ReadsWire (target B t s) (origin B t st s)

@@ -19,7 +19,7 @@ plain_row kind w a = record { kind = kind; wire = w; a = a; b = 0; c = 0; d = 0;
 abbrev pub in_wire : Block → ℕ → ℕ → ℕ → ℕ
 in_wire B T i j = wire_of B (tile_port B T (in_port i j))
 
--- "6 lookup (in_0 first)", "7 majority (in_1, in_2, carry_in_lem)"
+-- "6 lookup (in_0 first)", "7 majority (in_1, in_2, carry-in)"
 abbrev pub lookup_row : Block → List ℕ → ℕ → ℕ → ℕ → Row
 lookup_row B st w T i =
     record { kind = lookup_kind; wire = w; a = in_wire B T i 0; b = in_wire B T i 1; c = in_wire B T i 2; d = in_wire B T i 3; table = table_of st T i }
@@ -39,13 +39,13 @@ module _ (B : Block) (t st : List ℕ) (w : ℕ) where
     no_switch_zero : ZeroPort (w % ports_per_tile) → NoSwitch B t st w → RowSays (plain_row zero_kind w 0)
     -- "and cen is 1": "3 one"
     no_switch_one : w % ports_per_tile ≡ cen → NoSwitch B t st w → RowSays (plain_row one_kind w 0)
-    -- "out is the flip_flop_lem where enabled": "4 flip_flop_lem (operand 1 is 8t + i)"
+    -- "out is the flip-flop where enabled": "4 flip-flop (operand 1 is 8t + i)"
     out_flip_flop : (T i : ℕ) → T < tiles B → i < 8 → wire B T (out_port i) ≡ w → flop_on st T i ≡ true
         → RowSays (plain_row flip_flop_kind w (8 * T + i))
-    -- "else the lookup", "lout, and out without a flip_flop_lem, are both kind 6"
+    -- "else the lookup", "lout, and out without a flip-flop, are both kind 6"
     out_lookup : (T i : ℕ) → T < tiles B → i < 8 → wire B T (out_port i) ≡ w → flop_on st T i ≡ false → RowSays (lookup_row B st w T i)
     lout_lookup : (T i : ℕ) → T < tiles B → i < 8 → wire B T (lout_port i) ≡ w → RowSays (lookup_row B st w T i)
-    -- "cout is the majority of in_1, in_2 and carry_in_lem where carry is enabled, else 0"
+    -- "cout is the majority of in_1, in_2 and carry-in where carry is enabled, else 0"
     cout_majority : (T i : ℕ) → T < tiles B → i < 8 → wire B T (cout_port i) ≡ w → carry_on st T i ≡ true → RowSays (majority_row B w T i)
     cout_zero : (T i : ℕ) → T < tiles B → i < 8 → wire B T (cout_port i) ≡ w → carry_on st T i ≡ false → RowSays (plain_row zero_kind w 0)
     -- "carry_in_mux is 1 if set, carry_in if switched, else 0"

@@ -21,7 +21,7 @@ block_list B t st = list_of (wire_rows B t st) (ports B)
 abbrev pub run_of : Block → List ℕ → List ℕ → List ℕ → List ℕ → List ℕ → List ℕ
 run_of B t st state lent room = run_from (block_list B t st) state lent 0 (wires B) room
 
--- "all flip_flop_lem states and all lent outside values of 0 and 1": a byte a cell, a byte a port
+-- "all flip-flop states and all lent outside values of 0 and 1": a byte a cell, a byte a port
 pub record Inputs (B : Block) (state lent : List ℕ) : Type 0 where
   pub state_bits : Bits state
   pub lent_bits : Bits lent
@@ -31,7 +31,7 @@ pub record Inputs (B : Block) (state lent : List ℕ) : Type 0 where
 pub record Settles (B : Block) (t st : List ℕ) : Type 0 where
   -- "The answer has the row count, which is the number of wires."
   pub count : length (order (graph_of (wire_rows B t st)) (ports B)) ≡ wires B
-  -- "running that list gives wire values that meet every cell, carry and switch equation, with constants, flip_flop_lem outs and open wires"
+  -- "running that list gives wire values that meet every cell, carry and switch equation, with constants, flip-flop outs and open wires"
   pub meets : (state lent room : List ℕ) → ports B ≤ length room → Meets B t st state lent (run_of B t st state lent room)
   -- "Every wire has a value of 0 or 1"
   pub bits : (state lent room : List ℕ) → Inputs B state lent → ports B ≤ length room

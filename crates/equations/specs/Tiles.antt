@@ -24,7 +24,7 @@ table_of st T i = setting_of st T (cells_from logic_tile + 2 * i)
 abbrev pub flags_at : List ℕ → ℕ → ℕ → ℕ
 flags_at st T i = setting_of st T (cells_from logic_tile + 2 * i + 1)
 
--- "Bit 8 enables carry, 9 the flip_flop_lem": flags 1 and 2
+-- "Bit 8 enables carry, 9 the flip-flop": flags 1 and 2
 abbrev pub carry_on : List ℕ → ℕ → ℕ → Bool
 carry_on st T i = is_set (flags_at st T i) 0
 

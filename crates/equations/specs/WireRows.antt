@@ -17,7 +17,7 @@ use Rattle.equations.specs.Switches.{switches, enabled, target, origin}
 use Rattle.equations.specs.RowMeaning.{plain_row, lookup_row, majority_row}
 use Rattle.equations.specs.Drives.{drive_of}
 
--- the row of wire w where no switch ends on it; "4 flip_flop_lem (operand 1 is 8t + i)"
+-- the row of wire w where no switch ends on it; "4 flip-flop (operand 1 is 8t + i)"
 unfoldable pub drive_row : Block → List ℕ → ℕ → Drive → Row
 drive_row B st w Nothing = plain_row lent_kind w 0
 drive_row B st w Low = plain_row zero_kind w 0

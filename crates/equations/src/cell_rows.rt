@@ -52,7 +52,7 @@ pub fn lookup_row(b: Block, st: &[u16], wires: &[u16], w: u16, tile: usize, i: u
     }
 }
 
-// The port that is the carry_in_lem of cell i.
+// The port that is the carry-in of cell i.
 fn carry_port(i: u32) -> u32
     requires { i < 8 }
     ensures { (result ≡ carry_port i) × (result < ports_per_tile) }

@@ -13,7 +13,7 @@ switch_part sources w = cond (eqb (get_or sources w 0) 0) [] (switch_line w (get
 abbrev pub switch_lines : List ℕ → ℕ → List ℕ
 switch_lines sources n = joined (switch_part sources) n
 
--- "07 is tile, cell, table, flags (1 carry, 2 flip_flop_lem, 4 set, 8 asynchronous) of cells not all zero", by tile, then cell
+-- "07 is tile, cell, table, flags (1 carry, 2 flip-flop, 4 set, 8 asynchronous) of cells not all zero", by tile, then cell
 abbrev pub cell_part : List ℕ → ℕ → List ℕ
 cell_part st c =
     cond (eqb (table_of st (c / 8) (c % 8)) 0 && eqb (flags_at st (c / 8) (c % 8)) 0)

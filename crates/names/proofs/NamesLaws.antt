@@ -23,7 +23,7 @@ infixr 20 ◌and◌
 ◌and◌ : {P : Example → Type 0} {e : Example} {es : List Example} → P e → All P es → All P (e ∷ es)
 ◌and◌ {P} {e} {es} line lines = more {e = e} {es = es} line lines
 
--- the lines in the table's order: six on wires, the count, three on the group, the cell, the flip_flop_lem, four on what stands outside
+-- the lines in the table's order: six on wires, the count, three on the group, the cell, the flip-flop, four on what stands outside
 pub names_hold : All Holds names_to_try
 unfolding wire_of wire_at port_at walk flip first tabulate cell_position next_state next_sync
 names_hold =

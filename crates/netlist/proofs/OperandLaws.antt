@@ -38,7 +38,7 @@ module _ (row : Row) (cells : ℕ) (came : ℕ → Bool) (j o : ℕ) (is : o ≡
       go false true e = clash refl e
       go false false e = rw is
 
--- operand 0 is the cell of a flip_flop_lem, and an operand that is read is one of four
+-- operand 0 is the cell of a flip-flop, and an operand that is read is one of four
 pub operand_of_cell : (row : Row) → (row.a ≡ operand_of row 0) × ((j : ℕ) → j < arity_of row → j < 4) × (row.kind ≡ flip_flop_kind → arity_of row ≤ 0)
 unfolding operand_of arity_of
 operand_of_cell row = (refl, λ j l. let a = arity_le row in omega arith, none)

@@ -7,7 +7,7 @@ use Rattle.netlist.specs.Rows.{row_at, operand_of, arity_of, zero_row}
 use Rattle.netlist.specs.Running.{Earlier}
 use Rattle.netlist.specs.declared.row.Row.{Row}
 
--- its kind uses operand j: a wire, or the cell of a flip_flop_lem
+-- its kind uses operand j: a wire, or the cell of a flip-flop
 abbrev pub uses : Row → ℕ → Bool
 uses row j = ltb j (arity_of row) || (eqb row.kind flip_flop_kind && eqb j 0)
 

@@ -1,4 +1,4 @@
--- "Kinds: 1 lent, 2 zero, 3 one, 4 flip_flop_lem (operand 1 is 8t + i), 5 copy, 6 lookup (in_0 first), 7 majority (in_1, in_2, carry_in_lem)"
+-- "Kinds: 1 lent, 2 zero, 3 one, 4 flip-flop (operand 1 is 8t + i), 5 copy, 6 lookup (in_0 first), 7 majority (in_1, in_2, carry-in)"
 -- 0 is no kind: an unused row has it, and the row by wire of an index that is no wire.
 use Rattle.std.specs.Prelude.{ℕ}
 

@@ -47,7 +47,7 @@ zero_row = record { kind = 0; wire = 0; a = 0; b = 0; c = 0; d = 0; table = 0 }
 unfoldable pub operand_of : Row → ℕ → ℕ
 operand_of row j = cond (eqb j 0) row.a (cond (eqb j 1) row.b (cond (eqb j 2) row.c row.d))
 
--- how many of its operands are wires that it reads: one of a copy, "in_0 first" four of a lookup, "in_1, in_2, carry_in_lem" of a majority
+-- how many of its operands are wires that it reads: one of a copy, "in_0 first" four of a lookup, "in_1, in_2, carry-in" of a majority
 unfoldable pub arity_of : Row → ℕ
 arity_of row = cond (eqb row.kind copy_kind) 1 (cond (eqb row.kind lookup_kind) 4 (cond (eqb row.kind majority_kind) 3 0))
 

@@ -11,7 +11,7 @@ position row column = columns * row + column
 abbrev pub lc_position : ℕ → ℕ → ℕ
 lc_position i k = cond (ltb k 10) (position (2 * i) (36 + k)) (position (2 * i + 1) (26 + k))
 
--- "LUT_INIT 0 to 15 are LC bits 4, 14, 15, 5, 6, 16, 17, 7, 3, 13, 12, 2, 1, 11, 10, 0 [..]. Bit 8 enables carry, 9 the flip_flop_lem, 18 sets rather
+-- "LUT_INIT 0 to 15 are LC bits 4, 14, 15, 5, 6, 16, 17, 7, 3, 13, 12, 2, 1, 11, 10, 0 [..]. Bit 8 enables carry, 9 the flip-flop, 18 sets rather
 -- than resets, 19 makes that asynchronous." The order was compared with 000, entry by entry.
 abbrev pub lc_bits : List ℕ
 lc_bits =

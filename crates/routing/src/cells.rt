@@ -7,7 +7,7 @@ use ports::lengths::COLUMNS;
 
 pub const BITS_PER_CELL: usize = 20;
 
-// The logic cell bits of LUT_INIT 0 to 11, then of LUT_INIT 12 to 15, carry, flip_flop_lem, set and asynchronous, five binary digits each, the first
+// The logic cell bits of LUT_INIT 0 to 11, then of LUT_INIT 12 to 15, carry, flip-flop, set and asynchronous, five binary digits each, the first
 // lowest. Two numbers, for an array would be laid out anew at each look.
 const FIRST_LC_BITS: u64 = 86029347607199172;
 

@@ -51,7 +51,7 @@ clock_of_settled B st b a state =
     states_same (size_of B) st (handed (port_values B b)) (of_wires B b) (handed (port_values B a)) (of_wires B a)
     (λ T q lT lq. port_values_at B b (port_of T q) (port_of_lt B T q lT lq)) (λ T q lT lq. port_values_at B a (port_of T q) (port_of_lt B T q lT lq)) state
 
--- "without a flip_flop_lem, keep"
+-- "without a flip-flop, keep"
 pub next_kept : (st : List ℕ) (b a : ℕ → ℕ → ℕ) (state : List ℕ) (c : ℕ) → (cell_at st (c / 8) (c % 8)).flipflop ≡ false → get_or state c 0 ≡ next_cell st b a state c
 unfolding next_cell next_state
 next_kept st b a state c e = rw e

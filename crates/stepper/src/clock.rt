@@ -36,7 +36,7 @@ fn lookup_at(st: &[u16], values: &[u8], tile: usize, i: usize) -> u8
     lookup_bit(cell.table, in0, in1, in2, in3)
 }
 
-// What a tile's ports say to its flip_flops.
+// What a tile's ports say to its flip-flops.
 // Rules out: cen after; s_r before and after taken for one another.
 fn control_at(st: &[u16], before: &[u8], after: &[u8], tile: usize) -> Control
     requires { TileInside st.now tile × PortsInside before.now tile × PortsInside after.now tile }
@@ -57,7 +57,7 @@ fn control_at(st: &[u16], before: &[u8], after: &[u8], tile: usize) -> Control
     }
 }
 
-// The next state of cell number c, of which tile c / 8 has the eight. Without a flip_flop_lem it is kept, and nothing else is looked at.
+// The next state of cell number c, of which tile c / 8 has the eight. Without a flip-flop it is kept, and nothing else is looked at.
 fn next_cell(s: Size, st: &[u16], before: &[u8], after: &[u8], state: &[u8], c: usize) -> u8
     requires { Clockable s st.now state.now before.now after.now × (c < state_length s) }
     ensures { result ≡ next_cell st.now (handed before.now) (handed after.now) state.now c }

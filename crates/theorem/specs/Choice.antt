@@ -21,7 +21,7 @@ module _ (B : Block) (t st : List ℕ) where
 
     -- the values v are the one choice of 0 or 1 for the wires that meets every equation under this state and these lent values
     pub record OnlyChoice (v : List ℕ) : Type 0 where
-      -- "wire values that meet every cell, carry and switch equation, with constants, flip_flop_lem outs and open wires as document 01 gives them"
+      -- "wire values that meet every cell, carry and switch equation, with constants, flip-flop outs and open wires as document 01 gives them"
       pub meets : Meets B t st state lent v
       -- "Every wire has a value of 0 or 1"
       pub bits : PortBits B v
@@ -50,7 +50,7 @@ pub record BitBytes (n : ℕ) (bytes : List ℕ) : Type 0 where
   pub long : length bytes ≡ n
   pub bits : Bits bytes
 
--- "all flip_flop_lem states and all lent outside values of 0 and 1"
+-- "all flip-flop states and all lent outside values of 0 and 1"
 pub record SettleInputs (B : Block) (state lent : List ℕ) : Type 0 where
   pub state_bytes : BitBytes (state_length (size_of B)) state
   pub lent_bytes : BitBytes (ports B) lent

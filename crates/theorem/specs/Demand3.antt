@@ -47,7 +47,7 @@ module _ (B : Block) (table bits : List ℕ) where
   pub record AcceptedBlock (rows : ℕ) : Type 0 where
     -- "Each accepted block is turned into a list of rows, one for each wire, in document 01's order."
     pub listing : Listing B table st list rows
-    -- "For all flip_flop_lem states and all lent outside values of 0 and 1, running that list gives [..]. Every other choice of 0 or 1 [..]"
+    -- "For all flip-flop states and all lent outside values of 0 and 1, running that list gives [..]. Every other choice of 0 or 1 [..]"
     pub settles : (state lent : List ℕ) → Inputs B state lent → OnlyChoice B table st state lent (settled_by B list state lent)
     -- document 02, W11: "settled values without any tick": with the block's own settings and list no ground refuses settling, and what it writes are each
     -- port's values from the one set that the equations allow

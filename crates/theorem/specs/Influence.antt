@@ -35,7 +35,7 @@ pub record SameJoins (B C : Block) : Type 0 where
 -- "two accepted settings", each with its routing table
 module _ (B C : Block) (t st u su : List ℕ) where
   -- "both give the same equation to a wire": one row, with kind, operands and table, is what a sentence of document 01 gives it under either. So a copy
-  -- is the same if it comes from the same wire, a lookup if table and in wires are the same, a flip_flop_lem if the cell is.
+  -- is the same if it comes from the same wire, a lookup if table and in wires are the same, a flip-flop if the cell is.
   pub record SameEquation (w : ℕ) : Type 0 where
     pub row : Row
     pub first : RowSays B t st w row

@@ -1,4 +1,4 @@
--- `cells::count_flops` meets its contract. Invariant: k counts the flip_flops before c. Measure: the cells left. Assumes nothing.
+-- `cells::count_flops` meets its contract. Invariant: k counts the flip-flops before c. Measure: the cells left. Assumes nothing.
 use borrow.Author.Rules.{rules}
 use native.Mathlib.Omega.{arith}
 use Prim.Native.Nat.{ℕ, ◌*◌, ◌-◌, ◌≤◌}

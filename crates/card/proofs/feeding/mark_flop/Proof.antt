@@ -1,4 +1,4 @@
--- `feeding::mark_flop` meets its contract: no flip_flop_lem, or its ports. Assumes nothing.
+-- `feeding::mark_flop` meets its contract: no flip-flop, or its ports. Assumes nothing.
 use native.Mathlib.Omega.{arith}
 use mathlib.Core.Path.{sym, ◌∙◌}
 use borrow.Author.Tests.{not-true, not-false}

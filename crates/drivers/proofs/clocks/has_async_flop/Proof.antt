@@ -1,4 +1,4 @@
--- `clocks::has_async_flop` meets its contract. Invariant: no cell before i has an asynchronous flip_flop_lem. Measure: the cells that are left.
+-- `clocks::has_async_flop` meets its contract. Invariant: no cell before i has an asynchronous flip-flop. Measure: the cells that are left.
 -- Assumes nothing.
 use Rattle.drivers.proofs.ClockTurns.{NoneBefore, any_turn_hit, any_turn_skip, any_turn_end}
 use Rattle.drivers.specs.Clocks.{async_flop_on}

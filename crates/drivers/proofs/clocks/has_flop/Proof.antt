@@ -1,4 +1,4 @@
--- `clocks::has_flop` meets its contract. Invariant: no cell before i has a flip_flop_lem. Measure: the cells that are left. Assumes nothing.
+-- `clocks::has_flop` meets its contract. Invariant: no cell before i has a flip-flop. Measure: the cells that are left. Assumes nothing.
 use Rattle.drivers.proofs.ClockTurns.{NoneBefore, any_turn_hit, any_turn_skip, any_turn_end}
 use Rattle.equations.specs.Tiles.{flop_on}
 use Rattle.cell.specs.declared.logic.Cell.{Cell}

@@ -1,4 +1,4 @@
--- `cell_rows::majority_row` meets its contract: the operands are the wires of in_1, in_2 and the carry_in_lem. Assumes nothing.
+-- `cell_rows::majority_row` meets its contract: the operands are the wires of in_1, in_2 and the carry-in. Assumes nothing.
 use Rattle.fabric.specs.Wire.{wire_of}
 use Rattle.ports.specs.Block.{port_of}
 use mathlib.Core.Path.{◌∙◌, ap}

@@ -1,4 +1,4 @@
--- `cell_rows::out_row` meets its contract, with the flip_flop_lem and without. Assumes nothing.
+-- `cell_rows::out_row` meets its contract, with the flip-flop and without. Assumes nothing.
 use Rattle.equations.proofs.WireRowLaws.{flop_row, out_row}
 use Rattle.ports.proofs.BlockLaws.{tiles_le}
 use Rattle.cell.specs.declared.logic.Cell.{Cell}
@@ -26,7 +26,7 @@ cast-plain-row c =
 plain-row-requires : tie.Need-plain-row-requires
 plain-row-requires c κs = search rules
 
--- a flip_flop_lem
+-- a flip-flop
 returns : tie.Need-returns
 returns c =
     let at-if1 = c.before in

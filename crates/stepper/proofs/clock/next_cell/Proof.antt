@@ -1,4 +1,4 @@
--- `clock::next_cell` meets its contract: without a flip_flop_lem the state is kept (`next_kept`), else the flip-flop's own step decides. Assumes nothing.
+-- `clock::next_cell` meets its contract: without a flip-flop the state is kept (`next_kept`), else the flip-flop's own step decides. Assumes nothing.
 use Rattle.stepper.proofs.ClockingLaws.{next_kept}
 use Rattle.stepper.specs.Clocking.{handed, next_cell}
 use Rattle.cell.specs.declared.logic.Cell.{Cell}

@@ -1,4 +1,4 @@
--- `FlipFlop::step` meets its contract: no flip_flop_lem, an asynchronous and a synchronous one. Assumes nothing.
+-- `FlipFlop::step` meets its contract: no flip-flop, an asynchronous and a synchronous one. Assumes nothing.
 use Rattle.cell.proofs.NextStateLaws.{next_state_none, next_state_async, next_state_sync}
 use borrow.Author.Tests.{not-true, not-false}
 use mathlib.Core.Path.{sym, ◌∙◌}

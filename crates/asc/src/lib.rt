@@ -4,6 +4,8 @@
 // `read`, `text_length` and `write` take any input and none has a `requires`. specs/Stages.antt has what the lines of a file are, specs/Meaning.antt
 // what each answer of `read` says and specs/WriteMeaning.antt of `write`, proofs/ExactLaws.antt and proofs/WriteAnswerLaws.antt that it fits one answer
 // only, proofs/RoundTrip.antt that a file is read back.
+#![tactic(auto)]
+
 ghost use Rattle.std.specs.Prelude.{◌≡◌, ◌*◌, ◌^◌, ◌<◌, true, length};
 ghost use Rattle.ports.specs.Lengths.{tile_numbers, positions};
 ghost use Rattle.refusal.specs.Grounds.{answer_number};
@@ -31,7 +33,7 @@ mod turn;
 mod writing;
 
 // How long the file of a block is, or why there is none.
-#[derive(Drop)]
+#[derive(Clone, Copy)]
 pub enum TextLength {
     Bytes(u32),
     Refused(Refusal),

@@ -9,7 +9,7 @@ use crate::turn::{Scan, Turned, turn};
 use texts::lines::line_end;
 
 // All is there, or so many lines are in order and no more.
-#[derive(Drop)]
+#[derive(Clone, Copy)]
 pub enum Scanned {
     AllThere,
     StuckAt(usize),

@@ -12,7 +12,7 @@ const DOT: u8 = 46;
 
 // How far a file has come, beside the marks of the tiles and the digits: whether .device was met, whether a section is being skipped, how many rows
 // are due and where the next one goes.
-#[derive(Drop)]
+#[derive(Clone, Copy)]
 pub struct Scan {
     pub device: bool,
     pub skipping: bool,
@@ -21,7 +21,7 @@ pub struct Scan {
 }
 
 // A line leads to what follows, or it is not of the shape due.
-#[derive(Drop)]
+#[derive(Clone, Copy)]
 pub enum Turned {
     Goes(Scan),
     Fault,

@@ -1,5 +1,7 @@
 // A set of numbers below 65,536 whose lowest member is found at once: binary digits in words of 64, and two levels of words above that say which words
 // are not 0. Nothing here knows what the numbers stand for.
+#![tactic(auto)]
+
 ghost use Rattle.std.specs.Prelude.{◌≡◌, true, false, ◌≢◌, ℕ, ◌<◌};
 ghost use Rattle.lists.specs.Search.{first};
 ghost use Rattle.bitset.specs.Bitset.{Bitset, DigitWritten, has, word_digits, word_count, numbers};

@@ -7,7 +7,7 @@ use ports::lengths::{TABLE_LENGTH, bits_length, list_length, port_count, setting
 use ports::size::{Block, size_of};
 
 // The lengths of the list and of the work room to write it.
-#[derive(Drop)]
+#[derive(Clone, Copy)]
 pub struct RoomLent {
     pub list: usize,
     pub wires: usize,
@@ -18,7 +18,7 @@ pub struct RoomLent {
 }
 
 // The lengths of all that is lent to `build`.
-#[derive(Drop)]
+#[derive(Clone, Copy)]
 pub struct BuildLent {
     pub table: usize,
     pub bits: usize,
@@ -27,7 +27,7 @@ pub struct BuildLent {
 }
 
 // The lengths of the work room of `follow`.
-#[derive(Drop)]
+#[derive(Clone, Copy)]
 pub struct FollowRoomLent {
     pub wires: usize,
     pub sources: usize,
@@ -37,7 +37,7 @@ pub struct FollowRoomLent {
 }
 
 // The lengths of all that is lent to `follow`.
-#[derive(Drop)]
+#[derive(Clone, Copy)]
 pub struct FollowLent {
     pub table: usize,
     pub settings: usize,

@@ -2,6 +2,8 @@
 //
 // `build` and `follow` take any input and none has a `requires`. specs/Building.antt and specs/Drivers.antt have the grounds in their
 // orders, specs/Meaning.antt and specs/DriverMeaning.antt what each answer says in the paper's words.
+#![tactic(auto)]
+
 ghost use Rattle.std.specs.Prelude.{◌≡◌, length};
 ghost use Rattle.refusal.specs.Memory.{output, work_room};
 ghost use Rattle.ports.specs.Block.{tiles};
@@ -25,14 +27,14 @@ pub mod lengths;
 mod list;
 
 // So many rows, or why there is no list.
-#[derive(Drop)]
+#[derive(Clone, Copy)]
 pub enum Built {
     Listed(u32),
     Refused(Refusal),
 }
 
 // Where following ends, or why that is not said.
-#[derive(Drop)]
+#[derive(Clone, Copy)]
 pub enum Followed {
     Driven(Driver),
     Refused(Refusal),

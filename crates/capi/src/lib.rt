@@ -3,6 +3,8 @@
 // lookup and the wire number".
 //
 // What a call does is the contract of the function that it wraps. The answer's ground, `ground_in`, says what lent memory holds afterwards.
+#![tactic(auto)]
+
 ghost use Rattle.std.specs.Prelude.{◌≡◌};
 ghost use Rattle.ports.specs.Block.{block};
 ghost use Rattle.fabric.specs.WireNumber.{wire_number, wire_answer_number, wire_answer_value};

@@ -4,6 +4,8 @@
 // `shelf_card` takes any input and has no `requires`. It builds the block, and then takes time linear in ports and switches: `leaving` marks the wires
 // that leave, `feeding` marks what is depended on in one pass over the list, from its last row down. specs/Leaving.antt and specs/Feeding.antt say which
 // wires stand on the card, specs/Entry.antt has the grounds in their order, specs/Meaning.antt what each answer says in the paper's words.
+#![tactic(auto)]
+
 ghost use Rattle.std.specs.Prelude.{◌≡◌, length};
 ghost use Rattle.refusal.specs.Memory.{output, work_room};
 ghost use Rattle.block.specs.Lengths.{room_lent, build_lent, build_exact};
@@ -22,7 +24,7 @@ mod make;
 mod marks;
 
 // So many numbers, or why there is no card.
-#[derive(Drop)]
+#[derive(Clone, Copy)]
 pub enum Carded {
     Numbers(u32),
     Refused(Refusal),

@@ -4,13 +4,13 @@ ghost use Rattle.cell.specs.NextState.{ticked, rose, next_sync, next_async, next
 
 use crate::logic::Cell;
 
-#[derive(Drop)]
+#[derive(Clone, Copy)]
 pub struct FlipFlop {
     pub value: u8,
 }
 
 // What a tile's wires say of one step: its tick, cen before, s_r before and after.
-#[derive(Drop)]
+#[derive(Clone, Copy)]
 pub struct Control {
     pub tick: bool,
     pub enable: u8,

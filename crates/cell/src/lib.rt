@@ -3,5 +3,7 @@
 //
 // `lookup` is an entry point and has no `requires`. The functions below it take values that are 0 or 1, as every wire's is.
 // Callers cite the laws of proofs/.
+#![tactic(auto)]
+
 pub mod flip_flop;
 pub mod logic;

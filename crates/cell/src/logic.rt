@@ -8,7 +8,7 @@ ghost use Rattle.digits.specs.Digits.{digit, is_set};
 use refusal::Refusal;
 
 // The settings of one logic cell.
-#[derive(Drop)]
+#[derive(Clone, Copy)]
 pub struct Cell {
     // LUT_INIT, bit 0 with weight 1.
     pub table: u16,
@@ -45,7 +45,7 @@ impl Cell {
 }
 
 // The bit that a lookup gives, or why there is none.
-#[derive(Drop)]
+#[derive(Clone, Copy)]
 pub enum Looked {
     Bit(u8),
     Refused(Refusal),

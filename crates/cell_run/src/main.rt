@@ -1,5 +1,7 @@
 // Runs the logic cell over all inputs and prints what it gives; `stdout` holds what a model written apart from it gives
 // (tests/cell_model.py). One block of lines each: ticks, the flip-flop, the majority, the lookup.
+#![tactic(auto)]
+
 ghost use Rattle.std.specs.Prelude.{◌<◌};
 
 use cell::flip_flop::{Control, FlipFlop};

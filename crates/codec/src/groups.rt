@@ -12,7 +12,7 @@ use crate::bits::read_bit;
 use crate::held::{HeldRow, write_digit};
 
 // What reading a group gives: 0 for off, an entry from 1, or, for a pattern that the table does not list, the position at fault.
-#[derive(Drop)]
+#[derive(Clone, Copy)]
 pub enum GroupRead {
     Setting(u16),
     Unlisted(usize),

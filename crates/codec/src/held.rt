@@ -10,7 +10,7 @@ ghost use Rattle.codec.specs.Held.{with_held};
 use crate::bits::UNIT;
 
 // A row's number and its bits as they are to be; the tile has an older word there.
-#[derive(Drop)]
+#[derive(Clone, Copy)]
 pub struct HeldRow {
     pub row: usize,
     pub word: u64,

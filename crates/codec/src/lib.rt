@@ -2,6 +2,8 @@
 // 'Cells'). Nothing here knows of blocks, wires or refusals; `tile` reads and writes a whole tile.
 //
 // specs/Reading.antt says reading sentence by sentence, and proofs/ReadingLaws.antt that this is what is computed.
+#![tactic(auto)]
+
 pub mod bits;
 pub mod cells;
 pub mod fault;

@@ -7,7 +7,7 @@ use ports::lengths::{TABLE_LENGTH, bits_length, settings_total};
 use ports::size::Size;
 
 // The lengths of all that is lent to `compare`, but for the list.
-#[derive(Drop)]
+#[derive(Clone, Copy)]
 pub struct CompareLent {
     pub table: usize,
     pub first: usize,

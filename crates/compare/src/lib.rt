@@ -3,6 +3,8 @@
 //
 // `compare`, `part_answer` and `tile_part` take any input and none has a `requires`. specs/Difference.antt says what a row is,
 // specs/Entry.antt has the grounds in their orders, specs/Meaning.antt what each answer says in the paper's words.
+#![tactic(auto)]
+
 ghost use Rattle.std.specs.Prelude.{◌≡◌, length};
 ghost use Rattle.refusal.specs.Memory.{output, work_room};
 ghost use Rattle.config.specs.Blocks.{tiles_of};
@@ -22,7 +24,7 @@ pub mod part;
 mod tiles;
 
 // So many rows, or why there is no list.
-#[derive(Drop)]
+#[derive(Clone, Copy)]
 pub enum Compared {
     Rows(u32),
     Refused(Refusal),

@@ -8,7 +8,7 @@ use ports::size::{Size, is_allowed, tile_count};
 use refusal::{Answer, Refusal};
 
 // Which of two lent blocks.
-#[derive(Drop)]
+#[derive(Clone, Copy)]
 pub enum Side {
     First,
     Second,

@@ -3,6 +3,8 @@
 // `read`, `write` and `bit_count` take any input and none has a `requires`. The functions of `blocks` assume what the checks have
 // shown, for callers that read or write one block many times. specs/Entry.antt has the grounds in their orders, specs/Meaning.antt
 // what each answer says. proofs/RoundTrip.antt has both round trips.
+#![tactic(auto)]
+
 ghost use Rattle.std.specs.Prelude.{◌≡◌, length};
 ghost use Rattle.refusal.specs.Grounds.{answer_number};
 ghost use Rattle.refusal.specs.Memory.{output};
@@ -21,7 +23,7 @@ mod checks;
 mod room;
 
 // How many bits of a tile are set, or why that is not said.
-#[derive(Drop)]
+#[derive(Clone, Copy)]
 pub enum BitCount {
     Set(u32),
     Refused(Refusal),

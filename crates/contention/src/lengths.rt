@@ -8,7 +8,7 @@ use ports::lengths::{MAX_GROUPS, TABLE_LENGTH, bits_length, port_count, settings
 use ports::size::{Block, size_of, tile_count};
 
 // The lengths of all that is lent to `contentions` but the list.
-#[derive(Drop)]
+#[derive(Clone, Copy)]
 pub struct ContentionLent {
     pub table: usize,
     pub bits: usize,

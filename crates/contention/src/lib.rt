@@ -3,6 +3,8 @@
 // `contentions` takes any input and has no `requires`. It takes time linear in switches and wires: `chains` puts the switches of each wire in a chain,
 // and `rows` walks the chains, wire by wire. specs/Contentions.antt has the rows, specs/Entry.antt the grounds in their order, specs/Meaning.antt what
 // each answer says in the paper's words.
+#![tactic(auto)]
+
 ghost use Rattle.std.specs.Prelude.{◌≡◌, length};
 ghost use Rattle.refusal.specs.Memory.{output, work_room};
 ghost use Rattle.contention.specs.Lengths.{contention_lent, contention_exact};
@@ -19,7 +21,7 @@ mod list;
 mod rows;
 
 // So many rows, or why there is no list.
-#[derive(Drop)]
+#[derive(Clone, Copy)]
 pub enum ContentionList {
     Rows(u32),
     Refused(Refusal),

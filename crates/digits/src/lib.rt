@@ -1,5 +1,7 @@
 // Binary digits: reading one, writing one, and going through the set ones, in a word of 64. The theory that shifts, masks and patterns rest on is in
 // specs/ and proofs/. Nothing here knows of tiles.
+#![tactic(auto)]
+
 ghost use Rattle.std.specs.Prelude.{◌≡◌, ◌≢◌, ◌<◌};
 ghost use Rattle.digits.specs.Digits.{digit, set_digit, LowestDigit};
 

@@ -12,7 +12,7 @@ use netlist::row::wide;
 use ports::size::Block;
 
 // Where following a driver ends: an open wire; a constant, 0 or 1; or a cell.
-#[derive(Drop)]
+#[derive(Clone, Copy)]
 pub enum Driver {
     Open(u16),
     Constant(u16, u8),

@@ -3,6 +3,8 @@
 //
 // The functions ask for what the checks before them show: a routed table with settings (`Routed`), and maps as specs/ of `equations`
 // define them. Callers cite the laws of proofs/FollowingLaws.antt, CarryReadLaws.antt and ClockLaws.antt.
+#![tactic(auto)]
+
 pub mod carry;
 pub mod clocks;
 pub mod follow;

@@ -11,7 +11,7 @@ use ports::size::Block;
 use ports::{LOCAL, OUT, Port, port_at};
 
 // What drives a wire.
-#[derive(Drop)]
+#[derive(Clone, Copy)]
 pub enum Drive {
     // An open wire.
     Nothing,

@@ -3,6 +3,8 @@
 //
 // Every function asks for a block of a right size and settings of a right length. The contracts cite specs/; that the rows say what the
 // equations say is in proofs/EqualLaws.antt and proofs/SettlingLaws.antt.
+#![tactic(auto)]
+
 pub mod cell_rows;
 pub mod drives;
 pub mod rows;

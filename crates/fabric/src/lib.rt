@@ -3,6 +3,8 @@
 //
 // `wire_number` takes any input. The other functions ask for a block of a right size and a port of it. The contracts cite
 // specs/, and callers cite laws of proofs/, most of all BlockLaws.antt and WireLaws.antt; proofs/Lib.antt lists them.
+#![tactic(auto)]
+
 ghost use Rattle.std.specs.Prelude.{◌≡◌};
 ghost use Rattle.ports.specs.Block.{port_of};
 ghost use Rattle.fabric.specs.WireNumber.{wire_number, IsWire};
@@ -17,7 +19,7 @@ pub mod span_wire;
 pub mod wire;
 
 // The number of a wire, or why there is none.
-#[derive(Drop)]
+#[derive(Clone, Copy)]
 pub enum WireNumber {
     Wire(u16),
     Refused(Refusal),

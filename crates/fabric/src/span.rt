@@ -5,7 +5,7 @@ ghost use Rattle.fabric.specs.Span.{flip, names, Proper, westward, southward};
 
 // Names 0 up to through of a tile's near side go on to its far side, shift higher after the crossing. near and far are the
 // ports of name 0 on the two sides.
-#[derive(Drop)]
+#[derive(Clone, Copy)]
 pub struct Span {
     pub through: u32,
     pub shift: u32,
@@ -14,7 +14,7 @@ pub struct Span {
 }
 
 // An edge of a row or a column of tiles, counted from the block's rim, and the name that a wire has there.
-#[derive(Drop)]
+#[derive(Clone, Copy)]
 pub struct Edge {
     pub at: u32,
     pub name: u32,

@@ -12,14 +12,14 @@ use refusal::Refusal;
 use texts::hex::pair;
 
 // W, H and what is said of the column to the east, or why there is no block.
-#[derive(Drop)]
+#[derive(Clone, Copy)]
 pub enum Parsed {
     Block(u32, u32, u32),
     Refused(Refusal),
 }
 
 // How many groups stand in an input, and where the line behind them begins.
-#[derive(Drop)]
+#[derive(Clone, Copy)]
 pub struct Groups {
     pub count: usize,
     pub end: usize,

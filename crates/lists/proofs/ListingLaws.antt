@@ -20,11 +20,19 @@ use Rattle.lists.proofs.RowLaws.{count_mono, count_pass, row_reached, part_appen
 
 -- ---- the order of rows
 
+precedes_apart : (a b : List ℕ) → a ≡ b → Precedes a b → ⊥
+precedes_apart [] b _ h = elim h [ ]
+precedes_apart (x ∷ a) [] _ h = elim h [ ]
+precedes_apart (x ∷ a) (y ∷ b) e (here l) = let same : x ≡ y = ap (λ (xs : List ℕ). get_or xs 0 0) e in absurd (omega (arith, same, l))
+precedes_apart (x ∷ a) (y ∷ b) e (later h) = precedes_apart a b (ap (drop 1) e) h
+
 pub precedes_self : (a : List ℕ) → Precedes a a → ⊥
-precedes_self (x ∷ a) (here l) = absurd (omega arith)
-precedes_self (x ∷ a) (later h) = precedes_self a h
+precedes_self a h = precedes_apart a a refl h
 
 pub precedes_trans : (a b c : List ℕ) → Precedes a b → Precedes b c → Precedes a c
+precedes_trans [] b c h _ = elim h [ ]
+precedes_trans (x ∷ a) [] c h _ = elim h [ ]
+precedes_trans (x ∷ a) (y ∷ b) [] _ h = elim h [ ]
 precedes_trans (x ∷ a) (y ∷ b) (z ∷ c) (here l) (here m) = here (let q : x < z = omega arith in q)
 precedes_trans (x ∷ a) (y ∷ b) (z ∷ c) (here l) (later h) = here l
 precedes_trans (x ∷ a) (y ∷ b) (z ∷ c) (later g) (here m) = here m

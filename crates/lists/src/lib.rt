@@ -1,5 +1,7 @@
 // Slices of numbers: clearing and copying them. The theory that every crate's loops cite is in specs/ and proofs/: searches by a test,
 // counts, lists given by a function, lists in equal parts, listings. Nothing here knows of tiles.
+#![tactic(auto)]
+
 ghost use Rattle.std.specs.Prelude.{◌≡◌, length};
 ghost use Rattle.lists.specs.Tables.{zeros};
 

@@ -1,5 +1,7 @@
 // Combinational loops (the papers' loop): which wire depends on itself. Only wires that were not listed are looked at: a listed one reads only
 // listed ones and is on no loop (`Settled`).
+#![tactic(auto)]
+
 ghost use Rattle.std.specs.Prelude.{◌≡◌, ◌+◌, ◌*◌, ◌<◌, ◌≤◌, true, false, length};
 ghost use Rattle.netlist.specs.Graph.{Closed, DependsOn, LowestLoop};
 ghost use Rattle.netlist.specs.Marks.{Unlisted, only_listed, max_wires};

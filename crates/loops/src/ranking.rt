@@ -12,7 +12,7 @@ use netlist::row::{arity, operand, row_at, wide};
 
 // Where the ranking is: wires on the path, at the front of the queue; wires left that lead back to the path, held at the end of the queue;
 // ranks given. A wire that is on the path or held has a mark above them.
-#[derive(Drop)]
+#[derive(Clone, Copy)]
 pub struct Descent {
     pub depth: usize,
     pub held: usize,

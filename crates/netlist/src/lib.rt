@@ -3,6 +3,8 @@
 // is an index, and the rows say what it reads.
 //
 // The functions have a `requires` where a caller inside the repository has the fact at hand; none is an entry point.
+#![tactic(auto)]
+
 pub mod check;
 pub mod row;
 pub mod row_check;

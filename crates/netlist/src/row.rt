@@ -3,7 +3,7 @@ ghost use Rattle.std.specs.Prelude.{◌≡◌, ◌<◌};
 ghost use Rattle.netlist.specs.Rows.{row_at, set_row, zero_row, Inside, operand_of, arity_of};
 
 // "A row is seven 16-bit numbers: kind, wire, four operands, table."
-#[derive(Drop)]
+#[derive(Clone, Copy)]
 pub struct Row {
     pub kind: u16,
     pub wire: u16,

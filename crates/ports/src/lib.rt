@@ -1,5 +1,7 @@
 // The ports of a block (document 01, 'The block and its sources', 'Ports'): what each port of a tile is, and its number. `size` has the block's size,
 // `lengths` how long what is lent for it is. Nothing here knows of joins.
+#![tactic(auto)]
+
 ghost use Rattle.std.specs.Prelude.{◌≡◌, ◌<◌};
 ghost use Rattle.ports.specs.Block.{Sized, port};
 ghost use Rattle.ports.specs.Lengths.{ports_per_tile};
@@ -73,7 +75,7 @@ pub const LOUT: u32 = 497;
 pub const LTIN: u32 = 505;
 
 // What a port of a tile is: the paper's names, with their numbers.
-#[derive(Drop)]
+#[derive(Clone, Copy)]
 pub enum Port {
     Sp4HL(u32),
     Sp4HR(u32),

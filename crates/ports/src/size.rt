@@ -4,14 +4,14 @@ ghost use Rattle.std.specs.Prelude.{◌≡◌, ◌≤◌};
 ghost use Rattle.ports.specs.Block.{size_of, tile_count, Allowed, allowed, sized};
 
 // W tiles wide and h tiles high.
-#[derive(Drop)]
+#[derive(Clone, Copy)]
 pub struct Size {
     pub w: u32,
     pub h: u32,
 }
 
 // All that joins depend on. East is 1 where the column to the east of the block is logic or RAM, else 0.
-#[derive(Drop)]
+#[derive(Clone, Copy)]
 pub struct Block {
     pub w: u32,
     pub h: u32,

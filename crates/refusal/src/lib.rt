@@ -2,10 +2,12 @@
 //
 // Every entry point of the project answers with a `Refusal` or with what it was asked for. `specs/Grounds.antt` gives the
 // number and the place of each case; `specs/Memory.antt` what an answer leaves in lent memory.
+#![tactic(auto)]
+
 ghost use Rattle.std.specs.Prelude.{◌≡◌};
 ghost use Rattle.refusal.specs.Grounds.{number_of, place_of};
 
-#[derive(Drop)]
+#[derive(Clone, Copy)]
 pub enum Refusal {
     // W or H is not 1 to 8, or the byte for the column to the east is not 0 or 1.
     WrongSize,
@@ -44,7 +46,7 @@ pub enum Refusal {
 }
 
 // A yes that has nothing to say, or a no.
-#[derive(Drop)]
+#[derive(Clone, Copy)]
 pub enum Answer {
     Done,
     Refused(Refusal),

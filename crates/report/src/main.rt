@@ -1,5 +1,7 @@
 // The report program: frames on standard input, the lines of the report on standard output. What is printed, and that the first
 // `INPUT` bytes decide it, is proved in crates/reporting.
+#![tactic(auto)]
+
 use libc::{STDERR_FILENO, STDIN_FILENO, STDOUT_FILENO};
 
 fn main() {

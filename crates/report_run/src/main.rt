@@ -1,5 +1,7 @@
 // Runs the inputs of data/, 0000.in and so on up to the first number that is missing, through the same call as the report program,
 // and prints each report behind its number. `stdout` holds what the users' vectors and the real blocks' files say.
+#![tactic(auto)]
+
 use libc::STDOUT_FILENO;
 
 fn figure(n: u32) -> u8 {

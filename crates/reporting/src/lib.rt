@@ -3,6 +3,8 @@
 //
 // specs/Report.antt says what is printed. An input longer than `INPUT` bytes has the report of its first `INPUT` bytes (proofs/PrefixLaws.antt:
 // `report_prefix`), so a caller need read no more.
+#![tactic(auto)]
+
 ghost use Rattle.std.specs.Prelude.{◌≡◌, ◌+◌, ◌≤◌, ◌++◌, length, drop};
 ghost use Rattle.ports.specs.Block.{size, size_of, tiles};
 ghost use Rattle.ports.specs.Lengths.{table_length, bits_length, bytes_length};

@@ -2,5 +2,7 @@
 //
 // Rows come by wire (row w is that of wire w) and go out in order. The functions have a `requires` where a caller inside the
 // repository has the fact at hand; none is an entry point.
+#![tactic(auto)]
+
 mod order;
 pub mod schedule;

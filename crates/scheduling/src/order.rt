@@ -11,7 +11,7 @@ use bitset::{NUMBERS, WORDS};
 use netlist::row::{arity, operand, row_at, wide};
 
 // The wire to look at, and the number from which on none was looked at.
-#[derive(Drop)]
+#[derive(Clone, Copy)]
 pub struct Look {
     pub wire: usize,
     pub from: usize,

@@ -12,7 +12,7 @@ use loops::lowest_loop;
 use netlist::row::{row_at, wide, write_row, zero_row};
 
 // The rows are listed, so many; or the lowest wire that depends on itself.
-#[derive(Drop)]
+#[derive(Clone, Copy)]
 pub enum Scheduled {
     Listed(usize),
     Loop(usize),

@@ -7,7 +7,7 @@ use ports::lengths::{TABLE_LENGTH, list_length, port_count, settings_total, stat
 use ports::size::{Block, Size, size_of};
 
 // The lengths of the output of `settle` and of its work room.
-#[derive(Drop)]
+#[derive(Clone, Copy)]
 pub struct SettleRoomLent {
     pub values: usize,
     pub wires: usize,
@@ -16,7 +16,7 @@ pub struct SettleRoomLent {
 }
 
 // The lengths of all that is lent to `settle`.
-#[derive(Drop)]
+#[derive(Clone, Copy)]
 pub struct SettleLent {
     pub table: usize,
     pub settings: usize,
@@ -27,7 +27,7 @@ pub struct SettleLent {
 }
 
 // The lengths of all that is lent to `clock`.
-#[derive(Drop)]
+#[derive(Clone, Copy)]
 pub struct ClockLent {
     pub table: usize,
     pub settings: usize,

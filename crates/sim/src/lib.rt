@@ -4,6 +4,8 @@
 // `settle` and `clock` take any input and none has a `requires`; specs/Settling.antt and specs/Clocking.antt have the grounds in their orders,
 // specs/Meaning.antt what each answer says. `settle` takes any list that ground 12 lets pass, the block's own or not, and `clock` any values of 0 and 1.
 // What both mean for a block's own list is the theorem of demand 3, above this crate.
+#![tactic(auto)]
+
 ghost use Rattle.std.specs.Prelude.{◌≡◌, length};
 ghost use Rattle.refusal.specs.Grounds.{answer_number};
 ghost use Rattle.refusal.specs.Memory.{output, work_room};

@@ -1,5 +1,7 @@
 // Settling and clocking of input that was checked (document 01, 'The list and a step'; document 02, W11): a list run, every port's value, every
 // cell's next state. It is for callers that do so many times; `sim` has the calls that check any input first.
+#![tactic(auto)]
+
 ghost use Rattle.std.specs.Prelude.{◌≡◌, length};
 ghost use Rattle.ports.specs.Block.{Sized};
 ghost use Rattle.ports.specs.Lengths.{ports};

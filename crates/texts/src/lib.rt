@@ -2,6 +2,8 @@
 // digits (`hex`), decimal numbers (`decimal`), lines and words (`lines`).
 // The theory that readers and writers of lines cite is in specs/ and proofs/: what stands from one position to another, pieces put one behind
 // the other. Nothing here knows what a line means.
+#![tactic(auto)]
+
 ghost use Rattle.std.specs.Prelude.{◌≡◌, ◌+◌, ◌≤◌, length, get_or};
 ghost use Rattle.texts.specs.Pieces.{placed};
 

@@ -1,5 +1,7 @@
 // One logic tile: the lowest position at fault, its settings read, its settings written, and whether any bits have them (document 01, 'The routing
 // table' and 'Cells'). The functions ask for a table that breaks no rule and for exact lengths; what reading and writing are stands in `codec`.
+#![tactic(auto)]
+
 ghost use Rattle.std.specs.Prelude.{◌≡◌, true, ◌<◌, length};
 ghost use Rattle.lists.specs.Tables.{zeros};
 ghost use Rattle.routing.specs.LogicTile.{logic_tile};

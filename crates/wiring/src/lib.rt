@@ -1,5 +1,7 @@
 // The wires of all ports of a block, filled from the front: nearly every port either starts its wire or is joined to a port that comes
 // before it, whose wire is there already. `fabric` has the wire of one port, which takes longer for each.
+#![tactic(auto)]
+
 ghost use Rattle.std.specs.Prelude.{◌≡◌, ◌<◌, length};
 ghost use Rattle.ports.specs.Block.{Sized, port};
 ghost use Rattle.ports.specs.Lengths.{ports};

@@ -3,6 +3,8 @@
 //
 // `words_of_bytes` and `bytes_of_words` take any input, and none has a `requires`. proofs/FormsLaws.antt says that each is the other's inverse and
 // that both forms carry the same bits.
+#![tactic(auto)]
+
 ghost use Rattle.std.specs.Prelude.{◌≡◌, length};
 ghost use Rattle.ports.specs.Block.{tile_count};
 ghost use Rattle.refusal.specs.Grounds.{answer_number};

@@ -1,0 +1,11 @@
+-- `digits::with_digit` meets its contract, by the laws of a digit written in 64 digits. Assumes nothing.
+use Rattle.digits.proofs.WriteLaws.{write_old_le, write_is, write_lt}
+use native.Mathlib.Omega.{arith}
+use borrow.Author.Rules.{rules}
+use Rattle.digits.proofs.with_digit.Goals as goal
+
+pub overflow_add-result : goal.overflow_add-result
+overflow_add-result c = record { fits = write_lt 64 c.args.word c.args.k c.args.value (omega arith) (omega arith) (omega arith) }
+
+pub returns : goal.returns
+returns c = write_is 64 c.args.word c.args.k c.args.value (omega arith) (omega arith) (omega arith)

@@ -1,0 +1,15 @@
+-- `lists::clear_bytes` meets its contract. Invariant: the first i bytes are zero and the length is the old one (`Cleared`).
+-- Measure: what is left of the room. Assumes nothing.
+use Rattle.lists.proofs.Clearing.{Cleared, cleared_start, cleared_step, cleared_end}
+use lib.ListN.{length}
+use borrow.Author.Rules.{rules}
+use mathlib.Core.Path.{refl}
+use native.Mathlib.Omega.{arith}
+use Prim.Native.Nat.{◌-◌}
+use Rattle.lists.proofs.clear_bytes.Given as goal
+
+abbrev pub invariant-loop-i : goal.invariant-loop-i
+invariant-loop-i l = Cleared (length l.initial.room) l.i l.room
+
+abbrev pub decreases-loop-i : goal.decreases-loop-i
+decreases-loop-i l = length l.initial.room - l.i

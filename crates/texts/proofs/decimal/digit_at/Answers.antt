@@ -1,6 +1,5 @@
 -- `decimal::digit_at` meets its contract. Assumes nothing.
 use native.Mathlib.Omega.{arith}
-use borrow.Author.Rules.{rules}
 use Rattle.texts.specs.Decimal.{digit_at}
 use Rattle.texts.proofs.decimal.digit_at.Goals as goal
 

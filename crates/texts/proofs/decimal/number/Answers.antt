@@ -1,7 +1,6 @@
 -- `decimal::number` meets its contract: one, two, three digits, and any other length. Assumes nothing.
 use mathlib.Core.Path.{sym, ◌∙◌}
 use native.Mathlib.Omega.{arith}
-use borrow.Author.Rules.{rules}
 use Rattle.texts.proofs.DecimalLaws.{number_one, number_two, number_three, number_else}
 use Rattle.texts.proofs.decimal.number.Goals as goal
 

@@ -1,6 +1,5 @@
 -- `hex::digit` meets its contract. Assumes nothing.
 use native.Mathlib.Omega.{arith}
-use borrow.Author.Rules.{rules}
 use borrow.Author.Tests.{lt-ltb, le-ltb}
 use Rattle.texts.specs.Hex.{digit_of}
 use Rattle.texts.proofs.hex.digit.Goals as goal

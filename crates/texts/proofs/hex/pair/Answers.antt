@@ -3,7 +3,6 @@ use mathlib.Core.Path.{ap, ◌∙◌}
 use native.Mathlib.Omega.{arith}
 use Rattle.texts.specs.Hex.{value_of, pair_at}
 use Rattle.texts.proofs.HexLaws.{value_lt}
-use borrow.Author.Rules.{rules}
 use Rattle.texts.proofs.hex.pair.Goals as goal
 
 pub overflow_mul-result : goal.overflow_mul-result

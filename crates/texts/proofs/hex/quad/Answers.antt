@@ -3,7 +3,6 @@ use Prim.Native.Nat.{◌+◌}
 use native.Mathlib.Omega.{arith}
 use Rattle.texts.specs.Hex.{quad_at}
 use Rattle.texts.proofs.HexLaws.{pair_lt}
-use borrow.Author.Rules.{rules}
 use Rattle.texts.proofs.hex.quad.Goals as goal
 
 pub overflow_mul-result : goal.overflow_mul-result

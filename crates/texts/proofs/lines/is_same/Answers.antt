@@ -1,14 +1,8 @@
 -- `lines::is_same` meets its contract. Invariant: the test from byte k on is the whole test. Measure: the bytes left. Assumes nothing.
-use Prim.Native.Nat.{◌-◌}
-use mathlib.Core.Path.{◌≡◌, sym}
+use mathlib.Core.Path.{sym}
 use native.Mathlib.Nat.{sub-zero}
-use borrow.Author.Rules.{rules}
 use borrow.Author.Tests.{eq-eqb, ne_eqb}
-use lib.Dec.{eqb}
-use lib.ListN.{length, get_or}
 use Rattle.lists.proofs.SearchLaws.{all_turn_hit, all_turn_skip, all_turn_end}
-use Rattle.lists.specs.Search.{all_from}
-use Rattle.texts.specs.Lines.{same}
 use Rattle.texts.proofs.SameLaws.{same_long, same_short}
 use Rattle.texts.proofs.lines.is_same.Goals as goal
 

@@ -1,13 +1,7 @@
 -- `lines::line_end` meets its contract. Invariant of both loops: the search from k on finds what the whole one does. Measure: the bytes left. Assumes nothing.
-use Prim.Native.Nat.{◌-◌, ◌+◌, ◌≤◌}
-use mathlib.Core.Path.{◌≡◌, refl}
 use native.Mathlib.Omega.{arith}
-use borrow.Author.Rules.{rules}
 use borrow.Author.Tests.{eq-eqb, ne_eqb}
-use lib.Dec.{eqb}
-use lib.ListN.{length, get_or}
 use Rattle.lists.proofs.SearchLaws.{first_turn_hit, first_turn_skip, first_turn_end}
-use Rattle.lists.specs.Search.{first}
 use Rattle.texts.proofs.LineEndLaws.{first_turn_skip_four}
 use Rattle.texts.proofs.lines.line_end.Goals as goal
 
@@ -15,7 +9,7 @@ pub loop-k-preserved : goal.loop-k-preserved
 loop-k-preserved c =
     let more = c.loop-k-test.true in (
       omega arith,
-      first_turn_skip_four _ _ _ _ c.loop-k.invariant.1 more (ne_eqb _ _ c.if-text-k-eq-LINE_END.false) c.if-text-k-eq-LINE_END-2.false c.if-text-k-eq-LINE_END-3.false c.if-text-k-eq-LINE_END-4.false,
+      first_turn_skip_four _ _ _ _ c.loop-k.invariant.1 more (ne_eqb _ _ c.if-text-k-eq-LINE_END.false) (ne_eqb _ _ c.if-text-k-eq-LINE_END-2.false) (ne_eqb _ _ c.if-text-k-eq-LINE_END-3.false) (ne_eqb _ _ c.if-text-k-eq-LINE_END-4.false),
     )
 
 pub returns-then-text-k-eq-LINE_END-5 : goal.returns-then-text-k-eq-LINE_END-5

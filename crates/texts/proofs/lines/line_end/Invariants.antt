@@ -1,14 +1,9 @@
 -- `lines::line_end` meets its contract. Invariant of both loops: the search from k on finds what the whole one does. Measure: the bytes left. Assumes nothing.
-use Prim.Native.Nat.{◌-◌, ◌+◌, ◌≤◌}
-use mathlib.Core.Path.{◌≡◌, refl}
-use native.Mathlib.Omega.{arith}
-use borrow.Author.Rules.{rules}
-use borrow.Author.Tests.{eq-eqb, ne_eqb}
+use Prim.Native.Nat.{◌-◌, ◌≤◌}
+use mathlib.Core.Path.{◌≡◌}
 use lib.Dec.{eqb}
 use lib.ListN.{length, get_or}
-use Rattle.lists.proofs.SearchLaws.{first_turn_hit, first_turn_skip, first_turn_end}
 use Rattle.lists.specs.Search.{first}
-use Rattle.texts.proofs.LineEndLaws.{first_turn_skip_four}
 use Rattle.texts.proofs.lines.line_end.Given as goal
 
 abbrev pub invariant-loop-k : goal.invariant-loop-k

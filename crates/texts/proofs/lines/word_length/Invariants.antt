@@ -1,12 +1,8 @@
 -- `lines::word_length` meets its contract. Invariant: the search from k on finds what the whole one does. Measure: the bytes left. Assumes nothing.
 use Prim.Native.Nat.{◌-◌}
 use mathlib.Core.Path.{◌≡◌}
-use native.Mathlib.Nat.{sub-zero}
-use borrow.Author.Rules.{rules}
-use borrow.Author.Tests.{eq-eqb, ne_eqb}
 use lib.Dec.{eqb}
 use lib.ListN.{length, get_or}
-use Rattle.lists.proofs.SearchLaws.{first_turn_hit, first_turn_skip, first_turn_end}
 use Rattle.lists.specs.Search.{first}
 use Rattle.texts.specs.Lines.{word_length}
 use Rattle.texts.proofs.lines.word_length.Given as goal

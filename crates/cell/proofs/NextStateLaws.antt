@@ -1,9 +1,8 @@
 -- Each way of `next_sync`, `next_async` and `next_state`. Main law: `next_sync_disabled`.
 use mathlib.Core.Path.{◌≡◌, refl}
-use mathlib.Core.Bool.{Bool, true, false, cond, ◌&&◌, ◌||◌, and_comm}
+use mathlib.Core.Bool.{Bool, true, false, and_comm}
 use mathlib.Core.Logic.{◌≢◌}
-use Prim.Native.Nat.{ℕ, ◌<◌}
-use native.Mathlib.Omega.{arith}
+use Prim.Native.Nat.{ℕ}
 use lib.Dec.{eqb}
 use borrow.Author.Tests.{ne_eqb}
 use Rattle.cell.specs.declared.logic.Cell.{Cell}

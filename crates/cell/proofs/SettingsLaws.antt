@@ -6,7 +6,6 @@ use native.Mathlib.Omega.{arith}
 use lib.Dec.{eqb}
 use Rattle.digits.specs.Digits.{digit, from_digits}
 use Rattle.digits.proofs.DigitLaws.{from_digits_all}
-use Rattle.cell.specs.declared.logic.Cell.{Cell}
 use Rattle.cell.specs.Settings.{cell_of, flags_of}
 
 pub flag_le : (on : Bool) (w : ℕ) → cond on w 0 ≤ w

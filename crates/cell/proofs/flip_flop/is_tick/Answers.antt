@@ -1,7 +1,6 @@
 -- `is_tick` meets its contract: an edge is a rise, with NegClk the other way round. Assumes nothing.
 use Rattle.cell.proofs.NextStateLaws.{ticked_plain, ticked_inverted}
 use mathlib.Core.Path.{sym, ◌∙◌}
-use borrow.Author.Rules.{rules}
 use Rattle.cell.proofs.flip_flop.is_tick.Goals as goal
 
 pub returns-then-inverted : goal.returns-then-inverted

@@ -3,7 +3,6 @@ use Rattle.cell.specs.Lookup.{looked_up}
 use Rattle.cell.proofs.LookupLaws.{looked_up_inputs}
 use borrow.Author.Tests.{le-ltb}
 use native.Mathlib.Omega.{arith}
-use borrow.Author.Rules.{rules}
 use Rattle.cell.proofs.logic.lookup.Goals as goal
 
 pub returns-then-inputs-gt15 : goal.returns-then-inputs-gt15

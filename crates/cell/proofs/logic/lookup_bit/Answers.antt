@@ -2,7 +2,6 @@
 use Rattle.cell.proofs.HalvesLaws.{by_halves, halved_one, halved_lt}
 use mathlib.Core.Path.{◌∙◌}
 use native.Mathlib.Omega.{arith}
-use borrow.Author.Rules.{rules}
 use Rattle.cell.proofs.logic.lookup_bit.Goals as goal
 
 -- the one that is left is 0 or 1

@@ -1,7 +1,6 @@
 -- `majority_bit` meets its contract, by its test. Assumes nothing.
 use Rattle.cell.specs.Lookup.{majority}
 use borrow.Author.Tests.{le-leb, lt-leb}
-use borrow.Author.Rules.{rules}
 use Rattle.cell.proofs.logic.majority_bit.Goals as goal
 
 pub returns-then-a-b-ge2 : goal.returns-then-a-b-ge2

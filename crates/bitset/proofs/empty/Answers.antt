@@ -3,4 +3,4 @@ use Rattle.bitset.proofs.WordLaws.{zeros_bitset, zeros_none}
 use Rattle.bitset.proofs.empty.Goals as goal
 
 pub returns : goal.returns
-returns c = (zeros_bitset, zeros_none)
+returns c = record { kept = zeros_bitset; none = zeros_none }

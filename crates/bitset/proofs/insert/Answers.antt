@@ -1,6 +1,5 @@
 -- `bitset::insert` meets its contract: a 1 at each level. Assumes nothing.
 use Rattle.bitset.proofs.ChangeLaws.{inserted}
-use borrow.Author.Rules.{rules}
 use Rattle.bitset.proofs.insert.Goals as goal
 
 pub returns : goal.returns

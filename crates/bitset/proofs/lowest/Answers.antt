@@ -1,7 +1,5 @@
 -- `bitset::lowest` meets its contract: the lowest set digit of each level. Assumes nothing.
-use native.Mathlib.Omega.{arith}
-use Rattle.bitset.proofs.LowestLaws.{lowest_none, lowest_is, full_of_set, top_lt}
-use borrow.Author.Rules.{rules}
+use Rattle.bitset.proofs.LowestLaws.{lowest_none, lowest_is}
 use Rattle.bitset.proofs.lowest.Goals as goal
 
 -- there is no member

@@ -3,7 +3,6 @@ use mathlib.Core.Path.{ap}
 use native.Mathlib.Omega.{arith}
 use lib.ListN.{get_or, set}
 use Rattle.digits.proofs.WriteLaws.{raise_is}
-use borrow.Author.Rules.{rules}
 use Rattle.bitset.specs.Bitset.{word_digits}
 use Rattle.bitset.proofs.raise.Goals as goal
 

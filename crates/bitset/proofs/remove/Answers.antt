@@ -1,6 +1,5 @@
 -- `bitset::remove` meets its contract: a 0 at each level, up to the first word that is not 0. Assumes nothing.
 use Rattle.bitset.proofs.ChangeLaws.{removed_leaf, removed_middle, removed_top}
-use borrow.Author.Rules.{rules}
 use Rattle.bitset.proofs.remove.Goals as goal
 
 -- the leaf has other members

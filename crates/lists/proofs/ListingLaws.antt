@@ -1,7 +1,7 @@
 -- A listing, proved once: the rows of a rising enumeration, filled up with zeros, are everything that is asked for, in order. Main laws: `rows_listed`;
 -- `listed_once`: no row stands twice; `listed_unique`: no other list and no other count would do; `listed_empty`; `listed_as`.
 use mathlib.Core.Path.{◌≡◌, refl, sym, ap, ap₂, ◌∙◌, subst}
-use mathlib.Core.Bool.{Bool, true, false}
+use mathlib.Core.Bool.{Bool, true}
 use mathlib.Core.List.{List, [], ◌∷◌, ◌++◌, append-nil}
 use mathlib.Core.Logic.{⊎_elim, ◌↔◌}
 use Prim.Native.Nat.{ℕ, zero, suc, ◌+◌, ◌-◌, ◌*◌, ◌/◌, ◌%◌, ◌<◌, ◌≤◌}

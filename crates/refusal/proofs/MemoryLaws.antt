@@ -7,7 +7,7 @@ use Rattle.refusal.specs.Memory.{output}
 use Rattle.refusal.specs.declared.Refusal.{Refusal}
 use Rattle.refusal.specs.declared.Refusal.TheVariants.{WrongSize, WrongLength, Table, Undecodable, Contention, DisabledCarry, Loop, CellClock, NoSuchSettings, NotABit, Line, Row, AscLine, SizesDiffer, ListTooShort, Change, OutOfRange}
 use Rattle.refusal.specs.declared.Answer.{Answer}
-use Rattle.refusal.specs.declared.Answer.TheVariants.{Done, Refused}
+use Rattle.refusal.specs.declared.Answer.TheVariants.{Refused}
 
 module _ (old new : List ℕ) where
   -- whatever the ground, an output keeps its contents

@@ -1,9 +1,9 @@
 -- What the code computes of each form is a number_from of the other's bits. Main laws: `eight_turn`; `word_is`, `byte_is`. Assumes nothing.
-use mathlib.Core.Path.{◌≡◌, refl, sym, ap, ap₂, ◌∙◌, subst}
+use mathlib.Core.Path.{◌≡◌, sym, ap, ap₂, ◌∙◌, subst}
 use mathlib.Core.List.{List}
 use Prim.Native.Nat.{ℕ, zero, suc, ◌+◌, ◌-◌, ◌*◌, ◌/◌, ◌%◌, ◌^◌, ◌<◌, ◌≤◌}
 use native.Mathlib.Omega.{arith}
-use native.Mathlib.Nat.{add-mul, mul_assoc, mul_comm, mod-lt, mod-eq_of_lt, lt_of_lt_of_le}
+use native.Mathlib.Nat.{add-mul, mul_assoc, mul_comm, mod-lt, lt_of_lt_of_le}
 use lib.Pow.{pow-add, pow_mono, pow_pos, shl_lt, shl_exact, shr_lt, shr-shr}
 use lib.ListN.{get_or}
 use Rattle.digits.specs.Digits.{digit, from_digits}

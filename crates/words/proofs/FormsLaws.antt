@@ -1,10 +1,10 @@
 -- Both forms carry the same bits. Main laws: `bytes_back`, `words_back`; `bits_same`: the words of bytes have the bytes' bits, at every position;
 -- `tile_same`: a tile is read the same in both forms. Assumes nothing.
-use mathlib.Core.Path.{◌≡◌, refl, sym, ap, ap₂, ◌∙◌, subst, fun_ext}
+use mathlib.Core.Path.{◌≡◌, sym, ap, ap₂, ◌∙◌, subst, fun_ext}
 use mathlib.Core.Logic.{⊎_elim}
 use mathlib.Core.Bool.{Bool, false}
 use mathlib.Core.List.{List}
-use Prim.Native.Nat.{ℕ, ◌+◌, ◌*◌, ◌/◌, ◌%◌, ◌^◌, ◌<◌, ◌≤◌}
+use Prim.Native.Nat.{ℕ, ◌+◌, ◌*◌, ◌^◌, ◌<◌, ◌≤◌}
 use native.Mathlib.Omega.{arith}
 use borrow.Author.Tests.{lt-leb, leb-false}
 use lib.Dec.{leb}
@@ -15,7 +15,7 @@ use Rattle.lists.proofs.SearchLaws.{first_before}
 use Rattle.lists.proofs.PartLaws.{part_each}
 use Rattle.words.specs.Packed.{bit_in, packed, FitsIn}
 use Rattle.ports.specs.Lengths.{columns, tile_numbers, tile_bytes}
-use Rattle.words.specs.Forms.{byte_bits, words_of, bytes_of, TileBits, of_words, of_bytes, tiles_of_words, tiles_of_bytes, past_columns}
+use Rattle.words.specs.Forms.{byte_bits, words_of, bytes_of, of_words, of_bytes, tiles_of_words, tiles_of_bytes, past_columns}
 use Rattle.words.specs.Stray.{first_stray}
 use Rattle.words.proofs.PackedLaws.{bit_in_lt, packed_length, packed_fits, packed_back, bit_packed, bit_packed_past, bit_past, bit_in_part, bit_past_part}
 

@@ -1,9 +1,9 @@
 -- Every answer of the two conversions says what specs/Meaning.antt has it say. Main laws: `words_say`, `bytes_say`. Assumes nothing.
 use mathlib.Core.Path.{◌≡◌, refl, sym, subst, ◌∙◌}
-use mathlib.Core.Bool.{Bool, true, false, ◌&&◌}
+use mathlib.Core.Bool.{true, false, ◌&&◌}
 use mathlib.Core.List.{List}
 use mathlib.Core.Logic.{⊎_elim}
-use Prim.Native.Nat.{ℕ, ◌*◌, ◌<◌, ◌≤◌}
+use Prim.Native.Nat.{ℕ, ◌<◌, ◌≤◌}
 use native.Mathlib.Omega.{arith}
 use borrow.Author.Tests.{eqb-true, eqb-false, eq-eqb}
 use lib.Dec.{eqb}
@@ -11,21 +11,18 @@ use lib.ListN.{length}
 use Rattle.lists.proofs.CaseLaws.{clash, equal_and, and_equal, lt_or_le}
 use Rattle.lists.proofs.SearchLaws.{first_le}
 use Rattle.ports.specs.declared.size.Size.{Size}
-use Rattle.ports.specs.Block.{Allowed, tile_count, allowed}
+use Rattle.ports.specs.Block.{tile_count, allowed}
 use Rattle.ports.specs.Lengths.{columns, bits_length, bytes_length}
 use Rattle.ports.proofs.BlockLaws.{allowed_exact, allowed_true}
-use Rattle.refusal.specs.declared.Refusal.{Refusal}
 use Rattle.refusal.specs.declared.Answer.{Answer}
-use Rattle.refusal.specs.declared.Answer.TheVariants.{Done, Refused}
 use Rattle.refusal.specs.Grounds.{answer_number}
 use Rattle.refusal.specs.Memory.{output}
 use Rattle.refusal.proofs.GroundsLaws.{unless_cases}
-use Rattle.refusal.proofs.MemoryLaws.{output_refused}
 use Rattle.words.specs.Packed.{FitsIn}
 use Rattle.words.specs.Forms.{past_columns, SameBits, words_of, bytes_of}
 use Rattle.words.specs.Stray.{first_stray}
 use Rattle.words.specs.Answers.{words_answer, bytes_answer}
-use Rattle.words.specs.Meaning.{BothLong, FormNo, by_size, by_length, WordsSay, BytesNo, by_form, by_stray, BytesSay}
+use Rattle.words.specs.Meaning.{BothLong, by_size, by_length, WordsSay, by_form, by_stray, BytesSay}
 use Rattle.words.proofs.FormsLaws.{words_length, words_fit, bytes_length_lem, bytes_fit, bit_of_words, bit_of_bytes, no_stray_fits}
 use Rattle.words.proofs.StrayLaws.{first_stray_exact}
 

@@ -1,19 +1,18 @@
 -- Bits in numbers of u bits each. Main laws: `bit_packed`, `bit_past`, `packed_back`, `bits_in_ext`, `bit_in_part`. Assumes nothing.
-use mathlib.Core.Path.{◌≡◌, refl, sym, ap, ◌∙◌, subst}
+use mathlib.Core.Path.{◌≡◌, sym, ap, ◌∙◌, subst}
 use mathlib.Core.Logic.{⊎_elim}
 use mathlib.Core.List.{List}
-use Prim.Native.Nat.{ℕ, zero, suc, ◌+◌, ◌-◌, ◌*◌, ◌/◌, ◌%◌, ◌^◌, ◌<◌, ◌≤◌}
+use Prim.Native.Nat.{ℕ, ◌+◌, ◌*◌, ◌/◌, ◌%◌, ◌^◌, ◌<◌, ◌≤◌}
 use native.Mathlib.Omega.{arith}
 use native.Mathlib.Nat.{add-mul, div-add-mod', mod-lt, zero-div, div-lt_iff_lt-mul, le-div_iff_mul-le}
 use lib.Arith.{digits_div, digits_mod, digits_lt}
 use lib.Pow.{pow_pos}
-use lib.ListN.{length, get_or, take, drop, length-take, get_or-eq_default}
+use lib.ListN.{length, get_or, drop, length-take, get_or-eq_default}
 use lib.Seq.{get_or-take, get_or-drop, ext_get_or}
-use Rattle.lists.specs.Tables.{tabulate}
 use Rattle.lists.specs.Parts.{part}
 use Rattle.lists.proofs.CaseLaws.{lt_or_le}
 use Rattle.lists.proofs.TableLaws.{tabulate_length, tabulate_zero, tabulate_past}
-use Rattle.digits.specs.Digits.{digit, from_digits}
+use Rattle.digits.specs.Digits.{digit}
 use Rattle.digits.proofs.DigitLaws.{from_digits_lt, digit_from_digits, from_digits_ext, from_digits_all}
 use Rattle.words.specs.Packed.{bit_in, number_from, packed, FitsIn}
 

@@ -10,7 +10,7 @@ use Rattle.refusal.specs.declared.Answer.{Answer}
 use Rattle.refusal.specs.declared.Answer.TheVariants.{Done, Refused}
 use Rattle.words.specs.Packed.{FitsIn}
 use Rattle.words.specs.Forms.{byte_bits, SameBits}
-use Rattle.words.specs.Stray.{Stray, LowestStray}
+use Rattle.words.specs.Stray.{LowestStray}
 
 -- 1 and 2 are not given: the size, and the lengths of both forms
 pub record BothLong (S : Size) (bytes words : ℕ) : Type 0 where

@@ -1,5 +1,5 @@
 -- Bits past a row's columns. Document 02, W7: "4 for a set bit in columns 54 to 63, at fault as column 53 of its row".
-use Rattle.std.specs.Prelude.{ℕ, ◌+◌, ◌*◌, ◌<◌, ◌≤◌, ◌≡◌, Bool, List, length, get_or}
+use Rattle.std.specs.Prelude.{ℕ, ◌+◌, ◌*◌, ◌<◌, ◌≤◌, ◌≡◌, List, length, get_or}
 use Rattle.lists.specs.Search.{first}
 use Rattle.digits.specs.Digits.{digit}
 use Rattle.ports.specs.Lengths.{rows, columns}

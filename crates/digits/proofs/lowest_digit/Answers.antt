@@ -1,6 +1,5 @@
 -- `digits::lowest_digit` meets its contract: the count of trailing zeros is the lowest set digit. Assumes nothing.
 use native.Mathlib.Omega.{arith}
-use lib.Count.{trailing_le}
 use Rattle.digits.proofs.LowestLaws.{trailing_lowest}
 use Rattle.digits.proofs.lowest_digit.Goals as goal
 

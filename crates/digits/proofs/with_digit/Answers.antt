@@ -1,7 +1,6 @@
 -- `digits::with_digit` meets its contract, by the laws of a digit written in 64 digits. Assumes nothing.
-use Rattle.digits.proofs.WriteLaws.{write_old_le, write_is, write_lt}
+use Rattle.digits.proofs.WriteLaws.{write_is, write_lt}
 use native.Mathlib.Omega.{arith}
-use borrow.Author.Rules.{rules}
 use Rattle.digits.proofs.with_digit.Goals as goal
 
 pub overflow_add-result : goal.overflow_add-result

@@ -1,6 +1,5 @@
 -- `digits::without_digit` meets its contract: `&` with all digits but one. Assumes nothing.
 use native.Mathlib.Omega.{arith}
-use borrow.Author.Rules.{rules}
 use Rattle.digits.proofs.WriteLaws.{lower_is}
 use Rattle.digits.proofs.without_digit.Goals as goal
 

@@ -1,10 +1,7 @@
 -- `lists::clear_numbers` meets its contract. Invariant: the first i numbers are zero and the length is the old one (`Cleared`).
 -- Measure: what is left of the room. Assumes nothing.
-use Rattle.lists.proofs.Clearing.{Cleared, cleared_start, cleared_step, cleared_end}
+use Rattle.lists.proofs.Clearing.{Cleared}
 use lib.ListN.{length}
-use borrow.Author.Rules.{rules}
-use mathlib.Core.Path.{refl}
-use native.Mathlib.Omega.{arith}
 use Prim.Native.Nat.{◌-◌}
 use Rattle.lists.proofs.clear_numbers.Given as goal
 

@@ -1,10 +1,7 @@
 -- `lists::copy_bytes` meets its contract. Invariant: the first i bytes are those of `from`. Measure: the bytes left. Assumes nothing.
 use Prim.Native.Nat.{◌-◌}
-use mathlib.Core.Path.{refl, sym, ◌∙◌}
-use native.Mathlib.Omega.{arith}
-use borrow.Author.Rules.{rules}
 use lib.ListN.{length, get_or}
-use Rattle.lists.proofs.TableLaws.{Filled, filled_start, filled_step, filled_end, tabulate_is}
+use Rattle.lists.proofs.TableLaws.{Filled}
 use Rattle.lists.proofs.copy_bytes.Given as goal
 
 abbrev pub invariant-loop-i : goal.invariant-loop-i

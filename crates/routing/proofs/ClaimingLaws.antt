@@ -9,7 +9,7 @@ use native.Mathlib.Nat.{zero-add}
 use borrow.Author.Tests.{lt-ltb, le-ltb}
 use lib.ListN.{length, get_or, set}
 use Rattle.routing.specs.TileKind.{TileKind, CellBitsOnce, bits_per_cell}
-use Rattle.ports.specs.Lengths.{max_passives, max_groups, max_positions, table_length}
+use Rattle.ports.specs.Lengths.{max_passives, max_groups, max_positions}
 use Rattle.routing.specs.Table.{group_start, passive_count, group_count, width_of}
 use Rattle.routing.specs.Slots.{field_slots, passive_slots, group_slots, group_slot, slot_count, slot_at, slot_used, slots_of}
 use Rattle.routing.specs.Claiming.{TableOwned, SlotRun}

@@ -1,0 +1,55 @@
+-- `rules::check_parts` goes through cells, fields, passive list and groups in this order. Assumes nothing.
+use Rattle.routing.proofs.PartSearch.{faulty_not_ok, fields_claimed, passives_many, passives_claimed, faulty_fields, faulty_passives}
+use Rattle.routing.proofs.ClaimingLaws.{field_run, passive_run, owned_passives}
+use Rattle.routing.specs.LogicTile.{logic_tile}
+use native.Mathlib.Omega.{arith}
+use mathlib.Core.Path.{◌∙◌}
+use Rattle.routing.proofs.rules.check_parts.Goals as goal
+
+pub claim-requires : goal.claim-requires
+claim-requires c =
+    let table = c.args.table.now in
+    (field_run logic_tile table (omega (arith, c.requires.0)), c.claim_cells.ensures table)
+
+-- the fields break a rule
+pub returns-then-not-claim : goal.returns-then-not-claim
+returns-then-not-claim c =
+    let table = c.args.table.now in
+    let broken = faulty_fields logic_tile table (fields_claimed logic_tile table _ c.claim.ensures.answer ∙ c.if-not-claim.true) in
+    record { part = broken; map = faulty_not_ok logic_tile table _ broken (omega arith) }
+
+-- more than 64 passive positions
+pub returns-then-n-gt-MAX_PASSIVES : goal.returns-then-n-gt-MAX_PASSIVES
+returns-then-n-gt-MAX_PASSIVES c =
+    let table = c.args.table.now in
+    let fields = fields_claimed logic_tile table _ c.claim.ensures.answer ∙ c.if-not-claim.false in
+    let broken = faulty_passives logic_tile table fields (passives_many logic_tile table (omega (arith, c.passive_count-n.ensures))) in
+    record { part = broken; map = faulty_not_ok logic_tile table _ broken (omega arith) }
+
+pub claim-requires-2 : goal.claim-requires-2
+claim-requires-2 c =
+    let table = c.args.table.now in (
+      passive_run logic_tile table (omega (arith, c.requires.0)) _ c.passive_count-n.ensures (omega arith),
+      c.claim.ensures.map c.if-not-claim.false,
+    )
+
+-- a passive position breaks a rule
+pub returns-then-not-claim-2 : goal.returns-then-not-claim-2
+returns-then-not-claim-2 c =
+    let table = c.args.table.now in
+    let fields = fields_claimed logic_tile table _ c.claim.ensures.answer ∙ c.if-not-claim.false in
+    let passives = passives_claimed logic_tile table _ c.passive_count-n.ensures (omega arith) _ c.claim-2.ensures.answer in
+    let broken = faulty_passives logic_tile table fields (passives ∙ c.if-not-claim-2.true) in
+    record { part = broken; map = faulty_not_ok logic_tile table _ broken (omega arith) }
+
+pub check_groups-requires : goal.check_groups-requires
+check_groups-requires c =
+    let table = c.args.table.now in
+    let fields = fields_claimed logic_tile table _ c.claim.ensures.answer ∙ c.if-not-claim.false in
+    let passives = passives_claimed logic_tile table _ c.passive_count-n.ensures (omega arith) _ c.claim-2.ensures.answer in
+    let free = c.if-not-claim-2.false in (
+      c.requires.0,
+      fields,
+      passives ∙ free,
+      owned_passives logic_tile table _ _ c.passive_count-n.ensures (omega arith) (c.claim-2.ensures.map free),
+    )

@@ -1,5 +1,5 @@
 -- The answers of following a driver, ground by ground, each where the grounds before it have passed; and the work room after any answer.
--- Main laws: `range_driven`, `port_range_lem`, `settings_port`, `follow_settings`; `follow_room`. Assumes nothing.
+-- Main laws: `port_driven`, `settings_port`, `follow_settings`; `follow_room`. Assumes nothing.
 use Prim.Native.Nat.{ℕ, ◌<◌, ◌≤◌}
 use mathlib.Core.Path.{◌≡◌, refl, sym, ap, ◌∙◌}
 use mathlib.Core.Logic.{◌≢◌}
@@ -10,7 +10,7 @@ use lib.Dec.{ltb}
 use lib.ListN.{length}
 use Rattle.lists.specs.Tables.{zeros}
 use Rattle.refusal.specs.Memory.{work_room}
-use Rattle.refusal.specs.declared.Refusal.TheVariants.{WrongSize, WrongLength, Table, NoSuchSettings, Contention, Loop, OutOfRange}
+use Rattle.refusal.specs.declared.Refusal.TheVariants.{WrongSize, WrongLength, Table, NoSuchSettings, Contention, OutOfRange}
 use Rattle.ports.specs.declared.size.Block.{Block}
 use Rattle.ports.specs.Block.{tiles, sized, port_of}
 use Rattle.ports.specs.Lengths.{ports, ports_per_tile}
@@ -18,44 +18,34 @@ use Rattle.fabric.specs.Wire.{wire_of}
 use Rattle.routing.specs.LogicTile.{logic_tile}
 use Rattle.routing.specs.TableCheck.{faulty_part, part_count, table_ok}
 use Rattle.config.specs.Blocks.{bitless_tile}
-use Rattle.loops.specs.Loops.{loop_wire}
 use Rattle.equations.specs.Sources.{contended_wire, sources_of}
-use Rattle.equations.proofs.WireRowLaws.{graph}
 use Rattle.drivers.specs.Following.{driver_of}
 use Rattle.block.specs.declared.Followed.{Followed}
 use Rattle.block.specs.declared.Followed.TheVariants.{Driven, Refused}
 use Rattle.block.specs.Building.{none}
-use Rattle.block.specs.Drivers.{followed_number, range_answer, port_answer, settings_answer, follow_answer}
+use Rattle.block.specs.Drivers.{followed_number, port_answer, settings_answer, follow_answer}
 use Rattle.refusal.proofs.GroundsLaws.{unless_cases}
 
--- ---- grounds 5, 7 and 20
+-- ---- grounds 5 and 20
 
 module _ (B : Block) (t st : List ℕ) (tile port : ℕ) where
-  pub range_no_tile : tiles B ≤ tile → Refused (OutOfRange tile) ≡ range_answer B t st tile port
-  unfolding range_answer
-  range_no_tile l = rw (le-ltb tile (tiles B) l)
-
-  module _ (within : tile < tiles B) where
-    pub range_no_port : ports_per_tile ≤ port → Refused (OutOfRange port) ≡ range_answer B t st tile port
-    unfolding range_answer
-    range_no_port l = rw (lt-ltb tile (tiles B) within, le-ltb port ports_per_tile l)
-
-    pub range_driven : port < ports_per_tile → Driven (driver_of B (sources_of B t st) (wire_of B (port_of tile port))) ≡ range_answer B t st tile port
-    unfolding range_answer
-    range_driven l = rw (lt-ltb tile (tiles B) within, lt-ltb port ports_per_tile l)
-
   pub port_contended : (w : ℕ) → w ≡ contended_wire B t st → w < ports B → Refused (Contention w) ≡ port_answer B t st tile port
   unfolding port_answer
   port_contended w e l = rw (← e, lt-leb (ports B) w l)
 
   module _ (free : ports B ≤ contended_wire B t st) where
-    pub port_loop : (w : ℕ) → w ≡ loop_wire (graph B t st) (ports B) → w < ports B → Refused (Loop w) ≡ port_answer B t st tile port
+    pub port_no_tile : tiles B ≤ tile → Refused (OutOfRange tile) ≡ port_answer B t st tile port
     unfolding port_answer
-    port_loop w e l = rw (le-leb (ports B) (contended_wire B t st) free, ← e, lt-leb (ports B) w l)
+    port_no_tile l = rw (le-leb (ports B) (contended_wire B t st) free, le-ltb tile (tiles B) l)
 
-    pub port_range_lem : ports B ≤ loop_wire (graph B t st) (ports B) → range_answer B t st tile port ≡ port_answer B t st tile port
-    unfolding port_answer
-    port_range_lem straight = rw (le-leb (ports B) (contended_wire B t st) free, le-leb (ports B) (loop_wire (graph B t st) (ports B)) straight)
+    module _ (within : tile < tiles B) where
+      pub port_no_port : ports_per_tile ≤ port → Refused (OutOfRange port) ≡ port_answer B t st tile port
+      unfolding port_answer
+      port_no_port l = rw (le-leb (ports B) (contended_wire B t st) free, lt-ltb tile (tiles B) within, le-ltb port ports_per_tile l)
+
+      pub port_driven : port < ports_per_tile → Driven (driver_of B (sources_of B t st) (wire_of B (port_of tile port))) ≡ port_answer B t st tile port
+      unfolding port_answer
+      port_driven l = rw (le-leb (ports B) (contended_wire B t st) free, lt-ltb tile (tiles B) within, lt-ltb port ports_per_tile l)
 
   -- ---- grounds 3 and 9
 
@@ -95,14 +85,12 @@ Zeroed r = (old : List ℕ) → zeros (length old) ≡ work_room (followed_numbe
 
 -- all grounds but 1 and 2, and a yes, leave it zeroed
 pub follow_room : (B : Block) (t st : List ℕ) (tile port : ℕ) → Zeroed (settings_answer B t st tile port)
-unfolding settings_answer port_answer range_answer
+unfolding settings_answer port_answer
 follow_room B t st tile port =
     unless_cases Zeroed (table_ok logic_tile t) _ _ (λ e old. refl)
     (λ e. unless_cases Zeroed (none (tiles B) (bitless_tile t st (tiles B))) _ _ (λ e old. refl)
     (λ e. unless_cases Zeroed (none (ports B) (contended_wire B t st)) _ _ (λ e old. refl)
-    (λ e. unless_cases Zeroed (none (ports B) (loop_wire (graph B t st) (ports B))) _ _ (λ e old. refl)
-    (λ e. unless_cases Zeroed (ltb tile (tiles B)) _ _ (λ e old. refl)
-    (λ e. unless_cases Zeroed (ltb port ports_per_tile) _ _ (λ e old. refl) (λ e old. refl))))))
+    (λ e. unless_cases Zeroed (ltb tile (tiles B)) _ _ (λ e old. refl) (λ e. unless_cases Zeroed (ltb port ports_per_tile) _ _ (λ e old. refl) (λ e old. refl)))))
 
 -- a slice of it, whose old contents were cleared after the answer
 pub follow_cleared : (B : Block) (t st : List ℕ) (tile port : ℕ) (r : Followed) → r ≡ settings_answer B t st tile port → (old last cleared : List ℕ)

@@ -1,14 +1,12 @@
 -- Every answer of following says what specs/DriverMeaning.antt has. Main law: `follow_says`. Assumes nothing.
-use Prim.Native.Nat.{ℕ, ◌<◌, ◌≤◌}
+use Prim.Native.Nat.{ℕ}
 use mathlib.Core.Path.{◌≡◌, refl, sym, subst}
-use mathlib.Core.Logic.{◌↔◌, inl, inr, ⊎_elim}
+use mathlib.Core.Logic.{◌↔◌, inl, inr}
 use mathlib.Core.Bool.{true}
 use mathlib.Core.List.{List}
-use native.Mathlib.Omega.{arith}
-use borrow.Author.Tests.{leb-true, leb-false, le-leb, ltb-true, ltb-false}
+use borrow.Author.Tests.{leb-true, leb-false, ltb-true, ltb-false}
 use lib.Dec.{ltb}
-use Rattle.lists.proofs.CaseLaws.{clash, lt_or_le}
-use Rattle.refusal.specs.declared.Refusal.TheVariants.{Loop}
+use Rattle.lists.proofs.CaseLaws.{clash}
 use Rattle.ports.specs.declared.size.Block.{Block}
 use Rattle.ports.specs.Block.{tiles, sized}
 use Rattle.ports.specs.Lengths.{ports, ports_per_tile}
@@ -19,80 +17,50 @@ use Rattle.routing.specs.TableCheck.{table_ok}
 use Rattle.routing.proofs.TableCheckLaws.{table_exact, table_broken}
 use Rattle.config.specs.Blocks.{bitless_tile}
 use Rattle.config.proofs.BlocksLaws.{bitless_lowest, none_bitless}
-use Rattle.loops.specs.Loops.{loop_wire}
-use Rattle.loops.proofs.LoopWireLaws.{loop_wire_lowest}
-use Rattle.equations.specs.Switches.{NoContention}
-use Rattle.equations.specs.Equations.{Depends, NoLoop, wire}
+use Rattle.equations.specs.Equations.{wire}
 use Rattle.equations.specs.Routed.{Routed}
 use Rattle.equations.specs.Sources.{contended_wire}
-use Rattle.equations.proofs.WireRowLaws.{graph}
-use Rattle.equations.proofs.SourceLaws.{contended_exact, contended_none_exact}
-use Rattle.equations.proofs.ChainLaws.{rows_closed}
-use Rattle.equations.proofs.LoopLaws.{loop_lowest_exact}
+use Rattle.equations.proofs.SourceLaws.{contended_exact}
 use Rattle.drivers.proofs.FollowingLaws.{driven_exact}
 use Rattle.block.specs.declared.Followed.{Followed}
-use Rattle.block.specs.declared.Followed.TheVariants.{Refused}
 use Rattle.block.specs.Lengths.{follow_lent, follow_exact, FollowLong}
-use Rattle.block.specs.declared.lengths.FollowRoomLent.{FollowRoomLent}
 use Rattle.block.specs.declared.lengths.FollowLent.{FollowLent}
 use Rattle.block.specs.Building.{none}
-use Rattle.block.specs.Drivers.{range_answer, port_answer, settings_answer, follow_answer}
-use Rattle.block.specs.DriverMeaning.{Followable, FollowSays, wrong_size, wrong_length, broken, bitless, contention, loop, out_of_range}
+use Rattle.block.specs.Drivers.{port_answer, settings_answer, follow_answer}
+use Rattle.block.specs.DriverMeaning.{Followable, FollowSays, wrong_size, wrong_length, broken, bitless, contention, out_of_range}
 use Rattle.refusal.proofs.GroundsLaws.{unless_cases}
 use Rattle.block.proofs.LengthLaws.{follow_long_exact}
-use Rattle.block.proofs.DriverLaws.{port_loop}
 use Rattle.block.proofs.RoutedLaws.{routed_of_fit}
-use Rattle.block.proofs.MeaningLaws.{free_of, straight_of}
+use Rattle.block.proofs.MeaningLaws.{free_of}
 
--- a block without contention in which a wire depends on itself is refused with 7
-pub port_looped : (B : Block) (t st : List ℕ) (tile port : ℕ) → Routed B t st → NoContention B t st → (w : ℕ) → Depends B t st w w
-    → (v : ℕ) × (Refused (Loop v) ≡ port_answer B t st tile port)
-port_looped B t st tile port ok free w d =
-    let e = (contended_none_exact B t st ok).0 free in
-    ⊎_elim
-    (λ (l : loop_wire (graph B t st) (ports B) < ports B). (loop_wire (graph B t st) (ports B), port_loop B t st tile port (omega (arith, e)) _ refl l))
-    (λ (l : ports B ≤ loop_wire (graph B t st) (ports B)). absurd (straight_of B t st ok free (le-leb _ _ l) w d))
-    (lt_or_le (loop_wire (graph B t st) (ports B)) (ports B))
-
-module _ (B : Block) (t st : List ℕ) (tile port : ℕ) (room : FollowRoomLent) where
+module _ (B : Block) (t st : List ℕ) (tile port : ℕ) (wires sources marks : List ℕ) where
   abbrev lent : FollowLent
-  lent = follow_lent t st room
+  lent = follow_lent t st wires sources marks
 
   abbrev Says : Followed → Type 0
   Says = FollowSays B t st tile port lent
 
-  -- ground 20, and where following ends
-  range_means : Followable B t st tile port lent → Routed B t st → NoContention B t st → NoLoop B t st → Says (range_answer B t st tile port)
-  unfolding range_answer
-  range_means can ok free straight =
-      unless_cases Says (ltb tile (tiles B)) _ _
-      (λ f. out_of_range _ can free straight (inl (ltb-false tile (tiles B) f, refl)))
-      (λ f. let lt = ltb-true tile (tiles B) f in
-      unless_cases Says (ltb port ports_per_tile) _ _
-      (λ g. out_of_range _ can free straight (inr (lt, ltb-false port ports_per_tile g, refl)))
-      (λ g. let l = port_of_lt B tile port lt (ltb-true port ports_per_tile g) in (
-        can,
-        record {
-          no_contention = free;
-          no_loop = straight;
-          tile_within = lt;
-          port_within = ltb-true port ports_per_tile g;
-          driven = driven_exact B t st ok free straight (wire B tile port) (wire_within B _ l) (wire_idempotent B _ l);
-        },
-      )))
-
-  -- grounds 5 and 7
+  -- grounds 5 and 20, and where following ends
   port_means : Followable B t st tile port lent → Routed B t st → Says (port_answer B t st tile port)
   unfolding port_answer
   port_means can ok =
       unless_cases Says (none (ports B) (contended_wire B t st)) _ _
       (λ e. contention _ can ((contended_exact B t st ok (contended_wire B t st)).1 (leb-false _ _ e, refl)))
       (λ e. let free = free_of B t st ok e in
-      unless_cases Says (none (ports B) (loop_wire (graph B t st) (ports B))) _ _
-      (λ g. loop _ can free
-      ((loop_lowest_exact B t st ok free (loop_wire (graph B t st) (ports B))).1
-      (leb-false _ _ g, loop_wire_lowest (graph B t st) (ports B) (rows_closed B t st ok))))
-      (λ g. range_means can ok free (straight_of B t st ok free g)))
+      unless_cases Says (ltb tile (tiles B)) _ _
+      (λ f. out_of_range _ can free (inl (ltb-false tile (tiles B) f, refl)))
+      (λ f. let lt = ltb-true tile (tiles B) f in
+      unless_cases Says (ltb port ports_per_tile) _ _
+      (λ g. out_of_range _ can free (inr (lt, ltb-false port ports_per_tile g, refl)))
+      (λ g. let l = port_of_lt B tile port lt (ltb-true port ports_per_tile g) in (
+        can,
+        record {
+          no_contention = free;
+          tile_within = lt;
+          port_within = ltb-true port ports_per_tile g;
+          driven = driven_exact B t st ok free (wire B tile port) (wire_within B _ l) (wire_idempotent B _ l);
+        },
+      ))))
 
   follow_means : Says (follow_answer B t st tile port (follow_exact B lent))
   unfolding follow_answer settings_answer

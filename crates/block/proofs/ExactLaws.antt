@@ -39,18 +39,17 @@ use Rattle.block.specs.declared.Built.TheVariants.{Listed, Refused}
 use Rattle.block.specs.declared.Followed.{Followed}
 use Rattle.block.specs.declared.Followed.TheVariants as followed
 use Rattle.block.specs.declared.lengths.BuildLent.{BuildLent}
-use Rattle.block.specs.declared.lengths.FollowRoomLent.{FollowRoomLent}
 use Rattle.block.specs.declared.lengths.FollowLent.{FollowLent}
 use Rattle.block.specs.Lengths.{build_exact, BuildLong, follow_lent, follow_exact, FollowLong}
 use Rattle.block.specs.Building.{list_answer, bits_answer, build_answer}
-use Rattle.block.specs.Drivers.{range_answer, port_answer, settings_answer, follow_answer}
+use Rattle.block.specs.Drivers.{port_answer, settings_answer, follow_answer}
 use Rattle.block.specs.Meaning.{NoDisabledCarry, ListNo, contention, disabled_carry, loop, cell_clock, ListSays, Readable, BuildNo, wrong_size, wrong_length, broken, undecodable, unlisted, BuildSays}
 use Rattle.block.specs.DriverMeaning.{OutOfBlock, Followable, FollowNo, FollowSays}
 use Rattle.block.specs.DriverMeaning as following
 use Rattle.block.proofs.LengthLaws.{build_long_exact, follow_long_exact}
 use Rattle.block.proofs.RoutedLaws.{routed_of_read, routed_of_fit}
 use Rattle.block.proofs.BuildingLaws.{list_contended, list_carry, list_loop, list_clocked, list_listed, bits_table, bits_undecodable, bits_list, build_size, build_length, build_bits}
-use Rattle.block.proofs.DriverLaws.{range_no_tile, range_no_port, range_driven, port_contended, port_loop, port_range_lem, settings_table, settings_bitless, settings_port, follow_size, follow_length, follow_settings}
+use Rattle.block.proofs.DriverLaws.{port_contended, port_no_tile, port_no_port, port_driven, settings_table, settings_bitless, settings_port, follow_size, follow_length, follow_settings}
 
 -- a table that keeps its rules passes the check
 rules_pass : (t : List ℕ) → TableRules logic_tile t → table_ok logic_tile t ≡ true
@@ -139,9 +138,9 @@ module _ (B : Block) (t bits : List ℕ) (lent : BuildLent) where
 
 -- ---- following
 
-module _ (B : Block) (t st : List ℕ) (tile port : ℕ) (lent : FollowRoomLent) where
+module _ (B : Block) (t st : List ℕ) (tile port : ℕ) (wires sources marks : List ℕ) where
   abbrev room : FollowLent
-  room = follow_lent t st lent
+  room = follow_lent t st wires sources marks
 
   abbrev told : Followed
   told = follow_answer B t st tile port (follow_exact B room)
@@ -161,14 +160,10 @@ module _ (B : Block) (t st : List ℕ) (tile port : ℕ) (lent : FollowRoomLent)
     port_told : port_answer B t st tile port ≡ told
     port_told = settings_port B t st tile port (rules_pass t can.rules) clean ∙ lent_told can.size can.lengths
 
-    -- nor 5 and 7
-    range_told : NoContention B t st → NoLoop B t st → range_answer B t st tile port ≡ told
-    range_told free straight =
-        port_range_lem B t st tile port (free_place B t st routed free) (straight_place B t st routed free straight) ∙ port_told
-
-    out_told : (number : ℕ) → OutOfBlock B tile port number → followed.Refused (OutOfRange number) ≡ range_answer B t st tile port
-    out_told number (inl (over, e)) = ap (λ (n : ℕ). followed.Refused (OutOfRange n)) e ∙ range_no_tile B t st tile port over
-    out_told number (inr (l, over, e)) = ap (λ (n : ℕ). followed.Refused (OutOfRange n)) e ∙ range_no_port B t st tile port l over
+    out_told : (number : ℕ) → NoContention B t st → OutOfBlock B tile port number → followed.Refused (OutOfRange number) ≡ port_answer B t st tile port
+    out_told number free (inl (over, e)) = ap (λ (n : ℕ). followed.Refused (OutOfRange n)) e ∙ port_no_tile B t st tile port (free_place B t st routed free) over
+    out_told number free (inr (l, over, e)) =
+        ap (λ (n : ℕ). followed.Refused (OutOfRange n)) e ∙ port_no_port B t st tile port (free_place B t st routed free) l over
 
   no_followed : {refusal : Refusal} → FollowNo B t st tile port room refusal → followed.Refused refusal ≡ told
   no_followed (following.wrong_size none) = follow_size B t st tile port (follow_exact B room) (test_false (sized B) (sized_exact B).0 none)
@@ -182,22 +177,18 @@ module _ (B : Block) (t st : List ℕ) (tile port : ℕ) (lent : FollowRoomLent)
       ∙ lent_told size long
   no_followed (following.contention x can low) =
       let e = (contended_exact B t st (routed can) x).0 low in port_contended B t st tile port x (sym e.1) e.0 ∙ port_told can
-  no_followed (following.loop x can free low) =
-      let e = (loop_lowest_exact B t st (routed can) free x).0 low in
-      port_loop B t st tile port (free_place B t st (routed can) free) x (loop_wire_is (graph B t st) (ports B) (rows_closed B t st (routed can)) x e.1) e.0
-      ∙ port_told can
-  no_followed (following.out_of_range number can free straight out) = out_told can number out ∙ range_told can free straight
+  no_followed (following.out_of_range number can free out) = out_told can number free out ∙ port_told can
 
   says_followed : (r : Followed) → FollowSays B t st tile port room r → r ≡ told
   says_followed (followed.Driven driver) (can, to) =
       let free = to.no_contention in
       let l = port_of_lt B tile port to.tile_within to.port_within in
       ap followed.Driven (driven_unique B t st (routed can) free to.driven
-      (driven_exact B t st (routed can) free to.no_loop (wire B tile port) (wire_within B _ l) (wire_idempotent B _ l)))
-      ∙ range_driven B t st tile port to.tile_within to.port_within ∙ range_told can free to.no_loop
+      (driven_exact B t st (routed can) free (wire B tile port) (wire_within B _ l) (wire_idempotent B _ l)))
+      ∙ port_driven B t st tile port (free_place B t st (routed can) free) to.tile_within to.port_within ∙ port_told can
   says_followed (followed.Refused refusal) says = no_followed says
 
   -- one answer only
-  pub follow_exact_lem : (r q : Followed) → FollowSays B t st tile port (follow_lent t st lent) r
-      → FollowSays B t st tile port (follow_lent t st lent) q → r ≡ q
+  pub follow_exact_lem : (r q : Followed) → FollowSays B t st tile port (follow_lent t st wires sources marks) r
+      → FollowSays B t st tile port (follow_lent t st wires sources marks) q → r ≡ q
   follow_exact_lem r q x y = says_followed r x ∙ sym (says_followed q y)

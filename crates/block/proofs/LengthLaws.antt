@@ -9,9 +9,8 @@ use Rattle.ports.specs.Block.{size_of}
 use Rattle.ports.specs.Lengths.{table_length, bits_length, settings_total, ports, list_length}
 use Rattle.block.specs.declared.lengths.RoomLent.{RoomLent}
 use Rattle.block.specs.declared.lengths.BuildLent.{BuildLent}
-use Rattle.block.specs.declared.lengths.FollowRoomLent.{FollowRoomLent}
 use Rattle.block.specs.declared.lengths.FollowLent.{FollowLent}
-use Rattle.block.specs.Lengths.{room_exact, RoomLong, build_exact, BuildLong, follow_room_exact, FollowRoomLong, follow_exact, FollowLong}
+use Rattle.block.specs.Lengths.{room_exact, RoomLong, build_exact, BuildLong, follow_exact, FollowLong}
 
 module _ (B : Block) where
   room_long_exact : (lent : RoomLent) → (room_exact B lent ≡ true) ↔ RoomLong B lent
@@ -57,24 +56,6 @@ module _ (B : Block) where
           (and_equal lent.bits (bits_length (size_of B)) r.bits_long
           (and_equal lent.settings (settings_total (size_of B)) r.settings_long ((room_long_exact lent.room).1 r.room_long)))
 
-  follow_room_exact_lem : (room : FollowRoomLent) → (follow_room_exact B room ≡ true) ↔ FollowRoomLong B room
-  follow_room_exact_lem room = (there, back)
-    where
-      there : follow_room_exact B room ≡ true → FollowRoomLong B room
-      there e =
-          let a = equal_and room.wires (ports B) _ e in
-          let b = equal_and room.sources (ports B) _ a.1 in
-          let c = equal_and room.rows (list_length B) _ b.1 in
-          let d = equal_and room.marks (ports B) _ c.1 in
-          record { wires_long = a.0; sources_long = b.0; rows_long = c.0; marks_long = d.0; queue_long = eqb-true room.queue (ports B) d.1 }
-
-      back : FollowRoomLong B room → follow_room_exact B room ≡ true
-      back r =
-          and_equal room.wires (ports B) r.wires_long
-          (and_equal room.sources (ports B) r.sources_long
-          (and_equal room.rows (list_length B) r.rows_long
-          (and_equal room.marks (ports B) r.marks_long (eq-eqb room.queue (ports B) r.queue_long))))
-
   pub follow_long_exact : (lent : FollowLent) → (follow_exact B lent ≡ true) ↔ FollowLong B lent
   follow_long_exact lent = (there, back)
     where
@@ -82,9 +63,19 @@ module _ (B : Block) where
       there e =
           let a = equal_and lent.table table_length _ e in
           let b = equal_and lent.settings (settings_total (size_of B)) _ a.1 in
-          record { table_long = a.0; settings_long = b.0; room_long = (follow_room_exact_lem lent.room).0 b.1 }
+          let c = equal_and lent.wires (ports B) _ b.1 in
+          let d = equal_and lent.sources (ports B) _ c.1 in
+          record {
+            table_long = a.0;
+            settings_long = b.0;
+            wires_long = c.0;
+            sources_long = d.0;
+            marks_long = eqb-true lent.marks (ports B) d.1;
+          }
 
       back : FollowLong B lent → follow_exact B lent ≡ true
       back r =
           and_equal lent.table table_length r.table_long
-          (and_equal lent.settings (settings_total (size_of B)) r.settings_long ((follow_room_exact_lem lent.room).1 r.room_long))
+          (and_equal lent.settings (settings_total (size_of B)) r.settings_long
+          (and_equal lent.wires (ports B) r.wires_long
+          (and_equal lent.sources (ports B) r.sources_long (eq-eqb lent.marks (ports B) r.marks_long))))

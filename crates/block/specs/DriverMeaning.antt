@@ -1,7 +1,7 @@
 -- What the answers of `follow` say, in the paper's words. proofs/DriverMeaningLaws.antt shows it of every answer.
 use Rattle.std.specs.Prelude.{ℕ, ◌<◌, ◌≤◌, ◌≡◌, ◌⊎◌, List}
 use Rattle.refusal.specs.declared.Refusal.{Refusal}
-use Rattle.refusal.specs.declared.Refusal.TheVariants.{WrongSize, WrongLength, Table, Contention, Loop, NoSuchSettings, OutOfRange}
+use Rattle.refusal.specs.declared.Refusal.TheVariants.{WrongSize, WrongLength, Table, Contention, NoSuchSettings, OutOfRange}
 use Rattle.ports.specs.declared.size.Block.{Block}
 use Rattle.ports.specs.Block.{tiles, Sized}
 use Rattle.ports.specs.Lengths.{ports_per_tile}
@@ -11,7 +11,7 @@ use Rattle.codec.specs.Reading.{HasBits}
 use Rattle.config.specs.Blocks.{settings_at}
 use Rattle.config.specs.Facts.{LowestBitless}
 use Rattle.equations.specs.Switches.{NoContention, LowestContention}
-use Rattle.equations.specs.Equations.{NoLoop, LowestLooped, wire}
+use Rattle.equations.specs.Equations.{wire}
 use Rattle.drivers.specs.declared.follow.Driver.{Driver}
 use Rattle.drivers.specs.Following.{DrivenBy}
 use Rattle.block.specs.declared.Followed.{Followed}
@@ -24,10 +24,9 @@ abbrev pub OutOfBlock : Block → (tile port : ℕ) → ℕ → Type 0
 OutOfBlock B tile port number = ((tiles B ≤ tile) × (number ≡ tile)) ⊎ ((tile < tiles B) × (ports_per_tile ≤ port) × (number ≡ port))
 
 module _ (B : Block) (t st : List ℕ) (tile port : ℕ) where
-  -- "Following a driver from a tile's port ends at an open wire, a constant, a cell"
+  -- "Following a driver from a tile's port ends at an open wire, a constant, a cell, or reports a ring."
   pub record FollowedTo (driver : Driver) : Type 0 where
     pub no_contention : NoContention B t st
-    pub no_loop : NoLoop B t st
     pub tile_within : tile < tiles B
     pub port_within : port < ports_per_tile
     pub driven : DrivenBy B t st (wire B tile port) driver
@@ -40,15 +39,14 @@ module _ (B : Block) (t st : List ℕ) (tile port : ℕ) (lent : FollowLent) whe
     pub rules : TableRules logic_tile t
     pub has_bits : (T : ℕ) → T < tiles B → HasBits t (settings_at st T)
 
-  -- "following a driver [checks] 1, 2, 3, 9, 5, 20", "now also gives 7, after 5": what each no says; there is no other
+  -- "following a driver [checks] 1, 2, 3, 9, 5, 20": what each no says; there is no other
   pub data FollowNo : Refusal → Type 0 where
     wrong_size : (Sized B → ⊥) → FollowNo WrongSize
     wrong_length : Sized B → (FollowLong B lent → ⊥) → FollowNo WrongLength
     broken : (part : ℕ) → Sized B → FollowLong B lent → FirstBroken logic_tile t part → FollowNo (Table part)
     bitless : (T : ℕ) → Sized B → FollowLong B lent → TableRules logic_tile t → LowestBitless t st (tiles B) T → FollowNo (NoSuchSettings T)
     contention : (x : ℕ) → Followable → LowestContention B t st x → FollowNo (Contention x)
-    loop : (x : ℕ) → Followable → NoContention B t st → LowestLooped B t st x → FollowNo (Loop x)
-    out_of_range : (number : ℕ) → Followable → NoContention B t st → NoLoop B t st → OutOfBlock B tile port number → FollowNo (OutOfRange number)
+    out_of_range : (number : ℕ) → Followable → NoContention B t st → OutOfBlock B tile port number → FollowNo (OutOfRange number)
 
   -- what an answer of following says
   abbrev pub FollowSays : Followed → Type 0

@@ -6,7 +6,6 @@ use Rattle.ports.specs.Block.{size_of}
 use Rattle.ports.specs.Lengths.{table_length, bits_length, settings_total, ports, list_length}
 use Rattle.block.specs.declared.lengths.RoomLent.{RoomLent}
 use Rattle.block.specs.declared.lengths.BuildLent.{BuildLent}
-use Rattle.block.specs.declared.lengths.FollowRoomLent.{FollowRoomLent}
 use Rattle.block.specs.declared.lengths.FollowLent.{FollowLent}
 
 -- what is lent to write a list of rows: the list, and as work room wires, sources, rows, marks and queue
@@ -51,38 +50,26 @@ pub record BuildLong (B : Block) (lent : BuildLent) : Type 0 where
   pub settings_long : lent.settings ≡ settings_total (size_of B)
   pub room_long : RoomLong B lent.room
 
--- the work room of `follow`: wires, sources, rows, marks and queue
-abbrev pub follow_room_lent : (wires sources rows marks queue : List ℕ) → FollowRoomLent
-follow_room_lent wires sources rows marks queue = record {
+-- what `follow` is lent: table and settings, and as work room wires, sources and marks
+abbrev pub follow_lent : (table settings wires sources marks : List ℕ) → FollowLent
+follow_lent table settings wires sources marks = record {
+  table = length table;
+  settings = length settings;
   wires = length wires;
   sources = length sources;
-  rows = length rows;
   marks = length marks;
-  queue = length queue;
 }
 
-abbrev pub follow_room_exact : Block → FollowRoomLent → Bool
-follow_room_exact B room =
-    eqb room.wires (ports B)
-    && (eqb room.sources (ports B) && (eqb room.rows (list_length B) && (eqb room.marks (ports B) && eqb room.queue (ports B))))
-
--- these lengths are the exact ones
-pub record FollowRoomLong (B : Block) (room : FollowRoomLent) : Type 0 where
-  pub wires_long : room.wires ≡ ports B
-  pub sources_long : room.sources ≡ ports B
-  pub rows_long : room.rows ≡ list_length B
-  pub marks_long : room.marks ≡ ports B
-  pub queue_long : room.queue ≡ ports B
-
--- what `follow` is lent: table and settings, and that
-abbrev pub follow_lent : (table settings : List ℕ) → FollowRoomLent → FollowLent
-follow_lent table settings room = record { table = length table; settings = length settings; room = room }
-
 abbrev pub follow_exact : Block → FollowLent → Bool
-follow_exact B lent = eqb lent.table table_length && (eqb lent.settings (settings_total (size_of B)) && follow_room_exact B lent.room)
+follow_exact B lent =
+    eqb lent.table table_length
+    && (eqb lent.settings (settings_total (size_of B))
+    && (eqb lent.wires (ports B) && (eqb lent.sources (ports B) && eqb lent.marks (ports B))))
 
 -- these lengths are the exact ones
 pub record FollowLong (B : Block) (lent : FollowLent) : Type 0 where
   pub table_long : lent.table ≡ table_length
   pub settings_long : lent.settings ≡ settings_total (size_of B)
-  pub room_long : FollowRoomLong B lent.room
+  pub wires_long : lent.wires ≡ ports B
+  pub sources_long : lent.sources ≡ ports B
+  pub marks_long : lent.marks ≡ ports B

@@ -1,72 +1,17 @@
 // The checks of following a driver once the lengths are exact, in their order, and where it ends.
-ghost use Rattle.std.specs.Prelude.{◌≡◌, ◌*◌, ◌≤◌, length};
+ghost use Rattle.std.specs.Prelude.{◌≡◌, ◌*◌, length};
 ghost use Rattle.ports.specs.Block.{Sized, tiles};
-ghost use Rattle.ports.specs.Lengths.{ports, table_length, settings_length, list_length};
-ghost use Rattle.fabric.specs.Wire.{wires_of};
+ghost use Rattle.ports.specs.Lengths.{ports, table_length, settings_length};
 ghost use Rattle.routing.specs.LogicTile.{logic_tile};
 ghost use Rattle.equations.specs.Routed.{Routed};
-ghost use Rattle.equations.specs.Sources.{sources_of, contended_wire};
-ghost use Rattle.block.specs.Drivers.{range_answer, port_answer, settings_answer};
+ghost use Rattle.block.specs.Drivers.{port_answer, settings_answer};
 
 use crate::Followed;
 use ports::lengths::PORTS_PER_TILE;
 use ports::size::Block;
 use refusal::Refusal;
-use scheduling::schedule::Scheduled;
 
-// Ground 20, and where following ends. The sources are found again: their room has served the schedule.
-fn follow_wire(
-    b: Block,
-    table: &[u16],
-    st: &[u16],
-    tile: u32,
-    port: u32,
-    wires: &[u16],
-    sources: &mut [u16],
-) -> Followed
-    requires { Routed b table.now st.now × (wires.now ≡ wires_of b) × (length sources.old ≡ ports b) }
-    ensures { result ≡ range_answer b table.now st.now tile port }
-{
-    let n = b.h * b.w;
-    if n <= tile {
-        return Followed::Refused(Refusal::OutOfRange(tile));
-    }
-    if PORTS_PER_TILE <= port {
-        return Followed::Refused(Refusal::OutOfRange(port));
-    }
-    drivers::sources::find_sources(b, table, st, wires, sources);
-    let at = (PORTS_PER_TILE * tile + port) as usize;
-    let wire = wires[at];
-    Followed::Driven(drivers::follow::driver_of(b, sources, wire as usize))
-}
-
-// Grounds 7 and 20 of a block without contention, and where following ends.
-fn follow_sources(
-    b: Block,
-    table: &[u16],
-    st: &[u16],
-    tile: u32,
-    port: u32,
-    wires: &[u16],
-    sources: &mut [u16],
-    rows: &mut [u16],
-    marks: &mut [u16],
-    queue: &mut [u16],
-) -> Followed
-    requires { Routed b table.now st.now × (ports b ≤ contended_wire b table.now st.now) × (wires.now ≡ wires_of b) ×
-        (sources.old ≡ sources_of b table.now st.now) × (length rows.old ≡ list_length b) × (length marks.old ≡ ports b) ×
-        (length queue.old ≡ ports b) }
-    ensures { result ≡ port_answer b table.now st.now tile port }
-{
-    equations::rows::write_rows(b, st, wires, sources, rows);
-    let s = scheduling::schedule::schedule(rows, marks, queue, sources);
-    match s {
-        Scheduled::Loop(wire) => Followed::Refused(Refusal::Loop(wire as u32)),
-        Scheduled::Listed(_) => follow_wire(b, table, st, tile, port, wires, sources),
-    }
-}
-
-// Grounds 5, 7 and 20 of settings that some bits have, and where following ends.
+// Grounds 5 and 20 of settings that some bits have, and where following ends.
 fn follow_port(
     b: Block,
     table: &[u16],
@@ -75,24 +20,31 @@ fn follow_port(
     port: u32,
     wires: &mut [u16],
     sources: &mut [u16],
-    rows: &mut [u16],
     marks: &mut [u16],
-    queue: &mut [u16],
 ) -> Followed
     requires { Routed b table.now st.now × (length wires.old ≡ ports b) × (length sources.old ≡ ports b) ×
-        (length rows.old ≡ list_length b) × (length marks.old ≡ ports b) × (length queue.old ≡ ports b) }
+        (length marks.old ≡ ports b) }
     ensures { result ≡ port_answer b table.now st.now tile port }
 {
-    let n = wires.len();
+    let ports = wires.len();
+    let n = b.h * b.w;
     wiring::fill_wires(b, wires);
     let contended = drivers::sources::find_sources(b, table, st, wires, sources);
-    if contended < n {
+    if contended < ports {
         return Followed::Refused(Refusal::Contention(contended as u32));
     }
-    follow_sources(b, table, st, tile, port, wires, sources, rows, marks, queue)
+    if n <= tile {
+        return Followed::Refused(Refusal::OutOfRange(tile));
+    }
+    if PORTS_PER_TILE <= port {
+        return Followed::Refused(Refusal::OutOfRange(port));
+    }
+    let at = (PORTS_PER_TILE * tile + port) as usize;
+    let wire = wires[at];
+    Followed::Driven(drivers::follow::driver_of(b, sources, wire as usize, marks))
 }
 
-// Grounds 3, 9, 5, 7 and 20, and where following ends.
+// Grounds 3, 9, 5 and 20, and where following ends.
 pub fn follow_settings(
     b: Block,
     table: &[u16],
@@ -101,13 +53,10 @@ pub fn follow_settings(
     port: u32,
     wires: &mut [u16],
     sources: &mut [u16],
-    rows: &mut [u16],
     marks: &mut [u16],
-    queue: &mut [u16],
 ) -> Followed
     requires sized { Sized b × (length table.now ≡ table_length) × (length st.now ≡ settings_length * tiles b) }
-    requires wires_len { (length wires.old ≡ ports b) × (length sources.old ≡ ports b) × (length rows.old ≡ list_length b) ×
-        (length marks.old ≡ ports b) × (length queue.old ≡ ports b) }
+    requires wires_len { (length wires.old ≡ ports b) × (length sources.old ≡ ports b) × (length marks.old ≡ ports b) }
     ensures { result ≡ settings_answer b table.now st.now tile port }
 {
     let n = (b.h * b.w) as usize;
@@ -120,5 +69,5 @@ pub fn follow_settings(
     if bitless < n {
         return Followed::Refused(Refusal::NoSuchSettings(bitless as u32));
     }
-    follow_port(b, table, st, tile, port, wires, sources, rows, marks, queue)
+    follow_port(b, table, st, tile, port, wires, sources, marks)
 }

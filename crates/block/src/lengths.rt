@@ -1,7 +1,7 @@
 // Ground 2: how long what is lent to `build` and `follow` is, and whether that is exact.
 ghost use Rattle.std.specs.Prelude.{◌≡◌};
 ghost use Rattle.ports.specs.Block.{Sized};
-ghost use Rattle.block.specs.Lengths.{room_exact, build_exact, follow_room_exact, follow_exact};
+ghost use Rattle.block.specs.Lengths.{room_exact, build_exact, follow_exact};
 
 use ports::lengths::{TABLE_LENGTH, bits_length, list_length, port_count, settings_total};
 use ports::size::{Block, size_of};
@@ -26,22 +26,14 @@ pub struct BuildLent {
     pub room: RoomLent,
 }
 
-// The lengths of the work room of `follow`.
-#[derive(Clone, Copy)]
-pub struct FollowRoomLent {
-    pub wires: usize,
-    pub sources: usize,
-    pub rows: usize,
-    pub marks: usize,
-    pub queue: usize,
-}
-
 // The lengths of all that is lent to `follow`.
 #[derive(Clone, Copy)]
 pub struct FollowLent {
     pub table: usize,
     pub settings: usize,
-    pub room: FollowRoomLent,
+    pub wires: usize,
+    pub sources: usize,
+    pub marks: usize,
 }
 
 fn is_room_exact(b: Block, lent: RoomLent) -> bool
@@ -87,38 +79,23 @@ pub fn is_build_exact(b: Block, lent: BuildLent) -> bool
     is_room_exact(b, room)
 }
 
-fn is_follow_room_exact(b: Block, room: FollowRoomLent) -> bool
-    requires { Sized b }
-    ensures { result ≡ follow_room_exact b room }
-{
-    let ports = port_count(b);
-    let numbers = list_length(b);
-    if room.wires != ports {
-        return false;
-    }
-    if room.sources != ports {
-        return false;
-    }
-    if room.rows != numbers {
-        return false;
-    }
-    if room.marks != ports {
-        return false;
-    }
-    room.queue == ports
-}
-
 pub fn is_follow_exact(b: Block, lent: FollowLent) -> bool
     requires { Sized b }
     ensures { result ≡ follow_exact b lent }
 {
     let settings = settings_total(size_of(b));
+    let ports = port_count(b);
     if lent.table != TABLE_LENGTH {
         return false;
     }
     if lent.settings != settings {
         return false;
     }
-    let room = lent.room;
-    is_follow_room_exact(b, room)
+    if lent.wires != ports {
+        return false;
+    }
+    if lent.sources != ports {
+        return false;
+    }
+    lent.marks == ports
 }

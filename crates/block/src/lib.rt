@@ -9,15 +9,13 @@ ghost use Rattle.refusal.specs.Memory.{output, work_room};
 ghost use Rattle.ports.specs.Block.{tiles};
 ghost use Rattle.config.specs.Blocks.{decoded, tiles_of};
 ghost use Rattle.equations.specs.Settling.{block_list};
-ghost use Rattle.block.specs.Lengths.{room_lent, build_lent, build_exact, follow_room_lent, follow_lent, follow_exact};
+ghost use Rattle.block.specs.Lengths.{room_lent, build_lent, build_exact, follow_lent, follow_exact};
 ghost use Rattle.block.specs.Building.{built_number, build_answer};
 ghost use Rattle.block.specs.Drivers.{followed_number, follow_answer};
 ghost use Rattle.block.specs.Meaning.{BuildSays};
 ghost use Rattle.block.specs.DriverMeaning.{FollowSays};
 
-use crate::lengths::{
-    BuildLent, FollowLent, FollowRoomLent, RoomLent, is_build_exact, is_follow_exact,
-};
+use crate::lengths::{BuildLent, FollowLent, RoomLent, is_build_exact, is_follow_exact};
 use drivers::follow::Driver;
 use ports::size::Block;
 use refusal::Refusal;
@@ -104,9 +102,9 @@ pub fn build(
     r
 }
 
-// What drives a port of a tile, followed from switch to switch. Grounds 1, 2, 3, 9, 5, 7, 20, in this order (`follow_answer`). The work
-// room is wires, sources, rows, marks and queue.
-// Rules out: stopping at the first switch; going on through carry_in_mux; following round a ring, which ground 7 refuses.
+// What drives a port of a tile, followed from switch to switch. Grounds 1, 2, 3, 9, 5, 20, in this order (`follow_answer`). The work
+// room is wires, sources and marks.
+// Rules out: stopping at the first switch; a ring's wire that is not its lowest; going on through carry_in_mux.
 pub fn follow(
     b: Block,
     table: &[u16],
@@ -115,47 +113,34 @@ pub fn follow(
     port: u32,
     wires: &mut [u16],
     sources: &mut [u16],
-    rows: &mut [u16],
     marks: &mut [u16],
-    queue: &mut [u16],
 ) -> Followed
     ensures answer { result ≡ follow_answer b table.now settings.now tile port
-        (follow_exact b (follow_lent table.now settings.now (follow_room_lent wires.old
-        sources.old rows.old marks.old queue.old))) }
+        (follow_exact b (follow_lent table.now settings.now wires.old sources.old
+        marks.old)) }
     ensures wires { wires.new ≡ work_room (followed_number result) wires.old }
     ensures sources { sources.new ≡ work_room (followed_number result) sources.old }
-    ensures rows { rows.new ≡ work_room (followed_number result) rows.old }
     ensures marks { marks.new ≡ work_room (followed_number result) marks.old }
-    ensures queue { queue.new ≡ work_room (followed_number result) queue.old }
     ensures says { FollowSays b table.now settings.now tile port
-        (follow_lent table.now settings.now (follow_room_lent wires.old sources.old
-        rows.old marks.old queue.old)) result }
+        (follow_lent table.now settings.now wires.old sources.old marks.old)
+        result }
 {
     if !ports::size::is_sized(b) {
         return Followed::Refused(Refusal::WrongSize);
     }
-    let room = FollowRoomLent {
-        wires: wires.len(),
-        sources: sources.len(),
-        rows: rows.len(),
-        marks: marks.len(),
-        queue: queue.len(),
-    };
     let lent = FollowLent {
         table: table.len(),
         settings: settings.len(),
-        room: room,
+        wires: wires.len(),
+        sources: sources.len(),
+        marks: marks.len(),
     };
     if !is_follow_exact(b, lent) {
         return Followed::Refused(Refusal::WrongLength);
     }
-    let r = driver::follow_settings(
-        b, table, settings, tile, port, wires, sources, rows, marks, queue,
-    );
+    let r = driver::follow_settings(b, table, settings, tile, port, wires, sources, marks);
     lists::clear(wires);
     lists::clear(sources);
-    lists::clear(rows);
     lists::clear(marks);
-    lists::clear(queue);
     r
 }

@@ -21,7 +21,7 @@ use refusal::Refusal;
 use scheduling::schedule::Scheduled;
 
 // Grounds 7 and 8 of a block that passed those before, from its rows, and the list. The clocks are looked at first, so that the room of the sources
-// serves the schedule; a loop still comes before them, and what the clocks were said to come from then counts for nothing.
+// serves the schedule; a loop still comes before them.
 fn list_rows(
     b: Block,
     table: &[u16],
@@ -42,7 +42,7 @@ fn list_rows(
 {
     let n = wires.len();
     let tiles = (b.h * b.w) as usize;
-    let clocked = drivers::clocks::clocked_tile(b, st, wires, sources);
+    let clocked = drivers::clocks::clocked_tile(b, st, wires, sources, marks);
     let s = scheduling::schedule::schedule(rows, marks, queue, sources);
     match s {
         Scheduled::Loop(wire) => Built::Refused(Refusal::Loop(wire as u32)),

@@ -3,7 +3,7 @@ use mathlib.Core.Path.{◌≡◌, refl}
 use mathlib.Core.Logic.{◌≢◌}
 use Prim.Native.Nat.{ℕ, zero, suc, ◌+◌}
 use native.Mathlib.Omega.{arith}
-use Rattle.drivers.specs.declared.follow.Driver.TheVariants.{Open, Constant, Cell}
+use Rattle.drivers.specs.declared.follow.Driver.TheVariants.{Open, Constant, Cell, Ring}
 use Rattle.capi.specs.Packed.{driver_code}
 
 module _ (wire : ℕ) where
@@ -20,3 +20,6 @@ module _ (wire : ℕ) where
 
   pub code_cell : 262144 + wire ≡ driver_code (Cell wire)
   code_cell = omega arith
+
+  pub code_ring : 327680 + wire ≡ driver_code (Ring wire)
+  code_ring = omega arith

@@ -1,23 +1,22 @@
-// Building a block's list, following a driver, settling and clocking.
-ghost use Rattle.std.specs.Prelude.{◌≡◌, length};
+// Building a block's list, following a driver, and a step.
+ghost use Rattle.std.specs.Prelude.{◌≡◌};
 ghost use Rattle.refusal.specs.Memory.{output, work_room};
-ghost use Rattle.ports.specs.Block.{size, block, tiles};
+ghost use Rattle.ports.specs.Block.{block, tiles};
 ghost use Rattle.config.specs.Blocks.{decoded, tiles_of};
 ghost use Rattle.equations.specs.Settling.{block_list};
-ghost use Rattle.block.specs.Lengths.{room_lent, build_lent, build_exact, follow_room_lent, follow_lent, follow_exact};
+ghost use Rattle.block.specs.Lengths.{room_lent, build_lent, build_exact, follow_lent, follow_exact};
 ghost use Rattle.block.specs.Building.{built_number, build_answer};
 ghost use Rattle.block.specs.Drivers.{followed_number, follow_answer};
 ghost use Rattle.stepper.specs.Settling.{settled_by, port_values};
-ghost use Rattle.stepper.specs.Clocking.{handed, next_states};
-ghost use Rattle.sim.specs.Lengths.{settle_room_lent, settle_lent, settle_exact, clock_lent, clock_exact};
-ghost use Rattle.sim.specs.Settling.{settle_answer};
-ghost use Rattle.sim.specs.Clocking.{clock_answer};
+ghost use Rattle.stepper.specs.Clocking.{next_states};
+ghost use Rattle.sim.specs.Lengths.{inputs_lent, step_room_lent, step_lent, step_exact};
+ghost use Rattle.sim.specs.Stepping.{step_answer};
 ghost use Rattle.capi.specs.Packed.{ground_in, packed_answer, packed_built, driver_code, packed_followed};
 
 use crate::pack;
 use block::{Built, Followed};
 use drivers::follow::Driver;
-use ports::size::{Block, Size};
+use ports::size::Block;
 
 // The list of a block's rows in order, from its bits. Grounds 1 to 8; the value is the row count. The output is list; the rest is work room.
 #[unsafe(no_mangle)]
@@ -64,8 +63,8 @@ pub extern "C" fn ice40_build(
     pack_built(a)
 }
 
-// What drives a port, followed from switch to switch. Grounds 1, 2, 3, 9, 5, 7, 20; the value is 65,536 times 1 for an open wire, 2 and 3
-// for the constants 0 and 1, 4 for a cell, plus the wire. The rest is work room.
+// What drives a port, followed from switch to switch. Grounds 1, 2, 3, 9, 5, 20; the value is 65,536 times 1 for an open wire, 2 and 3
+// for the constants 0 and 1, 4 for a cell, 5 for a ring, plus the wire. The rest is work room.
 #[unsafe(no_mangle)]
 pub extern "C" fn ice40_follow(
     w: u32,
@@ -77,18 +76,14 @@ pub extern "C" fn ice40_follow(
     port: u32,
     wires: &mut [u16],
     sources: &mut [u16],
-    rows: &mut [u16],
     marks: &mut [u16],
-    queue: &mut [u16],
 ) -> u64
     ensures answer { result ≡ packed_followed (follow_answer (block w h east) table.now settings.now tile port
-        (follow_exact (block w h east) (follow_lent table.now settings.now (follow_room_lent wires.old
-        sources.old rows.old marks.old queue.old)))) }
+        (follow_exact (block w h east) (follow_lent table.now settings.now wires.old
+        sources.old marks.old))) }
     ensures wires { wires.new ≡ work_room (ground_in result) wires.old }
     ensures sources { sources.new ≡ work_room (ground_in result) sources.old }
-    ensures rows { rows.new ≡ work_room (ground_in result) rows.old }
     ensures marks { marks.new ≡ work_room (ground_in result) marks.old }
-    ensures queue { queue.new ≡ work_room (ground_in result) queue.old }
 {
     let a = block::follow(
         Block { w, h, east },
@@ -98,16 +93,14 @@ pub extern "C" fn ice40_follow(
         port,
         wires,
         sources,
-        rows,
         marks,
-        queue,
     );
     pack_followed(a)
 }
 
-// Every port's value under a state and lent values, without any tick. Grounds 1, 2, 3, 9, 12, 10. The output is values; the rest is work room.
+// One step. Grounds 1, 2, 3, 9, 12, 10. The outputs are values and next; the rest is work room.
 #[unsafe(no_mangle)]
-pub extern "C" fn ice40_settle(
+pub extern "C" fn ice40_step(
     w: u32,
     h: u32,
     east: u32,
@@ -115,59 +108,50 @@ pub extern "C" fn ice40_settle(
     settings: &[u16],
     list: &[u16],
     state: &[u8],
-    lent: &[u8],
+    before: &[u8],
+    after: &[u8],
     values: &mut [u8],
+    next: &mut [u8],
     wires: &mut [u16],
     own: &mut [u16],
     marks: &mut [u16],
+    first: &mut [u8],
+    second: &mut [u8],
 ) -> u64
-    ensures answer { result ≡ packed_answer (settle_answer (block w h east) table.now settings.now
-        list.now state.now lent.now
-        (settle_exact (block w h east) (settle_lent table.now settings.now list.now
-        state.now lent.now
-        (settle_room_lent values.old wires.old own.old marks.old)))) }
+    ensures answer { result ≡ packed_answer (step_answer (block w h east) table.now settings.now
+        list.now state.now before.now after.now
+        (step_exact (block w h east) (step_lent (inputs_lent table.now settings.now list.now
+        state.now before.now after.now)
+        (step_room_lent values.old next.old wires.old own.old marks.old
+        first.old second.old)))) }
     ensures values { values.new ≡ output (ground_in result) values.old
-        (port_values (block w h east) (settled_by (block w h east) list.now state.now lent.now)) }
+        (port_values (block w h east) (settled_by (block w h east) list.now state.now before.now)) }
+    ensures next { next.new ≡ output (ground_in result) next.old
+        (next_states (block w h east) settings.now (settled_by (block w h east) list.now state.now
+        before.now) (settled_by (block w h east) list.now state.now after.now)
+        state.now) }
     ensures wires { wires.new ≡ work_room (ground_in result) wires.old }
     ensures own { own.new ≡ work_room (ground_in result) own.old }
     ensures marks { marks.new ≡ work_room (ground_in result) marks.old }
+    ensures first { first.new ≡ work_room (ground_in result) first.old }
+    ensures second { second.new ≡ work_room (ground_in result) second.old }
 {
-    let a = sim::settle(
+    let a = sim::step(
         Block { w, h, east },
         table,
         settings,
         list,
         state,
-        lent,
+        before,
+        after,
         values,
+        next,
         wires,
         own,
         marks,
+        first,
+        second,
     );
-    pack::pack_answer(a)
-}
-
-// Every cell's next state, from the values settled before and after and the old state. Grounds 1, 2, 3, 9, 10. The output is next.
-#[unsafe(no_mangle)]
-pub extern "C" fn ice40_clock(
-    w: u32,
-    h: u32,
-    table: &[u16],
-    settings: &[u16],
-    state: &[u8],
-    before: &[u8],
-    after: &[u8],
-    next: &mut [u8],
-) -> u64
-    ensures answer { result ≡ packed_answer (clock_answer (size w h) table.now settings.now state.now
-        before.now after.now
-        (clock_exact (size w h) (clock_lent table.now settings.now state.now before.now
-        after.now (length next.old)))) }
-    ensures next { next.new ≡ output (ground_in result) next.old
-        (next_states (size w h) settings.now (handed before.now) (handed after.now)
-        state.now) }
-{
-    let a = sim::clock(Size { w, h }, table, settings, state, before, after, next);
     pack::pack_answer(a)
 }
 
@@ -202,5 +186,6 @@ fn driver_code(driver: Driver) -> u32
             196608 + wire as u32
         }
         Driver::Cell(wire) => 262144 + wire as u32,
+        Driver::Ring(wire) => 327680 + wire as u32,
     }
 }

@@ -16,7 +16,6 @@ use fabric::WireNumber;
 use ports::size::Block;
 
 pub mod blocks;
-pub mod cards;
 pub mod circuits;
 pub mod comparing;
 pub mod contentions;

@@ -19,11 +19,11 @@ use Rattle.equations.specs.Equations.{wire, NoLoop}
 use Rattle.equations.specs.Sources.{sources_of}
 use Rattle.equations.specs.Routed.{Routed}
 use Rattle.drivers.specs.declared.follow.Driver.{Driver}
-use Rattle.drivers.specs.declared.follow.Driver.TheVariants.{Open, Constant, Cell}
+use Rattle.drivers.specs.declared.follow.Driver.TheVariants.{Open, Constant, Cell, Ring}
 use Rattle.drivers.specs.Following.{DrivenBy, driver_of}
 use Rattle.drivers.specs.Clocks.{async_flop_on, ComesFromCell, FromCell, clock, reset, LowestFromCell, is_outside, any_cell, driven_outside, clocked_at, clocked_tile}
 use Rattle.lists.proofs.LowestLaws.{lowest_exact, lowest_none_exact}
-use Rattle.drivers.proofs.FollowingLaws.{driven_exact, driven_unique}
+use Rattle.drivers.proofs.FollowingLaws.{driven_exact, driven_unique, no_ring}
 use Rattle.lists.proofs.SomeLaws.{some_is, some_true}
 
 -- ---- tests
@@ -37,7 +37,7 @@ module _ (B : Block) (t st : List ℕ) (ok : Routed B t st) (free : NoContention
     driven : DrivenBy B t st (wire B T q) (driver_of B sources (wire B T q))
     driven =
         let l = port_of_lt B T q lT lq in
-        driven_exact B t st ok free straight (wire B T q) (wire_within B _ l) (wire_idempotent B _ l)
+        driven_exact B t st ok free (wire B T q) (wire_within B _ l) (wire_idempotent B _ l)
 
     inside_cell : not (driven_outside B st sources T q) ≡ true → ComesFromCell B t st (wire B T q)
     inside_cell e = go (driver_of B sources (wire B T q)) driven (not-true _ e)
@@ -46,6 +46,7 @@ module _ (B : Block) (t st : List ℕ) (ok : Routed B t st) (free : NoContention
         go (Open u) h o = clash refl o
         go (Constant u b) h o = clash refl o
         go (Cell u) h o = (u, h)
+        go (Ring u) h o = absurd (no_ring B t st ok free straight h u refl)
 
     cell_inside : ComesFromCell B t st (wire B T q) → not (driven_outside B st sources T q) ≡ true
     cell_inside h = ap (λ (d : Driver). not (is_outside d)) (driven_unique B t st ok free driven h.1)

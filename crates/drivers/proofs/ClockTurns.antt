@@ -1,4 +1,4 @@
--- What the clock check's code meets: the arm of `clock_ok` that goes on, and a search for a cell. Laws: `clock_yes`; `any_turn_hit`, `-skip`, `-end`.
+-- What the clock check's code meets: the arms of `clock_ok`, and a search for a cell. Laws: `clock_yes`, `clock_no`; `any_turn_hit`, `-skip`, `-end`.
 use Prim.Native.Nat.{ℕ, ◌+◌, ◌-◌, ◌≤◌, ◌<◌}
 use mathlib.Core.Path.{◌≡◌, refl, sym, ap}
 use mathlib.Core.Bool.{Bool, true, false, not, ◌&&◌, ◌||◌}
@@ -11,15 +11,22 @@ use Rattle.ports.specs.declared.size.Block.{Block}
 use Rattle.ports.specs.PortIndex.{clk, s_r}
 use Rattle.equations.specs.Tiles.{flop_on}
 use Rattle.drivers.specs.declared.follow.Driver.{Driver}
-use Rattle.drivers.specs.declared.follow.Driver.TheVariants.{Open, Constant, Cell}
+use Rattle.drivers.specs.declared.follow.Driver.TheVariants.{Open, Constant, Cell, Ring}
 use Rattle.drivers.specs.Clocks.{async_flop_on, is_outside, any_cell, driven_outside, clocked_at}
 use Rattle.drivers.specs.contracts.follow.Driver.{the_type}
 
--- the arm of the let-else knows only which variants it may be
+-- an arm of the let-else knows only which variants it may be
 pub clock_yes : (d : Driver) → OneOf (0 ∷ 1 ∷ []) (tag_of the_type d) → true ≡ is_outside d
 clock_yes (Open u) h = refl
 clock_yes (Constant u b) h = refl
 clock_yes (Cell u) h = absurd (miss (0 ∷ 1 ∷ []) 2 tt h)
+clock_yes (Ring u) h = absurd (miss (0 ∷ 1 ∷ []) 3 tt h)
+
+pub clock_no : (d : Driver) → OneOf (2 ∷ 3 ∷ []) (tag_of the_type d) → false ≡ is_outside d
+clock_no (Open u) h = absurd (miss (2 ∷ 3 ∷ []) 0 tt h)
+clock_no (Constant u b) h = absurd (miss (2 ∷ 3 ∷ []) 1 tt h)
+clock_no (Cell u) h = refl
+clock_no (Ring u) h = refl
 
 -- ---- a search for a cell
 

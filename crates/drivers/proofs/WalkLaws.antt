@@ -1,4 +1,4 @@
--- A walk from source to source over a map of sources. It is a line (`gets_linear`), so it meets one end (`end_unique`).
+-- A walk from source to source over a map of sources. It is a line (`gets_linear`), so it meets one end or one ring (`ring_or_end`).
 use Prim.Native.Nat.{ℕ, suc}
 use mathlib.Core.Path.{◌≡◌, refl, sym, ◌∙◌, ap, subst}
 use mathlib.Core.Logic.{◌⊎◌, inl, inr, ⊎_elim, ◌≢◌}
@@ -60,6 +60,30 @@ module _ (s : List ℕ) where
           ⊎_elim
           (λ h. ⊎_elim (λ k. inl k) (λ q. inr (inr (step (ap (λ (k : ℕ). get_or s k 0) (sym q) ∙ e)))) (step_gets e h))
           (λ h. inr (inr (gets_on h e))) (goes_linear g gb)
+
+  -- ---- rings
+
+  -- from everywhere on a ring the way leads back
+  back_one : {u x d : ℕ} → Goes u u → Goes x u → get_or s x 0 ≡ suc d → Goes d u
+  back_one {u} {x} ring g e =
+      let f = first_step g in
+      let h = subst (λ (y : ℕ). Gets y u) (source_one x f.1 e) f.2 in
+      gets_goes h ring
+
+  pub ring_back : {u x : ℕ} → Goes u u → Gets u x → Goes x u
+  ring_back {u} ring (inl e) = subst (λ (y : ℕ). Goes y u) e ring
+  ring_back ring (inr (step e)) = back_one ring ring e
+  ring_back ring (inr (further g e)) = back_one ring (ring_back ring (inr g)) e
+
+  pub ring_goes_on : {u x : ℕ} → Goes u u → Gets u x → get_or s x 0 ≢ 0
+  ring_goes_on ring g z = let f = first_step (ring_back ring g) in let a : suc f.0 ≡ 0 = sym f.1 ∙ z in absurd (omega arith)
+
+  -- what gets to a ring and to an end
+  pub ring_or_end : {w u x : ℕ} → Gets w u → Goes u u → Gets w x → get_or s x 0 ≢ 0
+  ring_or_end {u = u} gu ring gx z =
+      ⊎_elim (λ h. ring_goes_on ring h z)
+      (λ h. ⊎_elim (λ (e : _ ≡ u). ring_goes_on ring (inl (sym e)) z)
+      (λ g. let f = first_step g in let a : suc f.0 ≡ 0 = sym f.1 ∙ z in absurd (omega arith)) h) (gets_linear gu gx)
 
   -- two ends of one walk are one
   pub end_unique : {w a b : ℕ} → Gets w a → get_or s a 0 ≡ 0 → Gets w b → get_or s b 0 ≡ 0 → a ≡ b

@@ -10,7 +10,7 @@ use Rattle.fabric.specs.Wire.{wire_of}
 use Rattle.equations.specs.Tiles.{flags_at, flop_on}
 use Rattle.equations.specs.Equations.{wire}
 use Rattle.drivers.specs.declared.follow.Driver.{Driver}
-use Rattle.drivers.specs.declared.follow.Driver.TheVariants.{Open, Constant, Cell}
+use Rattle.drivers.specs.declared.follow.Driver.TheVariants.{Open, Constant, Cell, Ring}
 use Rattle.drivers.specs.Following.{DrivenBy, driver_of}
 
 -- "19 makes that asynchronous": flag 8; without bit 9 it is no flip-flop
@@ -40,6 +40,7 @@ abbrev pub is_outside : Driver → Bool
 is_outside (Open u) = true
 is_outside (Constant u b) = true
 is_outside (Cell u) = false
+is_outside (Ring u) = false
 
 abbrev pub any_cell : (ℕ → Bool) → Bool
 any_cell p = some_below p cells_per_tile

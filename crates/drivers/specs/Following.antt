@@ -1,17 +1,22 @@
 -- Following a driver (document 01, 'Cells'): from a wire to the source of the switch that ends on it, as long as there is one.
 --   DrivenBy == where following ends, over the switches and the equations' own words
 --   driver_of == the same, computed over the map of sources; proofs/FollowingLaws.antt shows that they agree
-use Rattle.std.specs.Prelude.{ℕ, zero, suc, ◌-◌, ◌≤◌, ◌<◌, ◌≡◌, ◌⊎◌, cond, List, eqb, length, get_or}
+use Rattle.std.specs.Prelude.{ℕ, zero, suc, ◌-◌, ◌≤◌, ◌<◌, ◌≡◌, ◌⊎◌, cond, List, eqb, length, get_or, set}
+use Rattle.lists.specs.Search.{first}
+use Rattle.lists.specs.Tables.{zeros}
 use Rattle.ports.specs.declared.size.Block.{Block}
 use Rattle.ports.specs.Block.{tiles}
 use Rattle.ports.specs.PortIndex.{out_port, lout_port, cout_port, carry_in_mux, cen}
+use Rattle.netlist.specs.Marks.{listed}
 use Rattle.equations.specs.declared.drives.Drive.{Drive}
 use Rattle.equations.specs.declared.drives.Drive.TheVariants.{Nothing, Low, High, CellOut, CellLout, CellCout, CarryMux}
 use Rattle.equations.specs.Switches.{Ends, NoSwitch, origin}
 use Rattle.equations.specs.Equations.{wire, ZeroPort, OpenPort, Undriven}
 use Rattle.equations.specs.Drives.{drive_of}
 use Rattle.drivers.specs.declared.follow.Driver.{Driver}
-use Rattle.drivers.specs.declared.follow.Driver.TheVariants.{Open, Constant, Cell}
+use Rattle.drivers.specs.declared.follow.Driver.TheVariants.{Open, Constant, Cell, Ring}
+use Rattle.drivers.specs.declared.follow.Trace.{Trace}
+use Rattle.drivers.specs.declared.follow.Trace.TheVariants.{End, Again}
 
 module _ (B : Block) (t st : List ℕ) where
   -- one or more switches lead from wire w back to wire u
@@ -34,10 +39,10 @@ module _ (B : Block) (t st : List ℕ) where
     cout_wire : (T i : ℕ) → T < tiles B → i < 8 → wire B T (cout_port i) ≡ u → StandsAt u (Cell u)
     mux_wire : (T : ℕ) → T < tiles B → wire B T carry_in_mux ≡ u → StandsAt u (Cell u)
 
-  -- following from wire w ends at a wire on which no switch ends. "or reports a ring" is gone (document 02, W12): by then no wire depends on itself, so
-  -- that no switches lead from a wire back to itself (`no_ring`, proofs/FollowingLaws.antt)
+  -- "or reports a ring", "a ring's lowest"
   pub data DrivenBy (w : ℕ) : Driver → Type 0 where
     at_end_lem : (u : ℕ) (d : Driver) → Comes w u → NoSwitch B t st u → StandsAt u d → DrivenBy w d
+    in_ring : (u : ℕ) → Comes w u → Leads u u → ((v : ℕ) → Leads u v → u ≤ v) → DrivenBy w (Ring u)
 
 -- ---- computed
 
@@ -55,11 +60,25 @@ end_driver u (CarryMux T) = Cell u
 abbrev pub Bounded : List ℕ → Type 0
 Bounded sources = (w : ℕ) → get_or sources w 0 ≤ length sources
 
--- where a walk from source to source stands after k steps; it stays at a wire that has no source
-unfoldable pub walked_to : List ℕ → ℕ → ℕ → ℕ
-walked_to sources zero u = u
-walked_to sources (suc k) u = cond (eqb (get_or sources u 0) 0) u (walked_to sources k (get_or sources u 0 - 1))
+-- a walk from source to source, which marks where it was: it ends at a wire with no source, or comes again to a wire that it has marked
+unfoldable pub traced : List ℕ → ℕ → List ℕ → ℕ → Trace
+traced sources zero marks u = Again u
+traced sources (suc k) marks u =
+    cond (eqb (get_or sources u 0) 0) (End u) (cond (listed marks u) (Again u) (traced sources k (set marks u 1) (get_or sources u 0 - 1)))
 
--- as many steps as there are wires: enough where none depends on itself (`Walk-Ends`, proofs/Walking.antt)
+-- the marks that it leaves
+unfoldable pub traced_marks : List ℕ → ℕ → List ℕ → ℕ → List ℕ
+traced_marks sources zero marks u = marks
+traced_marks sources (suc k) marks u =
+    cond (eqb (get_or sources u 0) 0) marks (cond (listed marks u) marks (traced_marks sources k (set marks u 1) (get_or sources u 0 - 1)))
+
+-- the lowest wire of the ring that u is on: the lowest mark of a walk from it
+abbrev pub ring_lowest : List ℕ → ℕ → ℕ
+ring_lowest sources u = first (listed (traced_marks sources (suc (length sources)) (zeros (length sources)) u)) 0 (length sources)
+
+abbrev pub trace_driver : Block → List ℕ → Trace → Driver
+trace_driver B sources (End u) = end_driver u (drive_of B u)
+trace_driver B sources (Again u) = Ring (ring_lowest sources u)
+
 unfoldable pub driver_of : Block → List ℕ → ℕ → Driver
-driver_of B sources w = end_driver (walked_to sources (length sources) w) (drive_of B (walked_to sources (length sources) w))
+driver_of B sources w = trace_driver B sources (traced sources (suc (length sources)) (zeros (length sources)) w)

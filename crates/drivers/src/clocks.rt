@@ -1,5 +1,6 @@
 // The clock check (document 01, ground 8): no clk of a tile with a flip-flop, and no s_r of one with an asynchronous flip-flop, comes from a cell.
 ghost use Rattle.std.specs.Prelude.{◌≡◌, not, ◌&&◌, ◌<◌, length};
+ghost use Rattle.lists.specs.Tables.{zeros};
 ghost use Rattle.ports.specs.Block.{tiles};
 ghost use Rattle.ports.specs.Lengths.{ports, ports_per_tile};
 ghost use Rattle.equations.specs.Tiles.{TileInside, flop_on};
@@ -7,14 +8,14 @@ ghost use Rattle.equations.specs.Routed.{Mapped};
 ghost use Rattle.drivers.specs.Following.{Bounded};
 ghost use Rattle.drivers.specs.Clocks.{async_flop_on, is_outside, any_cell, driven_outside, clocked_at, clocked_tile};
 
-use crate::follow::{Driver, driver_of};
+use crate::follow::{Driver, clear_driver};
 use equations::tiles::{cell_at, tile_wire};
 use netlist::row::wide;
 use ports::lengths::CELLS_PER_TILE;
 use ports::size::Block;
 
 // Whether a driver is no cell. It goes on only for an open wire or a constant.
-// Rules out: a carry_in_mux that passes.
+// Rules out: a ring or a carry_in_mux that passes.
 pub fn clock_ok(d: Driver) -> bool
     ensures { result ≡ is_outside d }
 {
@@ -65,42 +66,61 @@ fn is_from_cell(
     tile: usize,
     q: u32,
     asked: bool,
+    marks: &mut [u16],
 ) -> bool
     requires { Mapped b st.now wires.now × (length sources.now ≡ ports b) × Bounded sources.now × (tile < tiles b) ×
-        (q < ports_per_tile) }
-    ensures { result ≡ asked && not (driven_outside b st.now sources.now tile q) }
+        (q < ports_per_tile) × (marks.old ≡ zeros (ports b)) }
+    ensures answer { result ≡ asked && not (driven_outside b st.now sources.now tile q) }
+    ensures marks { marks.new ≡ zeros (ports b) }
 {
     if !asked {
         return false;
     }
     let wire = wide(tile_wire(b, wires, tile, q));
-    let d = driver_of(b, sources, wire);
+    let d = clear_driver(b, sources, wire, marks);
     !clock_ok(d)
 }
 
 // Whether the clock or the reset of a tile comes from a cell.
-fn is_clocked(b: Block, st: &[u16], wires: &[u16], sources: &[u16], tile: usize) -> bool
-    requires { Mapped b st.now wires.now × (length sources.now ≡ ports b) × Bounded sources.now × (tile < tiles b) }
-    ensures { result ≡ clocked_at b st.now sources.now tile }
+fn is_clocked(
+    b: Block,
+    st: &[u16],
+    wires: &[u16],
+    sources: &[u16],
+    tile: usize,
+    marks: &mut [u16],
+) -> bool
+    requires { Mapped b st.now wires.now × (length sources.now ≡ ports b) × Bounded sources.now × (tile < tiles b) ×
+        (marks.old ≡ zeros (ports b)) }
+    ensures answer { result ≡ clocked_at b st.now sources.now tile }
+    ensures marks { marks.new ≡ zeros (ports b) }
 {
     let flop = has_flop(st, tile);
-    if is_from_cell(b, st, wires, sources, tile, ports::CLK, flop) {
+    if is_from_cell(b, st, wires, sources, tile, ports::CLK, flop, marks) {
         return true;
     }
     let async_flop = has_async_flop(st, tile);
-    is_from_cell(b, st, wires, sources, tile, ports::S_R, async_flop)
+    is_from_cell(b, st, wires, sources, tile, ports::S_R, async_flop, marks)
 }
 
-// The lowest tile whose clock or reset comes from a cell, or the number of tiles. It says so where no wire depends on itself (`clocked_exact`).
+// The lowest tile whose clock or reset comes from a cell, or the number of tiles. `marks` is work room, and is left clear.
 // Rules out: asking for a clock where no cell has a flip-flop; bit 19 without bit 9 taken as a flip-flop.
-pub fn clocked_tile(b: Block, st: &[u16], wires: &[u16], sources: &[u16]) -> usize
-    requires { Mapped b st.now wires.now × (length sources.now ≡ ports b) × Bounded sources.now }
-    ensures { result ≡ clocked_tile b st.now sources.now }
+pub fn clocked_tile(
+    b: Block,
+    st: &[u16],
+    wires: &[u16],
+    sources: &[u16],
+    marks: &mut [u16],
+) -> usize
+    requires { Mapped b st.now wires.now × (length sources.now ≡ ports b) × Bounded sources.now × (length marks.old ≡ ports b) }
+    ensures answer { result ≡ clocked_tile b st.now sources.now }
+    ensures marks { marks.new ≡ zeros (ports b) }
 {
     let tiles = (b.h * b.w) as usize;
+    lists::clear(marks);
     let mut tile = 0;
     while tile < tiles {
-        if is_clocked(b, st, wires, sources, tile) {
+        if is_clocked(b, st, wires, sources, tile, marks) {
             return tile;
         }
         tile += 1;

@@ -1,42 +1,81 @@
 // Following a driver (document 01, 'Cells'): from a wire to the source of the switch that ends on it, as long as there is one.
-//
-// Where no wire depends on itself (ground 7), no switches lead back to where they started, so that following comes to an end (`no_ring`, `Walk-Ends`). The
-// walk goes as many steps as there are ports, which is enough then (document 02, W12).
-ghost use Rattle.std.specs.Prelude.{◌≡◌, ◌<◌, length};
+ghost use Rattle.std.specs.Prelude.{◌≡◌, suc, ◌<◌, ◌≤◌, length, get_or};
+ghost use Rattle.lists.specs.Search.{first};
+ghost use Rattle.lists.specs.Tables.{zeros};
 ghost use Rattle.ports.specs.Block.{Sized};
 ghost use Rattle.ports.specs.Lengths.{ports};
-ghost use Rattle.drivers.specs.Following.{Bounded, end_driver, walked_to, driver_of};
+ghost use Rattle.netlist.specs.Marks.{listed};
+ghost use Rattle.drivers.specs.declared.follow.Trace.TheVariants.{End};
+ghost use Rattle.drivers.specs.Following.{Bounded, end_driver, traced, traced_marks, ring_lowest, driver_of};
 
 use equations::drives::{Drive, drive_of};
 use netlist::row::wide;
 use ports::size::Block;
 
-// Where following a driver ends: an open wire; a constant, 0 or 1; or a cell.
+// How many steps a walk goes without marks.
+const SHORT: usize = 64;
+
+// Where following a driver ends: an open wire; a constant, 0 or 1; a cell; or the lowest wire of a ring.
 #[derive(Clone, Copy)]
 pub enum Driver {
     Open(u16),
     Constant(u16, u8),
     Cell(u16),
+    Ring(u16),
 }
 
-// Where a walk from source to source ends, or stands after as many steps as there are ports.
-fn walk(sources: &[u16], start: usize) -> usize
-    requires { (start < length sources.now) × Bounded sources.now }
-    ensures answer { result ≡ walked_to sources.now (length sources.now) start }
-    ensures within { result < length sources.now }
+// A walk from source to source: it ends at a wire with none, or comes again to a wire where it was.
+#[derive(Clone, Copy)]
+pub enum Trace {
+    End(u16),
+    Again(u16),
+}
+
+// The walk from a wire. It leaves the wires where it was marked.
+fn walk(sources: &[u16], start: usize, marks: &mut [u16]) -> Trace
+    requires { (start < length sources.now) × (length sources.now ≤ 65536) × Bounded sources.now ×
+        (length marks.old ≡ length sources.now) }
+    ensures answer { result ≡ traced sources.now (suc (length sources.now)) (zeros (length sources.now)) start }
+    ensures marks { marks.new ≡ traced_marks sources.now (suc (length sources.now))
+        (zeros (length sources.now)) start }
 {
-    let n = sources.len();
+    lists::clear(marks);
     let mut u = start;
-    let mut k = 0;
-    while k < n {
+    loop {
         let s = wide(sources[u]);
         if s == 0 {
-            return u;
+            return Trace::End(u as u16);
         }
+        if marks[u] != 0 {
+            return Trace::Again(u as u16);
+        }
+        marks[u] = 1;
         u = s - 1;
-        k += 1;
     }
-    u
+}
+
+// The lowest number that is marked, or how many there are.
+fn lowest_marked(marks: &[u16]) -> usize
+    ensures { result ≡ first (listed marks.now) 0 (length marks.now) }
+{
+    let mut v = 0;
+    while v < marks.len() {
+        if marks[v] != 0 {
+            return v;
+        }
+        v += 1;
+    }
+    v
+}
+
+// The lowest wire of the ring that a wire is on.
+// Rules out: a wire on the way into the ring.
+fn ring_lowest(sources: &[u16], u: usize, marks: &mut [u16]) -> usize
+    requires { (u < length sources.now) × (length sources.now ≤ 65536) × Bounded sources.now × (length marks.old ≡ length sources.now) }
+    ensures answer { result ≡ ring_lowest sources.now u }
+{
+    walk(sources, u, marks);
+    lowest_marked(marks)
 }
 
 // What stands at wire u, on which no switch ends.
@@ -54,12 +93,60 @@ fn end_driver(u: u16, d: Drive) -> Driver
     }
 }
 
-// Where following a wire ends. `sources` has one more than the wire that a wire's switch comes from, 0 where it has none.
-// Rules out: stopping at the first switch; going on through carry_in_mux.
-pub fn driver_of(b: Block, sources: &[u16], wire: usize) -> Driver
-    requires { Sized b × (length sources.now ≡ ports b) × Bounded sources.now × (wire < ports b) }
+// Where a walk stands after at most `SHORT` steps. If that wire has no source, the walk ends there.
+fn short_walk(sources: &[u16], start: usize) -> usize
+    requires { (start < length sources.now) × Bounded sources.now }
+    ensures within { result < length sources.now }
+    ensures end { get_or sources.now result 0 ≡ 0 → traced sources.now (suc (length sources.now))
+        (zeros (length sources.now)) start ≡ End result }
+{
+    let mut u = start;
+    let mut k = 0;
+    while k < SHORT {
+        let s = wide(sources[u]);
+        if s == 0 {
+            return u;
+        }
+        u = s - 1;
+        k += 1;
+    }
+    u
+}
+
+// Where following a wire ends, by a walk that marks where it was.
+fn marked_driver(b: Block, sources: &[u16], wire: usize, marks: &mut [u16]) -> Driver
+    requires { Sized b × (length sources.now ≡ ports b) × Bounded sources.now × (wire < ports b) × (length marks.old ≡ ports b) }
     ensures { result ≡ driver_of b sources.now wire }
 {
-    let u = walk(sources, wire);
-    end_driver(u as u16, drive_of(b, u as u32))
+    match walk(sources, wire, marks) {
+        Trace::End(u) => end_driver(u, drive_of(b, u as u32)),
+        Trace::Again(u) => Driver::Ring(ring_lowest(sources, wide(u), marks) as u16),
+    }
+}
+
+// Where following a wire ends, with marks that are clear and stay so.
+// Rules out: going on through carry_in_mux; the wire where a ring was met, which need not be its lowest.
+pub fn clear_driver(b: Block, sources: &[u16], wire: usize, marks: &mut [u16]) -> Driver
+    requires { Sized b × (length sources.now ≡ ports b) × Bounded sources.now × (wire < ports b) × (marks.old ≡ zeros (ports b)) }
+    ensures answer { result ≡ driver_of b sources.now wire }
+    ensures marks { marks.new ≡ zeros (ports b) }
+{
+    let u = short_walk(sources, wire);
+    if sources[u] == 0 {
+        return end_driver(u as u16, drive_of(b, u as u32));
+    }
+    let d = marked_driver(b, sources, wire, marks);
+    lists::clear(marks);
+    d
+}
+
+// Where following a wire ends. `sources` has one more than the wire that a wire's switch comes from, 0 where it has none. `marks` is work room,
+// and is left clear.
+pub fn driver_of(b: Block, sources: &[u16], wire: usize, marks: &mut [u16]) -> Driver
+    requires { Sized b × (length sources.now ≡ ports b) × Bounded sources.now × (wire < ports b) × (length marks.old ≡ ports b) }
+    ensures answer { result ≡ driver_of b sources.now wire }
+    ensures marks { marks.new ≡ zeros (ports b) }
+{
+    lists::clear(marks);
+    clear_driver(b, sources, wire, marks)
 }

@@ -1,6 +1,4 @@
--- Settling and clocking a block. What they give stands in `stepper`.
-pub mod Checks  -- computed: settle_says, clock_says. Grounds 3 and 9, and ground 10, which both calls make
-pub mod Settling  -- computed: settle_says. settle_answer: grounds 1, 2, 3, 9, 12, 10 in their order
-pub mod Clocking  -- computed: clock_says. clock_answer: grounds 1, 2, 3, 9, 10 in their order
-pub mod Lengths  -- believed; the tests are computed: settle_long_exact, clock_long_exact. What is lent to both calls, and how long it must be
-pub mod Meaning  -- believed. SettleSays, ClockSays: what each answer says
+-- A step of a block. What it gives stands in `stepper`.
+pub mod Stepping  -- computed: step_says. step_answer: grounds 1, 2, 3, 9, 12, 10 in their order
+pub mod Lengths  -- believed; the tests are computed: step_long_exact. What is lent to `step`, and how long it must be
+pub mod Meaning  -- believed. StepSays: what each answer says

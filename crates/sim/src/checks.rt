@@ -1,12 +1,12 @@
-// The checks of settling and clocking that look at contents: grounds 3, 9, 12, 10. They are not given the outputs, so they cannot write them.
-ghost use Rattle.std.specs.Prelude.{◌≡◌, ℕ, ◌*◌, ◌<◌, ◌≤◌, cond, eqb, ◌++◌, length, get_or};
+// The checks of a step that look at contents: grounds 3, 9, 12, 10. They are not given the outputs, so they cannot write them.
+ghost use Rattle.std.specs.Prelude.{◌≡◌, ℕ, ◌<◌, ◌≤◌, cond, eqb, ◌++◌, length, get_or};
 ghost use Rattle.refusal.specs.declared.Answer.TheVariants.{Done};
 ghost use Rattle.ports.specs.Block.{size_of, Sized};
-ghost use Rattle.ports.specs.Lengths.{ports, table_length, settings_length, state_length, list_length};
+ghost use Rattle.ports.specs.Lengths.{ports, state_length, list_length};
 ghost use Rattle.fabric.specs.Wire.{wires_of};
 ghost use Rattle.stepper.specs.Settling.{wire_marks};
-ghost use Rattle.sim.specs.Checks.{bad_byte, settings_answer, bytes_answer};
-ghost use Rattle.sim.specs.Settling.{run_answer};
+ghost use Rattle.sim.specs.Stepping.{bad_byte, inputs_answer, run_answer};
+ghost use Rattle.sim.specs.Lengths.{inputs_lent, InputsLong};
 
 use config::blocks::bitless_tile;
 use netlist::check::{count_wires, first_bad_row};
@@ -48,47 +48,21 @@ fn first_above_one(bytes: &[u8]) -> usize
     i
 }
 
-// The same of two slices joined.
-// Rules out: an index that starts again at the second.
-fn bad_byte(first: &[u8], second: &[u8]) -> usize
-    requires { (length first.now ≤ 65536) × (length second.now ≤ 65536) }
-    ensures { result ≡ bad_byte (first.now ++ second.now) }
+// The same of state, before and after joined.
+// Rules out: an index that starts again at each of the three.
+fn bad_byte(b: Block, state: &[u8], before: &[u8], after: &[u8]) -> usize
+    requires { Sized b × (length state.now ≡ state_length (size_of b)) × (length before.now ≡ ports b) × (length after.now ≡ ports b) }
+    ensures { result ≡ bad_byte (state.now ++ before.now ++ after.now) }
 {
-    let i = first_above_one(first);
-    if i < first.len() {
+    let i = first_above_one(state);
+    if i < state.len() {
         return i;
     }
-    first.len() + first_above_one(second)
-}
-
-// Ground 10 of a state and lent values.
-pub fn check_lent(state: &[u8], lent: &[u8]) -> Answer
-    requires { (length state.now ≤ 65536) × (length lent.now ≤ 65536) }
-    ensures { result ≡ bytes_answer (state.now ++ lent.now) }
-{
-    let i = bad_byte(state, lent);
-    if i < state.len() + lent.len() {
-        return Answer::Refused(Refusal::NotABit(i as u32));
+    let j = first_above_one(before);
+    if j < before.len() {
+        return state.len() + j;
     }
-    Answer::Done
-}
-
-// Ground 10 of a state and two sets of values.
-// Rules out: settled values that are not looked at; those after counted from 0.
-pub fn check_settled(state: &[u8], before: &[u8], after: &[u8]) -> Answer
-    requires { (length state.now ≤ 65536) × (length before.now ≤ 65536) × (length after.now ≤ 65536) }
-    ensures { result ≡ bytes_answer (state.now ++ before.now ++ after.now) }
-{
-    let n = state.len() + before.len();
-    let i = bad_byte(state, before);
-    if i < n {
-        return Answer::Refused(Refusal::NotABit(i as u32));
-    }
-    let j = first_above_one(after);
-    if j < after.len() {
-        return Answer::Refused(Refusal::NotABit((n + j) as u32));
-    }
-    Answer::Done
+    state.len() + before.len() + first_above_one(after)
 }
 
 // Marks the ports that are their own wires.
@@ -111,20 +85,21 @@ fn mark(w: u16, p: u16) -> u16
     if w == p { 1 } else { 0 }
 }
 
-// Grounds 12 and 10. `wires` then has the wire of each port, and `own` marks those that are their own.
+// Grounds 12 and 10. On a yes `wires` has the wire of each port, and `own` marks those that are their own.
 pub fn check_run(
     b: Block,
     list: &[u16],
     state: &[u8],
-    lent: &[u8],
+    before: &[u8],
+    after: &[u8],
     wires: &mut [u16],
     own: &mut [u16],
     marks: &mut [u16],
 ) -> Answer
     requires { Sized b × (length list.now ≡ list_length b) × (length state.now ≡ state_length (size_of b)) ×
-        (length lent.now ≡ ports b) × (length wires.old ≡ ports b) × (length own.old ≡ ports b) ×
-        (length marks.old ≡ ports b) }
-    ensures answer { result ≡ run_answer b list.now state.now lent.now }
+        (length before.now ≡ ports b) × (length after.now ≡ ports b) × (length wires.old ≡ ports b) ×
+        (length own.old ≡ ports b) × (length marks.old ≡ ports b) }
+    ensures answer { result ≡ run_answer b list.now state.now before.now after.now }
     ensures wires { wires.new ≡ wires_of b }
     ensures own { own.new ≡ wire_marks b }
 {
@@ -136,22 +111,43 @@ pub fn check_run(
     if row < n {
         return Answer::Refused(Refusal::Row(row as u32));
     }
-    check_lent(state, lent)
+    let i = bad_byte(b, state, before, after);
+    if i < state.len() + before.len() + after.len() {
+        return Answer::Refused(Refusal::NotABit(i as u32));
+    }
+    Answer::Done
 }
 
-// Grounds 3 and 9 of n tiles.
-pub fn check_settings(table: &[u16], settings: &[u16], n: usize) -> Answer
-    requires { (n ≤ 64) × (length table.now ≡ table_length) × (length settings.now ≡ settings_length * n) }
-    ensures { result ≡ settings_answer table.now settings.now n Done }
+// Grounds 3, 9, 12 and 10, in this order (`inputs_answer`). On a yes `wires` has the wire of each port, and `own` marks those that are
+// their own wires.
+pub fn check_inputs(
+    b: Block,
+    table: &[u16],
+    settings: &[u16],
+    list: &[u16],
+    state: &[u8],
+    before: &[u8],
+    after: &[u8],
+    wires: &mut [u16],
+    own: &mut [u16],
+    marks: &mut [u16],
+) -> Answer
+    requires sized { Sized b × InputsLong b (inputs_lent table.now settings.now list.now state.now before.now after.now) }
+    requires wires_len { (length wires.old ≡ ports b) × (length own.old ≡ ports b) × (length marks.old ≡ ports b) }
+    ensures answer { result ≡ inputs_answer b table.now settings.now list.now
+        state.now before.now after.now }
+    ensures wires { result ≡ Done → wires.new ≡ wires_of b }
+    ensures own { result ≡ Done → own.new ≡ wire_marks b }
 {
     let part = faulty_part(table);
     let parts = 2 + group_count(table);
     if part != parts {
         return Answer::Refused(Refusal::Table(part as u32));
     }
+    let n = (b.h * b.w) as usize;
     let tile = bitless_tile(table, settings, n);
     if tile < n {
         return Answer::Refused(Refusal::NoSuchSettings(tile as u32));
     }
-    Answer::Done
+    check_run(b, list, state, before, after, wires, own, marks)
 }

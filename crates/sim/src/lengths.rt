@@ -1,112 +1,102 @@
-// Ground 2 of settling and of clocking: how long what is lent to them is, and whether that is exact.
+// Ground 2 of a step: how long what is lent to it is, and whether that is exact.
 ghost use Rattle.std.specs.Prelude.{◌≡◌};
-ghost use Rattle.ports.specs.Block.{Allowed, Sized};
-ghost use Rattle.sim.specs.Lengths.{settle_room_exact, settle_exact, clock_exact};
+ghost use Rattle.ports.specs.Block.{Sized};
+ghost use Rattle.sim.specs.Lengths.{inputs_exact, step_room_exact, step_exact};
 
 use ports::lengths::{TABLE_LENGTH, list_length, port_count, settings_total, state_length};
-use ports::size::{Block, Size, size_of};
+use ports::size::{Block, size_of};
 
-// The lengths of the output of `settle` and of its work room.
+// The lengths of what a step reads.
 #[derive(Clone, Copy)]
-pub struct SettleRoomLent {
-    pub values: usize,
-    pub wires: usize,
-    pub own: usize,
-    pub marks: usize,
-}
-
-// The lengths of all that is lent to `settle`.
-#[derive(Clone, Copy)]
-pub struct SettleLent {
+pub struct InputsLent {
     pub table: usize,
     pub settings: usize,
     pub list: usize,
     pub state: usize,
-    pub lent: usize,
-    pub room: SettleRoomLent,
-}
-
-// The lengths of all that is lent to `clock`.
-#[derive(Clone, Copy)]
-pub struct ClockLent {
-    pub table: usize,
-    pub settings: usize,
-    pub state: usize,
     pub before: usize,
     pub after: usize,
+}
+
+// The lengths of its outputs and of its work room.
+#[derive(Clone, Copy)]
+pub struct StepRoomLent {
+    pub values: usize,
     pub next: usize,
+    pub wires: usize,
+    pub own: usize,
+    pub marks: usize,
+    pub first: usize,
+    pub second: usize,
 }
 
-fn is_settle_room_exact(b: Block, room: SettleRoomLent) -> bool
-    requires { Sized b }
-    ensures { result ≡ settle_room_exact b room }
-{
-    let ports = port_count(b);
-    if room.values != ports {
-        return false;
-    }
-    if room.wires != ports {
-        return false;
-    }
-    if room.own != ports {
-        return false;
-    }
-    room.marks == ports
+#[derive(Clone, Copy)]
+pub struct StepLent {
+    pub inputs: InputsLent,
+    pub room: StepRoomLent,
 }
 
-// Rules out: the output or a part of the work room that is not looked at.
-pub fn is_settle_exact(b: Block, all: SettleLent) -> bool
+fn are_inputs_exact(b: Block, lent: InputsLent) -> bool
     requires { Sized b }
-    ensures { result ≡ settle_exact b all }
+    ensures { result ≡ inputs_exact b lent }
 {
     let settings = settings_total(size_of(b));
     let numbers = list_length(b);
     let cells = state_length(size_of(b));
     let ports = port_count(b);
-    if all.table != TABLE_LENGTH {
+    if lent.table != TABLE_LENGTH {
         return false;
     }
-    if all.settings != settings {
+    if lent.settings != settings {
         return false;
     }
-    if all.list != numbers {
+    if lent.list != numbers {
         return false;
     }
-    if all.state != cells {
+    if lent.state != cells {
         return false;
     }
-    if all.lent != ports {
+    if lent.before != ports {
         return false;
     }
-    let room = all.room;
-    is_settle_room_exact(b, room)
+    lent.after == ports
 }
 
-pub fn is_clock_exact(s: Size, all: ClockLent) -> bool
-    requires { Allowed s }
-    ensures { result ≡ clock_exact s all }
+fn is_step_room_exact(b: Block, lent: StepRoomLent) -> bool
+    requires { Sized b }
+    ensures { result ≡ step_room_exact b lent }
 {
-    let settings = settings_total(s);
-    let cells = state_length(s);
-    let ports = port_count(Block {
-        w: s.w,
-        h: s.h,
-        east: 0,
-    });
-    if all.table != TABLE_LENGTH {
+    let cells = state_length(size_of(b));
+    let ports = port_count(b);
+    if lent.values != ports {
         return false;
     }
-    if all.settings != settings {
+    if lent.next != cells {
         return false;
     }
-    if all.state != cells {
+    if lent.wires != ports {
         return false;
     }
-    if all.before != ports {
+    if lent.own != ports {
         return false;
     }
-    if all.after != ports {
+    if lent.marks != ports {
         return false;
     }
-    all.next == cells
+    if lent.first != ports {
+        return false;
+    }
+    lent.second == ports
+}
+
+// Rules out: an output or a part of the work room that is not looked at.
+pub fn is_step_exact(b: Block, lent: StepLent) -> bool
+    requires { Sized b }
+    ensures { result ≡ step_exact b lent }
+{
+    let inputs = lent.inputs;
+    let room = lent.room;
+    if !are_inputs_exact(b, inputs) {
+        return false;
+    }
+    is_step_room_exact(b, room)
 }

@@ -1,121 +1,102 @@
-// Settling a block and clocking its cells (document 01, 'The list and a step'; document 02, W11) as calls that take any input: the checks, then what
-// `stepper` writes, which assumes them. Settling twice, before and after, and clocking what that wrote is document 01's step.
+// A step of a block (document 01, 'The list and a step') as a call that takes any input: the checks, then what `stepper` writes, which assumes them.
 //
-// `settle` and `clock` take any input and none has a `requires`; specs/Settling.antt and specs/Clocking.antt have the grounds in their orders,
-// specs/Meaning.antt what each answer says. `settle` takes any list that ground 12 lets pass, the block's own or not, and `clock` any values of 0 and 1.
-// What both mean for a block's own list is the theorem of demand 3, above this crate.
+// `step` takes any input and has no `requires`; specs/Stepping.antt has the grounds in their order, specs/Meaning.antt what each answer
+// says. It takes any list that ground 12 lets pass, the block's own or not. What a step means for a block's own list is the theorem of demand 3, above this crate.
 #![tactic(auto)]
 
-ghost use Rattle.std.specs.Prelude.{◌≡◌, length};
+ghost use Rattle.std.specs.Prelude.{◌≡◌};
 ghost use Rattle.refusal.specs.Grounds.{answer_number};
 ghost use Rattle.refusal.specs.Memory.{output, work_room};
 ghost use Rattle.stepper.specs.Settling.{settled_by, port_values};
-ghost use Rattle.stepper.specs.Clocking.{handed, next_states};
-ghost use Rattle.sim.specs.Settling.{settle_answer};
-ghost use Rattle.sim.specs.Clocking.{clock_answer};
-ghost use Rattle.sim.specs.Lengths.{settle_room_lent, settle_lent, settle_exact, clock_lent, clock_exact};
-ghost use Rattle.sim.specs.Meaning.{SettleSays, ClockSays};
+ghost use Rattle.stepper.specs.Clocking.{next_states};
+ghost use Rattle.sim.specs.Stepping.{step_answer};
+ghost use Rattle.sim.specs.Lengths.{inputs_lent, step_room_lent, step_lent, step_exact};
+ghost use Rattle.sim.specs.Meaning.{StepSays};
 
-use crate::lengths::{ClockLent, SettleLent, SettleRoomLent, is_clock_exact, is_settle_exact};
-use ports::size::{Block, Size};
+use crate::lengths::{InputsLent, StepLent, StepRoomLent, is_step_exact};
+use ports::size::Block;
 use refusal::{Answer, Refusal};
 
+mod checked;
 mod checks;
-mod clocking;
 pub mod lengths;
-mod settling;
 
-// Settles every port's value under a state and lent values, without any tick. Grounds 1, 2, 3, 9, 12, 10, in this order (`settle_answer`). The output is
-// values; the work room is wires, own and marks.
-// Rules out: settling that repeats an earlier one; values of ports that are not their wires'; values written on a no; work room left as it was used.
-pub fn settle(
+// One step. Grounds 1, 2, 3, 9, 12, 10, in this order (`step_answer`). The outputs are values and next; the work room is wires, own,
+// marks and two sets of wire values.
+// Rules out: a stepper that repeats its first step; the after-run with the new state; values of ports that are not their wires';
+// outputs written on a no; work room left as it was used.
+pub fn step(
     b: Block,
     table: &[u16],
     settings: &[u16],
     list: &[u16],
     state: &[u8],
-    lent: &[u8],
+    before: &[u8],
+    after: &[u8],
     values: &mut [u8],
+    next: &mut [u8],
     wires: &mut [u16],
     own: &mut [u16],
     marks: &mut [u16],
+    first: &mut [u8],
+    second: &mut [u8],
 ) -> Answer
-    ensures answer { result ≡ settle_answer b table.now settings.now list.now state.now
-        lent.now (settle_exact b (settle_lent table.now settings.now list.now
-        state.now lent.now
-        (settle_room_lent values.old wires.old own.old marks.old))) }
+    ensures answer { result ≡ step_answer b table.now settings.now list.now state.now
+        before.now after.now
+        (step_exact b (step_lent (inputs_lent table.now settings.now list.now state.now
+        before.now after.now) (step_room_lent values.old next.old wires.old
+        own.old marks.old first.old second.old))) }
     ensures values { values.new ≡ output (answer_number result) values.old
-        (port_values b (settled_by b list.now state.now lent.now)) }
+        (port_values b (settled_by b list.now state.now before.now)) }
+    ensures next { next.new ≡ output (answer_number result) next.old
+        (next_states b settings.now (settled_by b list.now state.now before.now)
+        (settled_by b list.now state.now after.now) state.now) }
     ensures wires { wires.new ≡ work_room (answer_number result) wires.old }
     ensures own { own.new ≡ work_room (answer_number result) own.old }
     ensures marks { marks.new ≡ work_room (answer_number result) marks.old }
-    ensures says { SettleSays b table.now settings.now list.now state.now
-        lent.now (settle_lent table.now settings.now list.now state.now
-        lent.now (settle_room_lent values.old wires.old own.old marks.old)) result }
+    ensures first { first.new ≡ work_room (answer_number result) first.old }
+    ensures second { second.new ≡ work_room (answer_number result) second.old }
+    ensures says { StepSays b table.now settings.now list.now state.now
+        before.now after.now
+        (step_lent (inputs_lent table.now settings.now list.now state.now
+        before.now after.now) (step_room_lent values.old next.old wires.old
+        own.old marks.old first.old second.old)) result }
 {
     if !ports::size::is_sized(b) {
         return Answer::Refused(Refusal::WrongSize);
     }
-    let room = SettleRoomLent {
-        values: values.len(),
-        wires: wires.len(),
-        own: own.len(),
-        marks: marks.len(),
-    };
-    let all = SettleLent {
+    let inputs = InputsLent {
         table: table.len(),
         settings: settings.len(),
         list: list.len(),
         state: state.len(),
-        lent: lent.len(),
+        before: before.len(),
+        after: after.len(),
+    };
+    let room = StepRoomLent {
+        values: values.len(),
+        next: next.len(),
+        wires: wires.len(),
+        own: own.len(),
+        marks: marks.len(),
+        first: first.len(),
+        second: second.len(),
+    };
+    let lent = StepLent {
+        inputs: inputs,
         room: room,
     };
-    if !is_settle_exact(b, all) {
+    if !is_step_exact(b, lent) {
         return Answer::Refused(Refusal::WrongLength);
     }
-    let r = settling::settle_checked(
-        b, table, settings, list, state, lent, values, wires, own, marks,
+    let r = checked::step_checked(
+        b, table, settings, list, state, before, after, values, next, wires, own, marks, first,
+        second,
     );
     lists::clear(wires);
     lists::clear(own);
     lists::clear(marks);
+    lists::clear_bytes(first);
+    lists::clear_bytes(second);
     r
-}
-
-// Moves every cell's state, from the values settled before and after and the old state. Grounds 1, 2, 3, 9, 10, in this order (`clock_answer`). The
-// output is next; there is no work room. It reads each tile's own clk, cen, s_r and in ports, whatever it is handed there, and runs no list.
-// Rules out: a clock that goes by wires; settled values above 1; a new state written on a no.
-pub fn clock(
-    s: Size,
-    table: &[u16],
-    settings: &[u16],
-    state: &[u8],
-    before: &[u8],
-    after: &[u8],
-    next: &mut [u8],
-) -> Answer
-    ensures answer { result ≡ clock_answer s table.now settings.now state.now before.now
-        after.now (clock_exact s (clock_lent table.now settings.now state.now
-        before.now after.now (length next.old))) }
-    ensures next { next.new ≡ output (answer_number result) next.old
-        (next_states s settings.now (handed before.now) (handed after.now) state.now) }
-    ensures says { ClockSays s table.now settings.now state.now before.now
-        after.now (clock_lent table.now settings.now state.now before.now
-        after.now (length next.old)) result }
-{
-    if !ports::size::is_allowed(s) {
-        return Answer::Refused(Refusal::WrongSize);
-    }
-    let all = ClockLent {
-        table: table.len(),
-        settings: settings.len(),
-        state: state.len(),
-        before: before.len(),
-        after: after.len(),
-        next: next.len(),
-    };
-    if !is_clock_exact(s, all) {
-        return Answer::Refused(Refusal::WrongLength);
-    }
-    clocking::clock_checked(s, table, settings, state, before, after, next)
 }

@@ -21,7 +21,7 @@ use Rattle.netlist.specs.Running.{run_from, RowFits}
 use Rattle.netlist.specs.Checking.{first_bad_row, wire_count}
 use Rattle.netlist.proofs.PassedLaws.{passed_fits, passed_bits}
 use Rattle.netlist.proofs.Settling.{run_length}
-use Rattle.stepper.specs.Settling.{settled_by, PortBits, wire_mark, wire_marks, Runnable}
+use Rattle.stepper.specs.Settling.{settled_by, port_value, port_values, PortBits, wire_mark, wire_marks, Runnable}
 
 module _ (B : Block) where
   -- ---- the marks of the block's wires
@@ -52,6 +52,10 @@ module _ (B : Block) where
     pub wire_marks_is : tabulate (λ p. cond (eqb (get_or map p 0) p) 1 0) 0 (ports B) ≡ wire_marks B
     unfolding wire_marks own_wire
     wire_marks_is = tabulate_ext 0 _ (wire_mark B) (ports B) (λ p l. ap (λ (w : ℕ). cond (eqb w p) 1 0) (wires_at B map wired p l))
+
+    pub port_values_is : (x : List ℕ) → tabulate (λ p. get_or x (get_or map p 0) 0) 0 (ports B) ≡ port_values B x
+    unfolding port_values
+    port_values_is x = tabulate_ext 0 _ (port_value B x) (ports B) (λ p l. ap (λ (w : ℕ). get_or x w 0) (wires_at B map wired p l))
 
   -- ---- a list that passed
 

@@ -1,5 +1,5 @@
--- Settled values (document 01, 'The list and a step'; document 02, W11: "one call settles and writes the values"): a list run on a state and on lent
--- values, and each port's value; and what grounds 2, 12 and 10 show of a list, a state and lent values, so that the list can be run.
+-- Settled values (document 01, 'The list and a step'): "It runs the list on before and on after, both with the old state, writes each port's
+-- before value"; and what grounds 2, 12 and 10 show of a list, a state and lent values, so that the list can be run.
 use Rattle.std.specs.Prelude.{ℕ, ◌*◌, ◌<◌, ◌≡◌, cond, List, length, get_or}
 use Rattle.lists.specs.Tables.{tabulate, zeros}
 use Rattle.ports.specs.declared.size.Block.{Block}

@@ -1,4 +1,4 @@
-// Running a list on a state and lent values, and the value of each port. Both assume what the checks of settling have shown.
+// Running a list on a state and lent values, and the value of each port. Both assume what the checks of a step have shown.
 ghost use Rattle.std.specs.Prelude.{◌≡◌, length};
 ghost use Rattle.ports.specs.Lengths.{ports};
 ghost use Rattle.fabric.specs.Count.{wires};
@@ -19,19 +19,17 @@ pub fn settle(b: Block, list: &[u16], count: usize, state: &[u8], lent: &[u8], v
     run(list, count, state, lent, values);
 }
 
-// Gives each port its wire's value, in the room where the run has left the wires' values: a wire is the lowest of its ports, so its value stands
-// there still when the others take it.
-// Rules out: a port left out; a port that keeps the value at its own number, which only a wire's lowest port has.
-pub fn spread_values(b: Block, wires: &[u16], values: &mut [u8])
-    requires { (wires.now ≡ wires_of b) × (length values.old ≡ ports b) }
-    ensures { values.new ≡ port_values b values.old }
+// Writes each port's value, that of its wire.
+// Rules out: a port left out; the value at the port's own number, which only a wire's lowest port has.
+pub fn write_values(b: Block, wires: &[u16], x: &[u8], values: &mut [u8])
+    requires { (wires.now ≡ wires_of b) × (length x.now ≡ ports b) × (length values.old ≡ ports b) }
+    ensures { values.new ≡ port_values b x.now }
 {
     let n = values.len();
     let mut p = 0;
     while p < n {
         let w = wide(wires[p]);
-        let v = values[w];
-        values[p] = v;
+        values[p] = x[w];
         p += 1;
     }
 }

@@ -1,5 +1,5 @@
 -- A block whose table and settings passed their checks (`Routed`): refused as a loop exactly if some wire depends on itself; and where it is accepted, the
--- one choice of values, settling and a step. Main laws: `list_loop_exactly`, `only_choice`, `own_passes`, `settle_means`, `step_means`. Assumes nothing.
+-- one choice of values, and a step. Main laws: `list_loop_exactly`, `only_choice`, `own_passes`, `step_means`. Assumes nothing.
 use Prim.Native.Nat.{ℕ, ◌<◌}
 use mathlib.Core.Path.{◌≡◌, refl, sym, ap, subst, ◌∙◌}
 use mathlib.Core.Logic.{◌↔◌, ◌≢◌}
@@ -33,11 +33,9 @@ use Rattle.block.specs.declared.Built.TheVariants.{Listed, Refused}
 use Rattle.block.specs.Building.{list_answer}
 use Rattle.block.specs.Meaning.{NoDisabledCarry, Accepted, ListSays, ListNo, contention, disabled_carry, loop, cell_clock}
 use Rattle.block.proofs.MeaningLaws.{list_says}
-use Rattle.ports.specs.Block.{size_of}
 use Rattle.stepper.specs.Settling.{settled_by, port_value, bad_row}
-use Rattle.stepper.proofs.ClockingLaws.{clock_of_settled}
-use Rattle.theorem.specs.Calls.{values_settled, state_clocked}
-use Rattle.theorem.specs.Choice.{Breaks, OnlyChoice, SettleMeans, StepMeans}
+use Rattle.theorem.specs.Calls.{values_stepped, state_stepped}
+use Rattle.theorem.specs.Choice.{Breaks, OnlyChoice, StepMeans}
 use Rattle.theorem.specs.Listing.{Listing}
 use Rattle.theorem.proofs.OwnListLaws.{own_list_passes}
 use Rattle.theorem.proofs.ListingLaws.{listing}
@@ -78,7 +76,7 @@ module _ (B : Block) (t st : List ℕ) (ok : Routed B t st) where
     found : Settles B t st
     found = settles B t st ok told.1.no_contention told.1.no_loop
 
-    -- ground 12 does not refuse settling with the block's own list
+    -- ground 12 does not refuse a step with the block's own list
     pub own_passes : bad_row B (block_list B t st) ≡ ports B
     own_passes = own_list_passes B t st all
 
@@ -118,19 +116,14 @@ module _ (B : Block) (t st : List ℕ) (ok : Routed B t st) where
     pub own_listing : Listing B t st (block_list B t st) rows
     own_listing = listing B t st ok told.1.no_contention all rows told.0
 
-    -- the values that `settle` promises
-    pub settle_means : (state lent : List ℕ) → Inputs B state lent → SettleMeans B t st state lent (values_settled B (block_list B t st) state lent)
-    settle_means state lent h = record { v = settled_by B (block_list B t st) state lent; one = only_choice state lent h; written = refl }
-
-    -- the values that settling before promises, and the next state that clocking those before and after does
+    -- the values and the next state that `step` promises
     pub step_means : (state before after : List ℕ) → Inputs B state before → Inputs B state after
-        → StepMeans B t st state before after (values_settled B (block_list B t st) state before)
-        (state_clocked (size_of B) st state (values_settled B (block_list B t st) state before) (values_settled B (block_list B t st) state after))
+        → StepMeans B t st state before after (values_stepped B (block_list B t st) state before) (state_stepped B st (block_list B t st) state before after)
     step_means state before after hb ha = record {
       b = settled_by B (block_list B t st) state before;
       a = settled_by B (block_list B t st) state after;
       one_before = only_choice state before hb;
       one_after = only_choice state after ha;
       written = refl;
-      moved = clock_of_settled B st (settled_by B (block_list B t st) state before) (settled_by B (block_list B t st) state after) state;
+      moved = refl;
     }

@@ -1,5 +1,4 @@
--- The grounds of `build` and `follow` in their orders. Main laws: `build_order`, `follow_order`; `without_seven`; `bits_no`, `bits_yes`, grounds 3
--- to 8. Assumes nothing.
+-- The grounds of `build` and `follow` in their orders. Main laws: `build_order`, `follow_order`; `bits_no`, `bits_yes`, grounds 3 to 8. Assumes nothing.
 use Prim.Native.Nat.{ℕ}
 use mathlib.Core.Path.{refl}
 use mathlib.Core.Logic.{inl, inr, ⊎_elim}
@@ -10,29 +9,25 @@ use Rattle.refusal.specs.Grounds.{number_of, place_of}
 use Rattle.ports.specs.declared.size.Block.{Block}
 use Rattle.ports.specs.Block.{Sized}
 use Rattle.fabric.specs.Count.{wires}
-use Rattle.equations.specs.Switches.{NoContention, LowestContention}
-use Rattle.equations.specs.Equations.{NoLoop, LowestLooped}
 use Rattle.block.specs.declared.Built.{Built}
 use Rattle.block.specs.declared.Built.TheVariants.{Listed, Refused}
 use Rattle.block.specs.declared.Followed.{Followed}
 use Rattle.block.specs.declared.Followed.TheVariants as followeds
 use Rattle.block.specs.declared.lengths.RoomLent.{RoomLent}
 use Rattle.block.specs.declared.lengths.BuildLent.{BuildLent}
-use Rattle.block.specs.declared.lengths.FollowRoomLent.{FollowRoomLent}
-use Rattle.block.specs.declared.lengths.FollowLent.{FollowLent}
 use Rattle.block.specs.Lengths.{BuildLong, build_lent, follow_lent}
 use Rattle.block.specs.Building.{built_number, built_value}
 use Rattle.block.specs.Drivers.{followed_number, followed_value}
 use Rattle.block.specs.Meaning.{Accepted, ListNo, contention, disabled_carry, loop, cell_clock, Readable, BuildNo, BuildSays, wrong_size, wrong_length, broken, undecodable, unlisted}
-use Rattle.block.specs.DriverMeaning.{Followable, FollowNo, FollowSays}
+use Rattle.block.specs.DriverMeaning.{FollowNo, FollowSays}
 use Rattle.block.specs.DriverMeaning as following
 use Rattle.block.proofs.MeaningLaws.{build_says}
 use Rattle.block.proofs.DriverMeaningLaws.{follow_says}
 use Rattle.config.specs.Blocks.{tiles_of}
 use Rattle.contention.specs.Entry.{settings_read}
 use Rattle.theorem.specs.Calls.{built, followed}
-use Rattle.theorem.specs.Order.{Check, at}
-use Rattle.theorem.specs.BlockGrounds.{ListGrounds, BitsGrounds, BuildGrounds, RangeGrounds, FollowGrounds, FollowGrounds01}
+use Rattle.theorem.specs.Order.{at}
+use Rattle.theorem.specs.BlockGrounds.{ListGrounds, BitsGrounds, BuildGrounds, FollowGrounds}
 use Rattle.theorem.proofs.EntryOrder.{no_broken}
 
 module _ (B : Block) (t bits settings : List ℕ) (room : RoomLent) where
@@ -93,53 +88,63 @@ module _ (B : Block) (t bits settings : List ℕ) (room : RoomLent) where
       go (Listed rows) s = let R = s.0 in inr (R.size, inr (R.lengths, bits_yes (at (wires B)) R s.2 rows s.1))
       go (Refused refusal) s = build_no refusal s
 
-module _ (B : Block) (t st : List ℕ) (tile port : ℕ) (room : FollowRoomLent) where
+module _ (B : Block) (t st : List ℕ) (tile port : ℕ) (wires sources marks : List ℕ) where
   abbrev FollowOrder : Followed → Type 0
-  FollowOrder a = FollowGrounds B t st tile port (follow_lent t st room) (followed_number a) (followed_value a)
+  FollowOrder a = FollowGrounds B t st tile port (follow_lent t st wires sources marks) (followed_number a) (followed_value a)
 
-  -- what has passed 1, 2, 3 and 9
-  able : (a : Followed) → Followable B t st tile port (follow_lent t st room)
-      → Check 5 (NoContention B t st) (LowestContention B t st) (Check 7 (NoLoop B t st) (LowestLooped B t st) (RangeGrounds B t st tile port))
-      (followed_number a) (followed_value a)
-      → FollowOrder a
-  able a F later = inr (F.size, inr (F.lengths, inr (F.rules, inr (F.has_bits, later))))
-
-  follow_no : (refusal : Refusal) → FollowNo B t st tile port (follow_lent t st room) refusal → FollowOrder (followeds.Refused refusal)
+  follow_no : (refusal : Refusal) → FollowNo B t st tile port (follow_lent t st wires sources marks) refusal → FollowOrder (followeds.Refused refusal)
   follow_no refusal (following.wrong_size n) = inl (n, refl, refl)
   follow_no refusal (following.wrong_length s n) = inr (s, inl (n, refl, refl))
   follow_no refusal (following.broken part s L f) = inr (s, inr (L, inl (no_broken t part f, refl, f)))
   follow_no refusal (following.bitless T s L rules low) = inr (s, inr (L, inr (rules, inl (λ h. low.bitless (h T low.within), refl, low))))
-  follow_no refusal (following.contention x F low) = able (followeds.Refused refusal) F (inl (λ free. free x low.here, refl, low))
-  follow_no refusal (following.loop x F free low) = able (followeds.Refused refusal) F (inr (free, inl (λ straight. straight x low.here, refl, low)))
-  follow_no refusal (following.out_of_range number F free straight out) =
-      able (followeds.Refused refusal) F
-      (inr (
-        free,
+  follow_no refusal (following.contention x F low) =
+      inr (F.size, inr (F.lengths, inr (F.rules, inr (F.has_bits, inl (λ free. free x low.here, refl, low)))))
+  follow_no refusal (following.out_of_range number F free out) =
+      inr (
+        F.size,
         inr (
-          straight,
-          ⊎_elim (λ o. inl (λ l. let k = o.0 in omega arith, refl, o.1))
-              (λ o. inr (o.0, inl (λ l. let k = o.1 in omega arith, refl, o.2))) out,
+          F.lengths,
+          inr (
+            F.rules,
+            inr (
+              F.has_bits,
+              inr (
+                free,
+                ⊎_elim (λ o. inl (λ l. let k = o.0 in omega arith, refl, o.1))
+                    (λ o. inr (o.0, inl (λ l. let k = o.1 in omega arith, refl, o.2))) out,
+              ),
+            ),
+          ),
         ),
-      ))
+      )
 
-  pub follow_order : FollowOrder (followed B t st tile port room)
-  follow_order = go (followed B t st tile port room) (follow_says B t st tile port room _ refl)
+  pub follow_order : FollowOrder (followed B t st tile port wires sources marks)
+  follow_order = go (followed B t st tile port wires sources marks) (follow_says B t st tile port wires sources marks _ refl)
     where
-      go : (a : Followed) → FollowSays B t st tile port (follow_lent t st room) a → FollowOrder a
+      go : (a : Followed) → FollowSays B t st tile port (follow_lent t st wires sources marks) a → FollowOrder a
       go (followeds.Driven driver) s =
+          let F = s.0 in
           let D = s.1 in
-          able (followeds.Driven driver) s.0
-          (inr (D.no_contention, inr (D.no_loop, inr (D.tile_within, inr (D.port_within, (refl, (driver, D.driven, refl)))))))
+          inr (
+            F.size,
+            inr (
+              F.lengths,
+              inr (
+                F.rules,
+                inr (
+                  F.has_bits,
+                  inr (
+                    D.no_contention,
+                    inr (
+                      D.tile_within,
+                      inr (
+                        D.port_within,
+                        (refl, (driver, D.driven, refl)),
+                      ),
+                    ),
+                  ),
+                ),
+              ),
+            ),
+          )
       go (followeds.Refused refusal) s = follow_no refusal s
-
--- a table with check 7 is the one without it where 7 passes
-pub without_seven : (B : Block) (t st : List ℕ) (tile port : ℕ) (lent : FollowLent) (number value : ℕ) → NoLoop B t st
-    → FollowGrounds B t st tile port lent number value → FollowGrounds01 B t st tile port lent number value
-without_seven B t st tile port lent number value straight (inl a) = inl a
-without_seven B t st tile port lent number value straight (inr (s, inl a)) = inr (s, inl a)
-without_seven B t st tile port lent number value straight (inr (s, inr (l, inl a))) = inr (s, inr (l, inl a))
-without_seven B t st tile port lent number value straight (inr (s, inr (l, inr (r, inl a)))) = inr (s, inr (l, inr (r, inl a)))
-without_seven B t st tile port lent number value straight (inr (s, inr (l, inr (r, inr (b, inl a))))) = inr (s, inr (l, inr (r, inr (b, inl a))))
-without_seven B t st tile port lent number value straight (inr (s, inr (l, inr (r, inr (b, inr (f, inl a)))))) = absurd (a.0 straight)
-without_seven B t st tile port lent number value straight (inr (s, inr (l, inr (r, inr (b, inr (f, inr (g, later))))))) =
-    inr (s, inr (l, inr (r, inr (b, inr (f, later)))))

@@ -15,9 +15,8 @@ use Rattle.theorem.proofs.CompareOrder.{compare_order, part_order}
 use Rattle.theorem.proofs.FormOrder.{words_order, bytes_order}
 use Rattle.theorem.proofs.FileOrder.{file_read_order, file_length_order, file_write_order}
 use Rattle.theorem.proofs.BlockOrder.{build_order, follow_order}
-use Rattle.theorem.proofs.SettleOrder.{settle_order, clock_order}
+use Rattle.theorem.proofs.StepOrder.{step_order}
 use Rattle.theorem.proofs.ContentionOrder.{contentions_order}
-use Rattle.theorem.proofs.CardOrder.{card_order}
 use Rattle.theorem.proofs.ParseOrder.{parse_order}
 use Rattle.theorem.proofs.ReportOrder.{report_order}
 
@@ -44,10 +43,8 @@ demand1 = record {
   bytes_of_words = bytes_order;
   build = build_order;
   follow = follow_order;
-  settle = settle_order;
-  clock = clock_order;
+  step = step_order;
   contentions = contentions_order;
-  shelf_card = card_order;
   parse = parse_order;
   report = report_order;
   outputs_kept = λ refusal old new. output_refused old new refusal;

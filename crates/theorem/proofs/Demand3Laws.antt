@@ -1,31 +1,45 @@
 -- Demand 3, closed: `demand3`. Assumes nothing.
 use Prim.Native.Nat.{ℕ}
-use mathlib.Core.Path.{◌≡◌, refl, sym, ◌∙◌}
+use mathlib.Core.Path.{◌≡◌, sym, ◌∙◌}
+use mathlib.Core.Logic.{◌↔◌}
 use mathlib.Core.List.{List}
+use Rattle.refusal.specs.declared.Refusal.TheVariants.{Loop}
 use Rattle.ports.specs.declared.size.Block.{Block}
-use Rattle.block.specs.declared.Built.TheVariants.{Listed}
+use Rattle.equations.specs.Equations.{Depends, LowestLooped}
+use Rattle.block.specs.declared.Built.TheVariants.{Listed, Refused}
 use Rattle.block.specs.declared.lengths.RoomLent.{RoomLent}
 use Rattle.block.specs.Lengths.{build_lent}
 use Rattle.block.specs.Building.{list_answer}
-use Rattle.block.specs.Meaning.{Readable}
+use Rattle.block.specs.Meaning.{Readable, ListNo, loop, BuildNo, unlisted}
 use Rattle.block.proofs.MeaningLaws.{build_says}
 use Rattle.contention.specs.Entry.{settings_read}
 use Rattle.theorem.specs.Calls.{built}
-use Rattle.theorem.specs.Demand3.{AcceptedBlock, Demand3}
-use Rattle.theorem.proofs.ReadableLaws.{readable_routed, readable_built}
-use Rattle.drivers.proofs.FollowingLaws.{no_ring}
+use Rattle.theorem.specs.Demand3.{PassesSix, AcceptedBlock, Demand3}
+use Rattle.theorem.proofs.ReadableLaws.{readable_of_four, readable_routed, readable_built}
 use Rattle.theorem.proofs.PassesLaws.{six_exactly}
-use Rattle.theorem.proofs.LoopLaws.{loop_exactly, loop_lowest, card_loop_exactly, card_loop_lowest, follow_ends}
-use Rattle.theorem.proofs.FightLaws.{follow_loop_exactly, follow_loop_lowest}
-use Rattle.theorem.proofs.BlockOrder.{follow_order, without_seven}
-use Rattle.theorem.proofs.AcceptedLaws.{only_choice, own_listing}
-use Rattle.stepper.specs.Settling.{settled_by}
-use Rattle.stepper.proofs.ClockingLaws.{clock_of_settled}
-use Rattle.theorem.proofs.StepDone.{step_exactly, settle_done, settle_meant, step_done, step_meant}
+use Rattle.theorem.proofs.AcceptedLaws.{list_loop_exactly, only_choice, own_listing}
+use Rattle.theorem.proofs.StepDone.{step_done, step_meant}
 
 module _ (B : Block) (t bits settings : List ℕ) (room : RoomLent) where
   abbrev st : List ℕ
   st = settings_read B t bits
+
+  loop_exactly : PassesSix B t bits settings room
+      → ((w : ℕ) × (built B t bits settings room ≡ Refused (Loop w))) ↔ ((w : ℕ) × Depends B t (settings_read B t bits) w w)
+  loop_exactly p =
+      let R = readable_of_four B t bits settings room p.passes_four in
+      let e = readable_built B t bits settings room R in
+      let both = list_loop_exactly B t st (readable_routed B t bits settings room R) p.no_contention p.no_carry in
+      (λ r. both.0 (r.0, sym e ∙ r.1), λ d. let r = both.1 d in (r.0, e ∙ r.1))
+
+  loop_lowest : (w : ℕ) → built B t bits settings room ≡ Refused (Loop w) → LowestLooped B t (settings_read B t bits) w
+  loop_lowest w e = said w (build_says B t bits settings room (Refused (Loop w)) (sym e))
+    where
+      listed : (x : ℕ) → ListNo B t st (Loop x) → LowestLooped B t st x
+      listed x (loop v f u s) = s
+
+      said : (x : ℕ) → BuildNo B t bits (build_lent t bits settings room) (Loop x) → LowestLooped B t st x
+      said x (unlisted refusal R s) = listed x s
 
   accepted : (rows : ℕ) → built B t bits settings room ≡ Listed rows → AcceptedBlock B t bits rows
   accepted rows e =
@@ -35,27 +49,9 @@ module _ (B : Block) (t bits settings : List ℕ) (room : RoomLent) where
       record {
         listing = own_listing B t st ok rows listed;
         settles = only_choice B t st ok rows listed;
-        settle_taken = settle_done B t bits settings room R rows listed;
-        settle_means = settle_meant B t bits settings room R rows listed;
         step_taken = step_done B t bits settings room R rows listed;
         step_means = step_meant B t bits settings room R rows listed;
       }
 
 pub demand3 : Demand3
-demand3 = record {
-  loop_exactly = loop_exactly;
-  six_exactly = six_exactly;
-  loop_lowest = loop_lowest;
-  follow_loop_exactly = follow_loop_exactly;
-  follow_loop_lowest = follow_loop_lowest;
-  card_loop_exactly = card_loop_exactly;
-  card_loop_lowest = card_loop_lowest;
-  no_ring = no_ring;
-  follow_stays = λ B table settings room tile port straight.
-      without_seven B table settings tile port _ _ _ straight (follow_order B table settings tile port room);
-  follow_ends = follow_ends;
-  accepted = accepted;
-  values_stepped_lem = λ B list state before. refl;
-  two_calls = λ B settings list state before after. clock_of_settled B settings (settled_by B list state before) (settled_by B list state after) state;
-  step_exactly = step_exactly;
-}
+demand3 = record { loop_exactly = loop_exactly; six_exactly = six_exactly; loop_lowest = loop_lowest; accepted = accepted }

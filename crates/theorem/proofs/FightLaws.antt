@@ -1,5 +1,5 @@
--- Fights, over the answers of `build` and `follow`, and loops, over those of `follow`. Main laws: `fight_exactly`, `fight_lowest`, `follow_fight_exactly`,
--- `follow_fight_lowest`; `follow_loop_exactly`, `follow_loop_lowest`. Assumes nothing.
+-- Fights, over the answers of `build` and `follow`. Main laws: `fight_exactly`, `fight_lowest`, `follow_fight_exactly`, `follow_fight_lowest`.
+-- Assumes nothing.
 use Prim.Native.Nat.{ℕ, ◌≤◌, ◌<◌}
 use mathlib.Core.Path.{◌≡◌, refl, sym, ap, ◌∙◌}
 use mathlib.Core.Bool.{not}
@@ -18,16 +18,13 @@ use Rattle.routing.specs.LogicTile.{logic_tile}
 use Rattle.routing.proofs.TableCheckLaws.{table_exact}
 use Rattle.config.specs.Blocks.{bitless_at, bitless_tile}
 use Rattle.config.proofs.PassedLaws.{write_passed, write_fit}
-use Rattle.equations.specs.Switches.{switches, Contention, NoContention, LowestContention}
-use Rattle.equations.specs.Equations.{Depends, LowestLooped}
-use Rattle.equations.specs.Routed.{Routed}
+use Rattle.equations.specs.Switches.{switches, Contention, LowestContention}
 use Rattle.equations.specs.Sources.{contended_in, contended_wire}
 use Rattle.equations.proofs.SourceLaws.{contended_none_exact}
 use Rattle.block.specs.declared.Built.{Built}
 use Rattle.block.specs.declared.Built.TheVariants.{Listed, Refused}
 use Rattle.block.specs.declared.Followed.TheVariants as followeds
 use Rattle.block.specs.declared.lengths.RoomLent.{RoomLent}
-use Rattle.block.specs.declared.lengths.FollowRoomLent.{FollowRoomLent}
 use Rattle.block.specs.Lengths.{build_lent, follow_lent, follow_exact}
 use Rattle.block.specs.Building.{list_answer}
 use Rattle.block.specs.Drivers.{port_answer}
@@ -38,7 +35,7 @@ use Rattle.block.proofs.LengthLaws.{follow_long_exact}
 use Rattle.block.proofs.RoutedLaws.{routed_of_fit}
 use Rattle.block.proofs.DriverLaws.{port_contended, settings_port, follow_settings}
 use Rattle.block.proofs.MeaningLaws.{list_says, build_says}
-use Rattle.block.proofs.DriverMeaningLaws.{port_looped, follow_says}
+use Rattle.block.proofs.DriverMeaningLaws.{follow_says}
 use Rattle.contention.specs.Entry.{settings_read}
 use Rattle.theorem.specs.Calls.{PassesFour, PassesNine, built, followed}
 use Rattle.theorem.proofs.ReadableLaws.{readable_of_four, readable_routed, readable_built}
@@ -75,53 +72,42 @@ module _ (B : Block) (t bits settings : List ℕ) (room : RoomLent) where
       go w c (Listed rows) s = absurd (s.1.no_contention w c)
       go w c (Refused refusal) s = refused w c refusal s
 
-module _ (B : Block) (t st : List ℕ) (room : FollowRoomLent) (tile port : ℕ) where
-  module _ (p : PassesNine B t st room) where
+module _ (B : Block) (t st wires sources marks : List ℕ) (tile port : ℕ) where
+  module _ (p : PassesNine B t st wires sources marks) where
     fits : tiles B ≤ bitless_tile t st (tiles B)
     unfolding bitless_at
     fits = let e = first_none (bitless_at t st) (tiles B) (λ T l. ap not (write_fit (size_of B) t st (bits_length (size_of B)) p.write_done T l)) in omega arith
 
-    routed : Routed B t st
-    routed =
-        let C = write_passed (size_of B) t st (bits_length (size_of B)) p.write_done in
-        routed_of_fit B t st (sized_of_allowed B p.east_known C.size) C.rules C.lengths.settings_long fits
-
-    -- what is left are grounds 5, 7 and 20
-    followed_port : followed B t st tile port room ≡ port_answer B t st tile port
+    -- what is left are grounds 5 and 20
+    followed_port : followed B t st tile port wires sources marks ≡ port_answer B t st tile port
     followed_port =
         let C = write_passed (size_of B) t st (bits_length (size_of B)) p.write_done in
         sym (settings_port B t st tile port ((table_exact logic_tile t C.lengths.table_long).1 C.rules) fits
-        ∙ follow_settings B t st tile port (follow_exact B (follow_lent t st room)) (sized_true B (sized_of_allowed B p.east_known C.size))
-        ((follow_long_exact B (follow_lent t st room)).1
-        (record { table_long = C.lengths.table_long; settings_long = C.lengths.settings_long; room_long = p.room_long })))
+        ∙ follow_settings B t st tile port (follow_exact B (follow_lent t st wires sources marks)) (sized_true B (sized_of_allowed B p.east_known C.size))
+        ((follow_long_exact B (follow_lent t st wires sources marks)).1
+        (record {
+          table_long = C.lengths.table_long;
+          settings_long = C.lengths.settings_long;
+          wires_long = p.wires_long;
+          sources_long = p.sources_long;
+          marks_long = p.marks_long;
+        })))
 
-    refused_of : (w : ℕ) → Contention B t st w → (v : ℕ) × (followed B t st tile port room ≡ followeds.Refused (refusals.Contention v))
+    refused_of : (w : ℕ) → Contention B t st w → (v : ℕ) × (followed B t st tile port wires sources marks ≡ followeds.Refused (refusals.Contention v))
     unfolding contended_wire
     refused_of w c =
+        let C = write_passed (size_of B) t st (bits_length (size_of B)) p.write_done in
+        let ok = routed_of_fit B t st (sized_of_allowed B p.east_known C.size) C.rules C.lengths.settings_long fits in
         let u = first_le (contended_in B t st (switches B)) 0 (ports B) in
         ⊎_elim (λ (l : contended_wire B t st < ports B). (contended_wire B t st, followed_port ∙ sym (port_contended B t st tile port _ refl l)))
-        (λ (l : ports B ≤ contended_wire B t st). absurd ((contended_none_exact B t st routed).1 (omega arith) w c)) (lt_or_le (contended_wire B t st) (ports B))
+        (λ (l : ports B ≤ contended_wire B t st). absurd ((contended_none_exact B t st ok).1 (omega arith) w c)) (lt_or_le (contended_wire B t st) (ports B))
 
-    -- a wire that depends on itself
-    looped_of : NoContention B t st → (w : ℕ) → Depends B t st w w → (v : ℕ) × (followed B t st tile port room ≡ followeds.Refused (refusals.Loop v))
-    looped_of free w d = let r = port_looped B t st tile port routed free w d in (r.0, followed_port ∙ sym r.1)
-
-  pub follow_fight_lowest : (w : ℕ) → followed B t st tile port room ≡ followeds.Refused (refusals.Contention w) → LowestContention B t st w
-  follow_fight_lowest w e = said w (follow_says B t st tile port room (followeds.Refused (refusals.Contention w)) (sym e))
+  pub follow_fight_lowest : (w : ℕ) → followed B t st tile port wires sources marks ≡ followeds.Refused (refusals.Contention w) → LowestContention B t st w
+  follow_fight_lowest w e = said w (follow_says B t st tile port wires sources marks (followeds.Refused (refusals.Contention w)) (sym e))
     where
-      said : (x : ℕ) → FollowNo B t st tile port (follow_lent t st room) (refusals.Contention x) → LowestContention B t st x
+      said : (x : ℕ) → FollowNo B t st tile port (follow_lent t st wires sources marks) (refusals.Contention x) → LowestContention B t st x
       said x (following.contention v F s) = s
 
-  pub follow_fight_exactly : PassesNine B t st room
-      → ((w : ℕ) × (followed B t st tile port room ≡ followeds.Refused (refusals.Contention w))) ↔ ((w : ℕ) × Contention B t st w)
+  pub follow_fight_exactly : PassesNine B t st wires sources marks
+      → ((w : ℕ) × (followed B t st tile port wires sources marks ≡ followeds.Refused (refusals.Contention w))) ↔ ((w : ℕ) × Contention B t st w)
   follow_fight_exactly p = (λ r. (r.0, (follow_fight_lowest r.0 r.1).here), λ c. refused_of p c.0 c.1)
-
-  pub follow_loop_lowest : (w : ℕ) → followed B t st tile port room ≡ followeds.Refused (refusals.Loop w) → LowestLooped B t st w
-  follow_loop_lowest w e = said w (follow_says B t st tile port room (followeds.Refused (refusals.Loop w)) (sym e))
-    where
-      said : (x : ℕ) → FollowNo B t st tile port (follow_lent t st room) (refusals.Loop x) → LowestLooped B t st x
-      said x (following.loop v F free s) = s
-
-  pub follow_loop_exactly : PassesNine B t st room → NoContention B t st
-      → ((w : ℕ) × (followed B t st tile port room ≡ followeds.Refused (refusals.Loop w))) ↔ ((w : ℕ) × Depends B t st w w)
-  follow_loop_exactly p free = (λ r. (r.0, (follow_loop_lowest r.0 r.1).here), λ d. looped_of p free d.0 d.1)

@@ -4,10 +4,9 @@ pub mod EntryOrder  -- the grounds of wire_number, lookup, bit_count, read and w
 pub mod CompareOrder  -- compare_order, part_order: the grounds of compare and of asking for a tile's part
 pub mod FormOrder  -- words_order, bytes_order: those of both conversions
 pub mod FileOrder  -- those of reading, measuring and writing an ASCII file
-pub mod BlockOrder  -- those of build and follow; without_seven: where 7 passes, document 01's order of following
-pub mod SettleOrder  -- those of settle and clock
+pub mod BlockOrder  -- those of build and follow
+pub mod StepOrder  -- those of step
 pub mod ContentionOrder  -- those of contentions
-pub mod CardOrder  -- those of shelf_card
 pub mod ParseOrder  -- those of reading frames
 pub mod ReportOrder  -- those of a report, with the line that says them
 pub mod OneAnswer  -- check_agrees, bits_agrees: a table of grounds fits one number and place only
@@ -15,15 +14,13 @@ pub mod ReportExact  -- report_exact: only the report says what ReportSays has i
 pub mod Demand2Laws  -- demand2: demand 2, closed
 pub mod FormsLaws  -- same_forms: bytes and words carry the same settings and answers, closed
 pub mod Demand3Laws  -- demand3: demand 3, closed
-pub mod InfluenceLaws  -- influence: which pins can move which lamp, closed
 pub mod ReadingLaws  -- reads_exactly, reads_one: when `read` says yes, and that the bits read to one settings only
 pub mod PassesLaws  -- four_exactly, six_exactly: checks pass exactly if `build` gives none of their grounds
 pub mod ReadableLaws  -- readable_of_four, readable_built, readable_routed: what checks 1 to 4 show
-pub mod FightLaws  -- fight_exactly, fight_lowest, follow_fight_exactly: fights, over the answers of `build` and `follow`; follow_loop_exactly: loops, over those of `follow`
-pub mod LoopLaws  -- loop_exactly, card_loop_exactly: loops, over the answers of `build` and `shelf_card`; follow_ends: where following ends
-pub mod AcceptedLaws  -- list_loop_exactly, only_choice, own_passes, settle_means, step_means: of settings that passed their checks
-pub mod StepDone  -- step_exactly: settling twice and clocking are refused as the step was. settle_done, step_done, step_meant: with an accepted block's own settings and list
-pub mod StepUnique  -- step_unique, settle_unique: what a step and settling give is determined by the equations
+pub mod FightLaws  -- fight_exactly, fight_lowest, follow_fight_exactly: fights, over the answers of `build` and `follow`
+pub mod AcceptedLaws  -- list_loop_exactly, only_choice, own_passes, step_means: of settings that passed their checks
+pub mod StepDone  -- step_done, step_meant: a step with an accepted block's own settings and list
+pub mod StepUnique  -- step_unique: what a step gives is determined by the equations
 pub mod ListingLaws  -- listing: one row for each wire, in document 01's order
 pub mod OrderLowest  -- order_lowest: the order in the paper's words
 pub mod ShapeLaws  -- shaped: the numbers that a row's kind does not use are 0

@@ -1,31 +1,56 @@
--- What settling and a step give is determined: two results that mean a step are equal. Main laws: `step_unique`, `settle_unique`. Assumes nothing.
-use Prim.Native.Nat.{ℕ, ◌<◌}
+-- What a step gives is determined: two results that mean a step are equal. Main law: `step_unique`. Assumes nothing.
+use Prim.Native.Nat.{ℕ, ◌*◌, ◌/◌, ◌%◌, ◌<◌}
 use mathlib.Core.Path.{◌≡◌, ◌∙◌, sym}
 use mathlib.Core.Logic.{⊎_elim}
 use mathlib.Core.List.{List}
+use native.Mathlib.Omega.{arith}
 use Rattle.lists.proofs.CaseLaws.{eq_or_ne}
 use Rattle.lists.proofs.TableLaws.{tabulate_ext}
 use Rattle.ports.specs.declared.size.Block.{Block}
-use Rattle.ports.specs.Block.{size_of, port_of}
-use Rattle.ports.specs.Lengths.{ports}
+use Rattle.ports.specs.Block.{tiles, port_of}
+use Rattle.ports.specs.Lengths.{ports, ports_per_tile}
+use Rattle.ports.specs.PortIndex.{clk, cen, s_r, in_port}
 use Rattle.ports.proofs.BlockLaws.{port_of_lt}
 use Rattle.stepper.specs.Settling.{port_value, port_values}
-use Rattle.stepper.specs.Clocking.{of_wires}
-use Rattle.stepper.proofs.ClockingLaws.{SameAt, states_same}
-use Rattle.theorem.specs.Choice.{OnlyChoice, SettleMeans, StepMeans}
+use Rattle.stepper.specs.Clocking.{value_at, lookup_at, next_cell, next_states}
+use Rattle.theorem.specs.Choice.{OnlyChoice, StepMeans}
 
 -- values that agree at every port
 abbrev Same : Block → List ℕ → List ℕ → Type 0
 Same B x y = (p : ℕ) → p < ports B → port_value B x p ≡ port_value B y p
 
--- .. move every cell alike, and give every port the same value
-module _ (B : Block) where
-  at_ports : (x y : List ℕ) → Same B x y → SameAt (size_of B) (of_wires B x) (of_wires B y)
-  at_ports x y e T q l h = e (port_of T q) (port_of_lt B T q l h)
+module _ (B : Block) (st b b' a a' : List ℕ) (eb : Same B b b') (ea : Same B a a') where
+  before : (T q : ℕ) → T < tiles B → q < ports_per_tile → value_at B b T q ≡ value_at B b' T q
+  before T q l h = eb (port_of T q) (port_of_lt B T q l h)
 
-  values_same : (x y : List ℕ) → Same B x y → port_values B x ≡ port_values B y
+  after : (T q : ℕ) → T < tiles B → q < ports_per_tile → value_at B a T q ≡ value_at B a' T q
+  after T q l h = ea (port_of T q) (port_of_lt B T q l h)
+
+  lookup_same : (T i : ℕ) → T < tiles B → i < 8 → lookup_at B st b T i ≡ lookup_at B st b' T i
+  lookup_same T i l h =
+      rw (before T (in_port i 0) l (omega arith), before T (in_port i 1) l (omega arith), before T (in_port i 2) l (omega arith), before T (in_port i 3) l (omega arith))
+
+  -- values that agree move every cell alike
+  cell_same : (state : List ℕ) (c : ℕ) → c < 8 * tiles B → next_cell B st b a state c ≡ next_cell B st b' a' state c
+  unfolding next_cell
+  cell_same state c l =
+      let lt : c / 8 < tiles B = omega arith in
+      rw (
+        lookup_same (c / 8) (c % 8) lt (omega arith),
+        before (c / 8) clk lt (omega arith),
+        after (c / 8) clk lt (omega arith),
+        before (c / 8) cen lt (omega arith),
+        before (c / 8) s_r lt (omega arith),
+        after (c / 8) s_r lt (omega arith),
+      )
+
+  states_same : (state : List ℕ) → next_states B st b a state ≡ next_states B st b' a' state
+  unfolding next_states
+  states_same state = tabulate_ext 0 _ _ (8 * tiles B) (cell_same state)
+
+  values_same : port_values B b ≡ port_values B b'
   unfolding port_values
-  values_same x y e = tabulate_ext 0 _ _ (ports B) e
+  values_same = tabulate_ext 0 _ _ (ports B) eb
 
 module _ (B : Block) (t st : List ℕ) where
   choice_same : (state lent x y : List ℕ) → OnlyChoice B t st state lent x → OnlyChoice B t st state lent y → Same B x y
@@ -37,13 +62,6 @@ module _ (B : Block) (t st : List ℕ) where
   step_unique state before after values values' next next' s r =
       let eb = choice_same state before s.b r.b s.one_before r.one_before in
       let ea = choice_same state after s.a r.a s.one_after r.one_after in (
-        s.written ∙ values_same B s.b r.b eb ∙ sym r.written,
-        s.moved
-            ∙ states_same (size_of B) st (of_wires B s.b) (of_wires B r.b) (of_wires B s.a) (of_wires B r.a) (at_ports B s.b r.b eb) (at_ports B s.a r.a ea) state
-            ∙ sym r.moved,
+        s.written ∙ values_same B st s.b r.b s.a r.a eb ea ∙ sym r.written,
+        s.moved ∙ states_same B st s.b r.b s.a r.a eb ea state ∙ sym r.moved,
       )
-
-  -- and so is what settling gives
-  pub settle_unique : (state lent values values' : List ℕ) → SettleMeans B t st state lent values → SettleMeans B t st state lent values' → values ≡ values'
-  settle_unique state lent values values' s r =
-      s.written ∙ values_same B s.v r.v (choice_same state lent s.v r.v s.one r.one) ∙ sym r.written

@@ -1,9 +1,7 @@
--- The grounds of `build`, `follow`, `settle` and `clock` in their orders (document 01, 'Grounds for a no'; document 02, W11), over the number of an answer
--- and what comes with it.
+-- The grounds of `build`, `follow` and `step` in their orders (document 01, 'Grounds for a no'), over the number of an answer and what comes with it.
 use Rattle.std.specs.Prelude.{ℕ, ◌<◌, ◌≡◌, List, ◌++◌}
-use Rattle.ports.specs.declared.size.Size.{Size}
 use Rattle.ports.specs.declared.size.Block.{Block}
-use Rattle.ports.specs.Block.{Allowed, Sized, size_of, tile_count, tiles}
+use Rattle.ports.specs.Block.{Sized, size_of, tiles}
 use Rattle.ports.specs.Lengths.{ports_per_tile, ports, state_length}
 use Rattle.fabric.specs.Count.{wires}
 use Rattle.routing.specs.LogicTile.{logic_tile}
@@ -25,9 +23,8 @@ use Rattle.block.specs.Lengths.{BuildLong, FollowLong}
 use Rattle.block.specs.Drivers.{driver_wire}
 use Rattle.block.specs.Meaning.{NoDisabledCarry, NoCellClock}
 use Rattle.stepper.specs.Settling.{wire_marks}
-use Rattle.sim.specs.declared.lengths.SettleLent.{SettleLent}
-use Rattle.sim.specs.declared.lengths.ClockLent.{ClockLent}
-use Rattle.sim.specs.Lengths.{SettleLong, ClockLong}
+use Rattle.sim.specs.declared.lengths.StepLent.{StepLent}
+use Rattle.sim.specs.Lengths.{StepLong}
 use Rattle.sim.specs.Meaning.{FirstAbove, Stands}
 use Rattle.theorem.specs.Order.{Check, Yes, at, at0}
 use Rattle.theorem.specs.EntryGrounds.{AllDecodable, AllHaveBits}
@@ -55,14 +52,7 @@ BuildGrounds B t bits settings lent =
     (Check 2 (BuildLong B lent) at0
     (BitsGrounds B t (tiles_of bits) settings (at (wires B))))
 
--- ground 20 of following, place "that number, a tile's first"; a yes has the wire where it ends
-abbrev pub RangeGrounds : Block → (table settings : List ℕ) → (tile port : ℕ) → ℕ → ℕ → Type 0
-RangeGrounds B t st tile port =
-    Check 20 (tile < tiles B) (at tile)
-    (Check 20 (port < ports_per_tile) (at port)
-    (Yes (λ value. (driver : Driver) × DrivenBy B t st (wire B tile port) driver × (value ≡ driver_wire driver))))
-
--- "following a driver 1, 2, 3, 9, 5, [..] 20"; document 02, W12: "now also gives 7, after 5"
+-- "following a driver 1, 2, 3, 9, 5, 20", place "that number, a tile's first"; a yes has the wire where it ends
 abbrev pub FollowGrounds : Block → (table settings : List ℕ) → (tile port : ℕ) → FollowLent → ℕ → ℕ → Type 0
 FollowGrounds B t st tile port lent =
     Check 1 (Sized B) at0
@@ -70,36 +60,17 @@ FollowGrounds B t st tile port lent =
     (Check 3 (TableRules logic_tile t) (FirstBroken logic_tile t)
     (Check 9 (AllHaveBits t st (tiles B)) (LowestBitless t st (tiles B))
     (Check 5 (NoContention B t st) (LowestContention B t st)
-    (Check 7 (NoLoop B t st) (LowestLooped B t st)
-    (RangeGrounds B t st tile port))))))
+    (Check 20 (tile < tiles B) (at tile)
+    (Check 20 (port < ports_per_tile) (at port)
+    (Yes (λ value. (driver : Driver) × DrivenBy B t st (wire B tile port) driver × (value ≡ driver_wire driver)))))))))
 
--- the same as document 01 has it, without 7: "Where 7 passes, every other answer stays"
-abbrev pub FollowGrounds01 : Block → (table settings : List ℕ) → (tile port : ℕ) → FollowLent → ℕ → ℕ → Type 0
-FollowGrounds01 B t st tile port lent =
+-- "a step 1, 2, 3, 9, 12, 10"
+abbrev pub StepGrounds : Block → (table settings list state before after : List ℕ) → StepLent → ℕ → ℕ → Type 0
+StepGrounds B t st list state before after lent =
     Check 1 (Sized B) at0
-    (Check 2 (FollowLong B lent) at0
+    (Check 2 (StepLong B lent) at0
     (Check 3 (TableRules logic_tile t) (FirstBroken logic_tile t)
     (Check 9 (AllHaveBits t st (tiles B)) (LowestBitless t st (tiles B))
-    (Check 5 (NoContention B t st) (LowestContention B t st)
-    (RangeGrounds B t st tile port)))))
-
--- "settling gives 1, 2, 3, 9, 12, 10 as now"
-abbrev pub SettleGrounds : Block → (table settings list state lent : List ℕ) → SettleLent → ℕ → ℕ → Type 0
-SettleGrounds B t st list state lent all =
-    Check 1 (Sized B) at0
-    (Check 2 (SettleLong B all) at0
-    (Check 3 (TableRules logic_tile t) (FirstBroken logic_tile t)
-    (Check 9 (AllHaveBits t st (tiles B)) (LowestBitless t st (tiles B))
-    (Check 12 (Stands B list) (FirstBad list (state_length (size_of B)) (wire_marks B) (ports B))
-    (Check 10 (Bits state × Bits lent) (FirstAbove (state ++ lent))
-    (Yes at0))))))
-
--- "clocking 1, 2, 3, 9, 10, where 10 also covers settled values, after the state"
-abbrev pub ClockGrounds : Size → (table settings state before after : List ℕ) → ClockLent → ℕ → ℕ → Type 0
-ClockGrounds S t st state before after all =
-    Check 1 (Allowed S) at0
-    (Check 2 (ClockLong S all) at0
-    (Check 3 (TableRules logic_tile t) (FirstBroken logic_tile t)
-    (Check 9 (AllHaveBits t st (tile_count S)) (LowestBitless t st (tile_count S))
+    (Check 12 (Stands B t st list state before after lent) (FirstBad list (state_length (size_of B)) (wire_marks B) (ports B))
     (Check 10 (Bits state × Bits before × Bits after) (FirstAbove (state ++ before ++ after))
-    (Yes at0)))))
+    (Yes at0))))))

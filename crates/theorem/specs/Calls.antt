@@ -1,10 +1,8 @@
 -- What the calls answer and write, over what is lent to them: the clauses of their contracts, with a name each.
 --   built == what `build` answers        list_built == what a yes of `build` writes; settings_read of `contention` == what a yes of `read` writes
---   followed == what `follow` answers    contended == what `contentions` answers           compared == what `compare` answers
---   carded == what `shelf_card` answers
---   settled == what `settle` answers     values_settled == what a yes of it writes
---   clocked == what `clock` answers      state_clocked == what a yes of it writes
---   values_stepped, state_stepped == what document 01's step wrote, which settling twice and clocking stand for
+--   followed == what `follow` answers    stepped == what `step` answers                    compared == what `compare` answers
+--   contended == what `contentions` answers
+--   values_stepped, state_stepped == what a yes of `step` writes
 --   file_of == the file of settings that are written to bits, and these to it
 --   PassesFour, PassesNine == checks 1 to 4 of `build`, and 1, 2, 3 and 9 of `follow`, pass
 use Rattle.std.specs.Prelude.{◌≡◌, List, ℕ, ◌<◌, length}
@@ -15,7 +13,7 @@ use Rattle.refusal.specs.declared.Answer.TheVariants.{Done}
 use Rattle.ports.specs.declared.size.Size.{Size}
 use Rattle.ports.specs.declared.size.Block.{Block}
 use Rattle.ports.specs.Block.{size_of, tile_count, tiles}
-use Rattle.ports.specs.Lengths.{bits_length}
+use Rattle.ports.specs.Lengths.{bits_length, ports}
 use Rattle.config.specs.Blocks.{decoded, encoded, tiles_of}
 use Rattle.config.specs.Entry.{read_answer, write_answer}
 use Rattle.compare.specs.declared.Compared.{Compared}
@@ -28,21 +26,17 @@ use Rattle.block.specs.declared.Built.{Built}
 use Rattle.block.specs.declared.Built.TheVariants.{Refused}
 use Rattle.block.specs.declared.Followed.{Followed}
 use Rattle.block.specs.declared.lengths.RoomLent.{RoomLent}
-use Rattle.block.specs.declared.lengths.FollowRoomLent.{FollowRoomLent}
-use Rattle.block.specs.Lengths.{RoomLong, build_lent, build_exact, FollowRoomLong, follow_lent, follow_exact}
+use Rattle.block.specs.Lengths.{RoomLong, build_lent, build_exact, follow_lent, follow_exact}
 use Rattle.block.specs.Building.{build_answer}
 use Rattle.block.specs.Drivers.{follow_answer}
 use Rattle.contention.specs.declared.ContentionList.{ContentionList}
 use Rattle.contention.specs.Lengths.{contention_lent, contention_exact}
 use Rattle.contention.specs.Entry.{contentions_answer, settings_read}
-use Rattle.card.specs.declared.Carded.{Carded}
-use Rattle.card.specs.Entry.{card_answer}
 use Rattle.stepper.specs.Settling.{settled_by, port_values}
-use Rattle.stepper.specs.Clocking.{handed, of_wires, next_states}
-use Rattle.sim.specs.declared.lengths.SettleRoomLent.{SettleRoomLent}
-use Rattle.sim.specs.Lengths.{settle_lent, settle_exact, clock_lent, clock_exact}
-use Rattle.sim.specs.Settling.{settle_answer}
-use Rattle.sim.specs.Clocking.{clock_answer}
+use Rattle.stepper.specs.Clocking.{next_states}
+use Rattle.sim.specs.declared.lengths.StepRoomLent.{StepRoomLent}
+use Rattle.sim.specs.Lengths.{inputs_lent, step_lent, step_exact}
+use Rattle.sim.specs.Stepping.{step_answer}
 
 -- `settings` is the first part of the work room of `build`; `room` has the lengths of the list and of the other parts
 abbrev pub built : Block → (table bits settings : List ℕ) → RoomLent → Built
@@ -76,42 +70,27 @@ abbrev pub contended : Block → (table bits list settings wires heads nexts : L
 contended B table bits list settings wires heads nexts =
     contentions_answer B table bits (contention_exact B (contention_lent table bits settings wires heads nexts)) (length list)
 
--- `settings` is a part of the work room of `shelf_card`; `room` has the lengths of the list, which is one too, and of the other parts
-abbrev pub carded : Block → (table bits card settings : List ℕ) → RoomLent → Carded
-carded B table bits card settings room = card_answer B table bits (build_exact B (build_lent table bits settings room)) (length card)
-
--- `room` has the lengths of the work room of `follow`
-abbrev pub followed : Block → (table settings : List ℕ) → (tile port : ℕ) → FollowRoomLent → Followed
-followed B table settings tile port room = follow_answer B table settings tile port (follow_exact B (follow_lent table settings room))
+-- `wires`, `sources` and `marks` are the work room of `follow`
+abbrev pub followed : Block → (table settings : List ℕ) → (tile port : ℕ) → (wires sources marks : List ℕ) → Followed
+followed B table settings tile port wires sources marks =
+    follow_answer B table settings tile port (follow_exact B (follow_lent table settings wires sources marks))
 
 -- checks 1, 2, 3 and 9: `write` says yes to these settings, the byte for the east column is 0 or 1, and the work room of `follow` is as long as it
 -- must be
-pub record PassesNine (B : Block) (table settings : List ℕ) (room : FollowRoomLent) : Type 0 where
+pub record PassesNine (B : Block) (table settings wires sources marks : List ℕ) : Type 0 where
   pub write_done : write_answer (size_of B) table settings (bits_length (size_of B)) ≡ Done
   pub east_known : B.east < 2
-  pub room_long : FollowRoomLong B room
+  pub wires_long : length wires ≡ ports B
+  pub sources_long : length sources ≡ ports B
+  pub marks_long : length marks ≡ ports B
 
--- `room` has the lengths of the output and of the work room of `settle`
-abbrev pub settled : Block → (table settings list state lent : List ℕ) → SettleRoomLent → Answer
-settled B table settings list state lent room =
-    settle_answer B table settings list state lent (settle_exact B (settle_lent table settings list state lent room))
+-- `room` has the lengths of the outputs and of the work room of `step`
+abbrev pub stepped : Block → (table settings list state before after : List ℕ) → StepRoomLent → Answer
+stepped B table settings list state before after room =
+    step_answer B table settings list state before after (step_exact B (step_lent (inputs_lent table settings list state before after) room))
 
-abbrev pub values_settled : Block → (list state lent : List ℕ) → List ℕ
-values_settled B list state lent = port_values B (settled_by B list state lent)
-
--- `next` is the length of the output of `clock`
-abbrev pub clocked : Size → (table settings state before after : List ℕ) → (next : ℕ) → Answer
-clocked S table settings state before after next =
-    clock_answer S table settings state before after (clock_exact S (clock_lent table settings state before after next))
-
-abbrev pub state_clocked : Size → (settings state before after : List ℕ) → List ℕ
-state_clocked S settings state before after = next_states S settings (handed before) (handed after) state
-
--- document 01's step: "It runs the list on before and on after, both with the old state, writes each port's before value and the new state." The cells
--- are moved by the values of wires, as those two runs gave them
 abbrev pub values_stepped : Block → (list state before : List ℕ) → List ℕ
 values_stepped B list state before = port_values B (settled_by B list state before)
 
 abbrev pub state_stepped : Block → (settings list state before after : List ℕ) → List ℕ
-state_stepped B settings list state before after =
-    next_states (size_of B) settings (of_wires B (settled_by B list state before)) (of_wires B (settled_by B list state after)) state
+state_stepped B settings list state before after = next_states B settings (settled_by B list state before) (settled_by B list state after) state

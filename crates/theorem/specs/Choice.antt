@@ -1,4 +1,4 @@
--- The one choice of values that a block's equations allow, and what settling and a step do with it (demand 3).
+-- The one choice of values that a block's equations allow, and what a step does with it (demand 3).
 use Rattle.std.specs.Prelude.{ℕ, ◌<◌, ◌≡◌, ◌≢◌, List, length, get_or}
 use Rattle.ports.specs.declared.size.Block.{Block}
 use Rattle.ports.specs.Block.{size_of}
@@ -8,7 +8,7 @@ use Rattle.netlist.specs.Running.{row_value, Bits}
 use Rattle.equations.specs.Equations.{Meets}
 use Rattle.equations.specs.RowMeaning.{RowSays}
 use Rattle.stepper.specs.Settling.{port_value, port_values, PortBits}
-use Rattle.stepper.specs.Clocking.{of_wires, next_states}
+use Rattle.stepper.specs.Clocking.{next_states}
 
 module _ (B : Block) (t st : List ℕ) where
   module _ (state lent : List ℕ) where
@@ -29,12 +29,6 @@ module _ (B : Block) (t st : List ℕ) where
       pub only : (x : List ℕ) → (p : ℕ) → p < ports B → port_value B x p ≢ port_value B v p → Meets B t st state lent x → ⊥
       pub others_break : (x : List ℕ) → (p : ℕ) → p < ports B → port_value B x p ≢ port_value B v p → Breaks x
 
-  -- document 02, W11: "one call settles and writes the values": each port's, from the one set of wire values that the equations allow
-  pub record SettleMeans (state lent values : List ℕ) : Type 0 where
-    pub v : List ℕ
-    pub one : OnlyChoice state lent v
-    pub written : values ≡ port_values B v
-
   -- "A step [..] writes each port's value from the one set of wire values that the equations allow under the old state and before. From that set,
   -- and the one they allow under the old state and after, it moves every cell's state by document 01's rules."
   pub record StepMeans (state before after values next : List ℕ) : Type 0 where
@@ -43,17 +37,12 @@ module _ (B : Block) (t st : List ℕ) where
     pub one_before : OnlyChoice state before b
     pub one_after : OnlyChoice state after a
     pub written : values ≡ port_values B b
-    pub moved : next ≡ next_states (size_of B) st (of_wires B b) (of_wires B a) state
+    pub moved : next ≡ next_states B st b a state
 
 -- n bytes of 0 and 1
 pub record BitBytes (n : ℕ) (bytes : List ℕ) : Type 0 where
   pub long : length bytes ≡ n
   pub bits : Bits bytes
-
--- "all flip-flop states and all lent outside values of 0 and 1"
-pub record SettleInputs (B : Block) (state lent : List ℕ) : Type 0 where
-  pub state_bytes : BitBytes (state_length (size_of B)) state
-  pub lent_bytes : BitBytes (ports B) lent
 
 -- "any such state and any two such sets of lent values, before and after"
 pub record StepInputs (B : Block) (state before after : List ℕ) : Type 0 where

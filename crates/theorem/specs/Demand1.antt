@@ -16,28 +16,25 @@ use Rattle.config.specs.Blocks.{decoded, tiles_of}
 use Rattle.compare.specs.Lengths.{compare_lent}
 use Rattle.compare.specs.Entry.{compared_number, compared_value, part_answer}
 use Rattle.block.specs.declared.lengths.RoomLent.{RoomLent}
-use Rattle.block.specs.declared.lengths.FollowRoomLent.{FollowRoomLent}
 use Rattle.block.specs.Lengths.{build_lent, follow_lent}
 use Rattle.block.specs.Building.{built_number, built_value}
 use Rattle.block.specs.Drivers.{followed_number, followed_value}
 use Rattle.contention.specs.Lengths.{contention_lent}
 use Rattle.contention.specs.Entry.{contentions_number, contentions_value, settings_read}
-use Rattle.card.specs.Entry.{carded_number, carded_value}
-use Rattle.sim.specs.declared.lengths.SettleRoomLent.{SettleRoomLent}
-use Rattle.sim.specs.Lengths.{settle_lent, clock_lent}
+use Rattle.sim.specs.declared.lengths.StepRoomLent.{StepRoomLent}
+use Rattle.sim.specs.Lengths.{inputs_lent, step_lent}
 use Rattle.words.specs.Answers.{words_answer, bytes_answer}
 use Rattle.asc.specs.Area.{area_at}
 use Rattle.asc.specs.Answers as files
 use Rattle.frames.specs.Input.{parsed, parsed_number, parsed_place}
 use Rattle.reporting.specs.Report.{report_of}
-use Rattle.theorem.specs.Calls.{built, followed, settled, clocked, contended, carded, compared}
+use Rattle.theorem.specs.Calls.{built, followed, stepped, contended, compared}
 use Rattle.theorem.specs.EntryGrounds.{WireGrounds, LookupGrounds, CountGrounds, ReadGrounds, WriteGrounds}
 use Rattle.theorem.specs.CompareGrounds.{CompareGrounds, PartGrounds}
 use Rattle.theorem.specs.FormGrounds.{WordsGrounds, BytesGrounds}
 use Rattle.theorem.specs.FileGrounds.{FileReadGrounds, FileLengthGrounds, FileWriteGrounds}
-use Rattle.theorem.specs.BlockGrounds.{BuildGrounds, FollowGrounds, SettleGrounds, ClockGrounds}
+use Rattle.theorem.specs.BlockGrounds.{BuildGrounds, FollowGrounds, StepGrounds}
 use Rattle.theorem.specs.ContentionGrounds.{ContentionGrounds}
-use Rattle.theorem.specs.CardGrounds.{CardGrounds}
 use Rattle.theorem.specs.ReportGrounds.{ParseGrounds, ReportSays}
 
 pub record Demand1 : Type 0 where
@@ -74,21 +71,15 @@ pub record Demand1 : Type 0 where
   pub build : (B : Block) (table bits settings : List ℕ) (room : RoomLent)
       → BuildGrounds B table bits (settings_read B table bits) (build_lent table bits settings room)
       (built_number (built B table bits settings room)) (built_value (built B table bits settings room))
-  pub follow : (B : Block) (table settings : List ℕ) (tile port : ℕ) (room : FollowRoomLent)
-      → FollowGrounds B table settings tile port (follow_lent table settings room)
-      (followed_number (followed B table settings tile port room)) (followed_value (followed B table settings tile port room))
-  pub settle : (B : Block) (table settings list state lent : List ℕ) (room : SettleRoomLent)
-      → SettleGrounds B table settings list state lent (settle_lent table settings list state lent room)
-      (answer_number (settled B table settings list state lent room)) (answer_value (settled B table settings list state lent room))
-  pub clock : (S : Size) (table settings state before after : List ℕ) (next : ℕ)
-      → ClockGrounds S table settings state before after (clock_lent table settings state before after next)
-      (answer_number (clocked S table settings state before after next)) (answer_value (clocked S table settings state before after next))
+  pub follow : (B : Block) (table settings : List ℕ) (tile port : ℕ) (wires sources marks : List ℕ)
+      → FollowGrounds B table settings tile port (follow_lent table settings wires sources marks)
+      (followed_number (followed B table settings tile port wires sources marks)) (followed_value (followed B table settings tile port wires sources marks))
+  pub step : (B : Block) (table settings list state before after : List ℕ) (room : StepRoomLent)
+      → StepGrounds B table settings list state before after (step_lent (inputs_lent table settings list state before after) room)
+      (answer_number (stepped B table settings list state before after room)) (answer_value (stepped B table settings list state before after room))
   pub contentions : (B : Block) (table bits list settings wires heads nexts : List ℕ)
       → ContentionGrounds B table bits (settings_read B table bits) (contention_lent table bits settings wires heads nexts) (length list)
       (contentions_number (contended B table bits list settings wires heads nexts)) (contentions_value (contended B table bits list settings wires heads nexts))
-  pub shelf_card : (B : Block) (table bits card settings : List ℕ) (room : RoomLent)
-      → CardGrounds B table bits (settings_read B table bits) (build_lent table bits settings room) (length card)
-      (carded_number (carded B table bits card settings room)) (carded_value (carded B table bits card settings room))
   -- the same of the report program: of reading its frames, and of its report, whose last line has the number and the place
   pub parse : (input : List ℕ) → ParseGrounds input (parsed input) (parsed_number (parsed input)) (parsed_place (parsed input))
   pub report : (input : List ℕ) → ReportSays input (report_of input)

@@ -25,7 +25,6 @@ use Rattle.equations.specs.Switches.{Contention, LowestContention}
 use Rattle.block.specs.declared.Built.TheVariants as builts
 use Rattle.block.specs.declared.Followed.TheVariants as followeds
 use Rattle.block.specs.declared.lengths.RoomLent.{RoomLent}
-use Rattle.block.specs.declared.lengths.FollowRoomLent.{FollowRoomLent}
 use Rattle.contention.specs.Entry.{settings_read}
 use Rattle.theorem.specs.Calls.{PassesFour, PassesNine, Beyond, built, followed, file_of}
 
@@ -79,8 +78,9 @@ pub record Demand2 : Type 0 where
   -- .. and "5: fight: lowest wire"
   pub fight_lowest : (B : Block) (table bits settings : List ℕ) (room : RoomLent) (w : ℕ)
       → built B table bits settings room ≡ builts.Refused (refusals.Contention w) → LowestContention B table (settings_read B table bits) w
-  pub follow_fight_exactly : (B : Block) (table settings : List ℕ) (room : FollowRoomLent) (tile port : ℕ) → PassesNine B table settings room
-      → ((w : ℕ) × (followed B table settings tile port room ≡ followeds.Refused (refusals.Contention w)))
+  pub follow_fight_exactly : (B : Block) (table settings wires sources marks : List ℕ) (tile port : ℕ)
+      → PassesNine B table settings wires sources marks
+      → ((w : ℕ) × (followed B table settings tile port wires sources marks ≡ followeds.Refused (refusals.Contention w)))
       ↔ ((w : ℕ) × Contention B table settings w)
-  pub follow_fight_lowest : (B : Block) (table settings : List ℕ) (room : FollowRoomLent) (tile port w : ℕ)
-      → followed B table settings tile port room ≡ followeds.Refused (refusals.Contention w) → LowestContention B table settings w
+  pub follow_fight_lowest : (B : Block) (table settings wires sources marks : List ℕ) (tile port w : ℕ)
+      → followed B table settings tile port wires sources marks ≡ followeds.Refused (refusals.Contention w) → LowestContention B table settings w

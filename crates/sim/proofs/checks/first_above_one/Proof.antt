@@ -6,7 +6,7 @@ use native.Mathlib.Nat.{sub-zero}
 use native.Mathlib.Omega.{arith}
 use borrow.Author.Tests.{lt-ltb, le-ltb}
 use Rattle.sim.proofs.ByteLaws.{low_bytes}
-use Rattle.sim.specs.Checks.{above_one, bad_byte}
+use Rattle.sim.specs.Stepping.{above_one, bad_byte}
 use Rattle.lists.proofs.SearchLaws.{first_turn_hit, first_turn_skip, first_turn_end}
 use Rattle.lists.specs.Search.{first}
 use borrow.Author.Rules.{rules}

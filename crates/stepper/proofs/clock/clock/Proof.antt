@@ -1,25 +1,29 @@
 -- `clock::clock` meets its contract. Invariant: the first c states are the next ones (`Filled`). Measure: the cells that are left. Assumes nothing.
-use borrow.Author.Rules.{rules}
-use Rattle.stepper.specs.Clocking.{handed, next_cell, next_states}
-use Rattle.ports.specs.Lengths.{state_length}
-use Rattle.lists.proofs.TableLaws.{Filled, filled_start, filled_step, filled_end}
-use mathlib.Core.Path.{◌≡◌, ◌∙◌, sym}
-use Prim.Native.Nat.{◌-◌}
 use native.Mathlib.Omega.{arith}
+use Prim.Native.Nat.{◌-◌, ◌*◌}
+use mathlib.Core.Path.{◌≡◌, ◌∙◌, sym}
+use Rattle.lists.proofs.TableLaws.{Filled, filled_start, filled_step, filled_end}
+use Rattle.ports.specs.Block.{tiles}
+use Rattle.stepper.specs.Clocking.{next_cell, next_states}
+use borrow.Author.Rules.{rules}
 use Rattle.stepper.proofs.clock.clock.Statement.{statement}
 use Rattle.stepper.proofs.clock.clock.Tie as tie
 
 abbrev invariant-loop : tie.invariant-loop
-invariant-loop s st before after state next₀ n c₀ next c = Filled (next_cell st (handed before) (handed after) state) 0 (state_length s) c next × (n ≡ state_length s)
+invariant-loop b st wires before after state next₀ n c₀ next c = Filled (next_cell b st before after state) 0 (8 * tiles b) c next × (n ≡ 8 * tiles b)
 
 abbrev decreases-loop : tie.decreases-loop
-decreases-loop s st before after state next₀ n c₀ next c = n - c
+decreases-loop b st wires before after state next₀ n c₀ next c = n - c
 
 loop-holds : tie.Need-loop-init invariant-loop decreases-loop
-loop-holds c = (filled_start _ 0 _ _ c.before.before.before.before.before.requires.1, c.before.before.before.before.before.requires.1)
+loop-holds c =
+    let at-start = c.before.before.before.before.before.before in
+    (filled_start _ 0 _ _ at-start.requires.5, at-start.requires.5)
 
 next-cell-requires : tie.Need-next-cell-requires invariant-loop decreases-loop
-next-cell-requires c κs = (c.before.before.before.before.before.before.before.requires.0, omega arith)
+next-cell-requires c κs =
+    let at-start = c.before.before.before.before.before.before.before.before in
+    (at-start.requires.0, omega arith, at-start.requires.1, at-start.requires.2, at-start.requires.3, at-start.requires.4)
 
 slice-write-next : tie.Need-slice-write-next invariant-loop decreases-loop
 slice-write-next c = search rules
@@ -31,14 +35,21 @@ loop-less : tie.Need-loop-smaller invariant-loop decreases-loop
 loop-less c = search rules
 
 loop-again : tie.Need-loop-preserved invariant-loop decreases-loop
-loop-again c = (filled_step _ 0 _ _ _ _ c.before.before.loop.invariant.0 (omega arith) c.next-cell.ensures, c.before.before.loop.invariant.1)
+loop-again c =
+    let at-loop = c.before.before in
+    (filled_step _ 0 _ _ _ _ at-loop.loop.invariant.0 (omega arith) c.next-cell.ensures, at-loop.loop.invariant.1)
 
 same_length : tie.Need-same-length invariant-loop decreases-loop
-same_length c = c.before.loop.invariant.0.long ∙ sym c.before.before.before.before.before.before.before.requires.1
+same_length c =
+    let at-loop = c.before in
+    let at-start = at-loop.before.before.before.before.before.before.before in
+    at-loop.loop.invariant.0.long ∙ sym at-start.requires.5
 
 returns : tie.Need-returns invariant-loop decreases-loop
 unfolding next_states
-returns c = filled_end _ 0 _ _ _ c.before.loop.invariant.0 (omega arith)
+returns c =
+    let at-loop = c.before in
+    filled_end _ 0 _ _ _ at-loop.loop.invariant.0 (omega arith)
 
 pub clock-spec : {M : Type 1} → statement M
 clock-spec =

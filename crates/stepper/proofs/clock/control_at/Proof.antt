@@ -1,4 +1,4 @@
--- `clock::control_at` meets its contract: each of the tile's ports is read from the set that the definition names. Assumes nothing.
+-- `clock::control_at` meets its contract: each of the tile's wires is read from the set that the definition names. Assumes nothing.
 use borrow.Author.Rules.{rules}
 use Rattle.stepper.proofs.clock.control_at.Statement.{statement}
 use Rattle.stepper.proofs.clock.control_at.Tie as tie
@@ -25,7 +25,14 @@ value-at-requires-5 : tie.Need-value-at-requires-5
 value-at-requires-5 c κs = search rules
 
 returns : tie.Need-returns
-returns c = rw (c.before.before.before.is-tick.ensures, c.before.before.before.before.before.before.tile-setting.ensures, c.before.before.before.before.before.value-at.ensures, c.before.before.before.before.value-at2.ensures, c.before.before.value-at3.ensures, c.before.value-at4.ensures, c.value-at5.ensures)
+returns c =
+    let at-value-at4 = c.before in
+    let at-value-at3 = at-value-at4.before in
+    let at-is-tick = at-value-at3.before in
+    let at-value-at2 = at-is-tick.before in
+    let at-value-at = at-value-at2.before in
+    let at-tile-setting = at-value-at.before in
+    rw (at-is-tick.is-tick.ensures, at-tile-setting.tile-setting.ensures, at-value-at.value-at.ensures, at-value-at2.value-at2.ensures, at-value-at3.value-at3.ensures, at-value-at4.value-at4.ensures, c.value-at5.ensures)
 
 pub control-at-spec : {M : Type 1} → statement M
 control-at-spec =

@@ -1,11 +1,12 @@
 -- `clock::lookup_at` meets its contract: the table is the cell's, and its inputs are bits. Assumes nothing.
-use Rattle.ports.specs.Block.{port_of}
-use Rattle.ports.specs.PortIndex.{in_port}
-use Rattle.cell.specs.declared.logic.Cell.{Cell}
-use Rattle.stepper.specs.Clocking.{handed}
-use native.Mathlib.Omega.{arith}
-use mathlib.Core.Path.{◌≡◌, ◌∙◌, ap}
 use Prim.Native.Nat.{ℕ, ◌+◌, ◌*◌, ◌<◌}
+use mathlib.Core.Path.{◌≡◌, ◌∙◌, ap}
+use native.Mathlib.Omega.{arith}
+use Rattle.stepper.specs.Clocking.{value_at}
+use Rattle.cell.specs.declared.logic.Cell.{Cell}
+use Rattle.ports.specs.PortIndex.{in_port}
+use Rattle.ports.specs.Block.{port_of}
+use Rattle.ports.proofs.BlockLaws.{port_of_lt}
 use borrow.Author.Rules.{rules}
 use Rattle.stepper.proofs.clock.lookup_at.Statement.{statement}
 use Rattle.stepper.proofs.clock.lookup_at.Tie as tie
@@ -44,22 +45,36 @@ cell-at-requires : tie.Need-cell-at-requires
 cell-at-requires c κs = search rules
 
 lookup-bit-requires : tie.Need-lookup-bit-requires
-lookup-bit-requires c κs = let a = c.before.before.before.before.before.before.before.args in
+lookup-bit-requires c κs =
+    let at-value-at4 = c.before in
+    let at-value-at3 = at-value-at4.before in
+    let at-value-at2 = at-value-at3.before in
+    let at-value-at = at-value-at2.before in
+    let at-start = at-value-at.before.before.before.before in
+    let a = at-start.args in
     let first : 372 + 4 * a.i ≡ in_port a.i 0 = omega arith in
-    let in0 = c.before.before.before.before.value-at.ensures ∙ ap (λ (q : ℕ). handed a.values.now a.tile q) first in
-    let bit : (j : ℕ) → handed a.values.now a.tile (in_port a.i j) < 2 = λ j. c.before.before.before.before.before.before.before.requires.3 (port_of a.tile (in_port a.i j)) in (
-      rw in0 (bit 0),
-      rw c.before.before.before.value-at2.ensures (bit 1),
-      rw c.before.before.value-at3.ensures (bit 2),
-      rw c.before.value-at4.ensures (bit 3),
+    let in0 = at-value-at.value-at.ensures ∙ ap (λ (q : ℕ). value_at a.b a.values.now a.tile q) first in
+    let bit : (j : ℕ) → j < 4 → value_at a.b a.values.now a.tile (in_port a.i j) < 2 = λ j l. at-start.requires.4 (port_of a.tile (in_port a.i j)) (port_of_lt a.b a.tile (in_port a.i j) at-start.requires.1 (omega arith)) in (
+      rw in0 (bit 0 (omega arith)),
+      rw at-value-at2.value-at2.ensures (bit 1 (omega arith)),
+      rw at-value-at3.value-at3.ensures (bit 2 (omega arith)),
+      rw at-value-at4.value-at4.ensures (bit 3 (omega arith)),
     )
 
 returns : tie.Need-returns
-returns c = let a = c.before.before.before.before.before.before.before.before.args in
+returns c =
+    let at-cell-at = c.before in
+    let at-value-at4 = at-cell-at.before in
+    let at-value-at3 = at-value-at4.before in
+    let at-value-at2 = at-value-at3.before in
+    let at-value-at = at-value-at2.before in
+    let at-start = at-value-at.before.before.before.before in
+    let a = at-start.args in
     let first : 372 + 4 * a.i ≡ in_port a.i 0 = omega arith in
-    let in0 = c.before.before.before.before.before.value-at.ensures ∙ ap (λ (q : ℕ). handed a.values.now a.tile q) first in
-    let table = ap (λ (x : Cell). x.table) c.before.cell_at.ensures in
-    c.lookup-bit.ensures ∙ rw (table, in0, c.before.before.before.before.value-at2.ensures, c.before.before.before.value-at3.ensures, c.before.before.value-at4.ensures)
+    let in0 = at-value-at.value-at.ensures ∙ ap (λ (q : ℕ). value_at a.b a.values.now a.tile q) first in
+    let table = ap (λ (x : Cell). x.table) at-cell-at.cell_at.ensures in
+    c.lookup-bit.ensures
+    ∙ rw (table, in0, at-value-at2.value-at2.ensures, at-value-at3.value-at3.ensures, at-value-at4.value-at4.ensures)
 
 pub lookup-at-spec : {M : Type 1} → statement M
 lookup-at-spec =

@@ -1,0 +1,54 @@
+// A step whose block has a size and whose lengths are right: the checks of the contents, then what is written.
+ghost use Rattle.std.specs.Prelude.{◌≡◌};
+ghost use Rattle.refusal.specs.Grounds.{answer_number};
+ghost use Rattle.refusal.specs.Memory.{output};
+ghost use Rattle.ports.specs.Block.{Sized};
+ghost use Rattle.stepper.specs.Settling.{settled_by, port_values};
+ghost use Rattle.stepper.specs.Clocking.{next_states};
+ghost use Rattle.sim.specs.Stepping.{inputs_answer};
+ghost use Rattle.sim.specs.Lengths.{inputs_lent, InputsLong, step_room_lent, StepRoomLong};
+
+use crate::checks::check_inputs;
+use ports::size::Block;
+use refusal::Answer;
+use stepper::write_step;
+
+// Grounds 3, 9, 12 and 10, and on a yes what is written.
+pub fn step_checked(
+    b: Block,
+    table: &[u16],
+    settings: &[u16],
+    list: &[u16],
+    state: &[u8],
+    before: &[u8],
+    after: &[u8],
+    values: &mut [u8],
+    next: &mut [u8],
+    wires: &mut [u16],
+    own: &mut [u16],
+    marks: &mut [u16],
+    first: &mut [u8],
+    second: &mut [u8],
+) -> Answer
+    requires sized { Sized b }
+    requires inputs_long { InputsLong b (inputs_lent table.now settings.now list.now state.now before.now after.now) }
+    requires step_room_long { StepRoomLong b (step_room_lent values.old next.old wires.old own.old marks.old first.old second.old) }
+    ensures answer { result ≡ inputs_answer b table.now settings.now list.now
+        state.now before.now after.now }
+    ensures values { values.new ≡ output (answer_number result) values.old
+        (port_values b (settled_by b list.now state.now before.now)) }
+    ensures next { next.new ≡ output (answer_number result) next.old
+        (next_states b settings.now (settled_by b list.now state.now before.now)
+        (settled_by b list.now state.now after.now) state.now) }
+{
+    let r = check_inputs(
+        b, table, settings, list, state, before, after, wires, own, marks,
+    );
+    let Answer::Done = r else {
+        return r;
+    };
+    write_step(
+        b, settings, list, state, before, after, wires, own, values, next, first, second,
+    );
+    Answer::Done
+}

@@ -2,7 +2,7 @@
 use Prim.Native.Nat.{ℕ, ◌<◌}
 use mathlib.Core.Path.{◌≡◌, refl, sym, ◌∙◌, ap, subst}
 use mathlib.Core.List.{List, [], ◌∷◌}
-use types.Run.{OneOf, miss}
+use types.Run.{OneOf, hit, miss}
 use denote.Enum.Declared.{tag_of}
 use Rattle.ports.specs.declared.size.Block.{Block}
 use Rattle.ports.specs.declared.Port.{Port}
@@ -53,6 +53,49 @@ lone_wire B x y CarryInMux h = refl
 lone_wire B x y (Cout i) h = refl
 lone_wire B x y (Lout i) h = refl
 lone_wire B x y Ltin h = absurd (miss lone_names 22 tt h)
+
+-- the port's name is none of those that an arm of its own takes
+pub record NoJoined (P : Port) : Type 0 where
+  pub not_sp4hl : (k : ℕ) → P ≡ Sp4HL k → ⊥
+  pub not_sp4hr : (k : ℕ) → P ≡ Sp4HR k → ⊥
+  pub not_sp4vt : (k : ℕ) → P ≡ Sp4VT k → ⊥
+  pub not_sp4vb : (k : ℕ) → P ≡ Sp4VB k → ⊥
+  pub not_sp4rvb : (k : ℕ) → P ≡ Sp4RVB k → ⊥
+  pub not_sp12hl : (k : ℕ) → P ≡ Sp12HL k → ⊥
+  pub not_sp12hr : (k : ℕ) → P ≡ Sp12HR k → ⊥
+  pub not_sp12vt : (k : ℕ) → P ≡ Sp12VT k → ⊥
+  pub not_sp12vb : (k : ℕ) → P ≡ Sp12VB k → ⊥
+  pub not_out : (i : ℕ) → P ≡ Out i → ⊥
+  pub not_neigh_op : (dx dy i : ℕ) → P ≡ NeighOp dx dy i → ⊥
+  pub not_glb_netwk : (n : ℕ) → P ≡ GlbNetwk n → ⊥
+  pub not_carry_in : P ≡ CarryIn → ⊥
+  pub not_ltin : P ≡ Ltin → ⊥
+
+-- then it is one of the names that no join has on its lower side
+pub lone_name : (P : Port) → NoJoined P → OneOf lone_names (tag_of the_type P)
+lone_name (Sp4HL k) h = absurd (h.not_sp4hl k refl)
+lone_name (Sp4HR k) h = absurd (h.not_sp4hr k refl)
+lone_name (Sp4VT k) h = absurd (h.not_sp4vt k refl)
+lone_name (Sp4VB k) h = absurd (h.not_sp4vb k refl)
+lone_name (Sp4RVB k) h = absurd (h.not_sp4rvb k refl)
+lone_name (Sp12HL k) h = absurd (h.not_sp12hl k refl)
+lone_name (Sp12HR k) h = absurd (h.not_sp12hr k refl)
+lone_name (Sp12VT k) h = absurd (h.not_sp12vt k refl)
+lone_name (Sp12VB k) h = absurd (h.not_sp12vb k refl)
+lone_name (Local k) h = hit lone_names 9 tt
+lone_name (Glb2Local k) h = hit lone_names 10 tt
+lone_name (In i j) h = hit lone_names 11 tt
+lone_name (Out i) h = absurd (h.not_out i refl)
+lone_name (NeighOp dx dy i) h = absurd (h.not_neigh_op dx dy i refl)
+lone_name Clk h = hit lone_names 14 tt
+lone_name Cen h = hit lone_names 15 tt
+lone_name SR h = hit lone_names 16 tt
+lone_name (GlbNetwk n) h = absurd (h.not_glb_netwk n refl)
+lone_name CarryIn h = absurd (h.not_carry_in refl)
+lone_name CarryInMux h = hit lone_names 19 tt
+lone_name (Cout i) h = hit lone_names 20 tt
+lone_name (Lout i) h = hit lone_names 21 tt
+lone_name Ltin h = absurd (h.not_ltin refl)
 
 -- the same for the code, which has the port's index at hand
 pub lone_port : (B : Block) (x y q r : ℕ) (P : Port) → q < ports_per_tile → P ≡ port_at q → OneOf lone_names (tag_of the_type P) → r ≡ port B x y q → r ≡ wire_at B x y P

@@ -8,14 +8,13 @@ use native.Mathlib.Omega.{arith}
 use native.Mathlib.Nat.{le_antisymm}
 use borrow.Author.Tests.{eq-eqb, eqb-true}
 use lib.ListN.{length, get_or}
-use Rattle.lists.proofs.CountLaws.{count_le}
 use Rattle.lists.proofs.TableLaws.{tabulate_length, tabulate_zero}
 use Rattle.ports.specs.declared.size.Block.{Block}
 use Rattle.ports.specs.Block.{Sized}
 use Rattle.ports.specs.Lengths.{ports}
 use Rattle.fabric.specs.Joins.{Linked, Lowest, back, on}
 use Rattle.fabric.specs.Wire.{wire_of, wires_of}
-use Rattle.fabric.specs.Count.{own_wire, wires}
+use Rattle.fabric.specs.Count.{own_wire}
 use Rattle.ports.proofs.BlockLaws.{ports_le}
 use Rattle.fabric.proofs.JoinLaws.{linked_same, linked_within}
 use Rattle.fabric.proofs.PortReach.{reach}

@@ -23,14 +23,14 @@ use Rattle.cell.specs.Settings.{cell_of, flags_of}
 use Rattle.cell.proofs.SettingsLaws.{flags_of_cell}
 use Rattle.routing.specs.TileKind.{bits_per_cell}
 use Rattle.routing.specs.LogicTile.{logic_tile, lc_bits, lc_position, cell_position}
-use Rattle.routing.proofs.LogicTileLaws.{cell_position_lt, cell_position_once}
+use Rattle.routing.proofs.LogicTileLaws.{cell_position_once}
 use Rattle.codec.specs.Bits.{bit_at, set_bits}
 use Rattle.ports.specs.Lengths.{tile_numbers, settings_length}
 use Rattle.codec.specs.Settings.{cells_from}
 use Rattle.codec.specs.Cells.{cell_value, cell_number, cell_bit_in, value_in, cell_in, cells_in, cell_setting, cell_settings, empty_cell}
 use Rattle.codec.specs.Cells.{cell_zero, no_cells, write_cells, put_cells, same_cell}
-use Rattle.codec.proofs.BitLaws.{bit_lt, bit_of_zeros, position_within}
-use Rattle.codec.proofs.SetBitsLaws.{set_bits_other, set_bits_back, set_bits_clear}
+use Rattle.codec.proofs.BitLaws.{bit_lt, bit_of_zeros}
+use Rattle.codec.proofs.SetBitsLaws.{set_bits_other, set_bits_clear}
 
 pub value_lt : (bits : List ℕ) (i : ℕ) → value_in (bit_at bits) i < 2 ^ bits_per_cell
 value_lt bits i = from_digits_lt (cell_bit_in (bit_at bits) i) (λ j. bit_lt bits _) bits_per_cell

@@ -1,7 +1,7 @@
 -- The bits of a tile in the form in which they are lent: words, one for each row. Beside this file, Held.antt, `src/bits.rt`, `src/held.rt` and their
 -- laws, these know that form: `bits_of` (Encode.antt), which makes it; `write_value` (src/cells.rt), which writes a cell's two rows; `is_past_at`
 -- (src/fault.rt), which looks past a row's columns; `take_row` of `tile`, which goes through a tile row by row; and `asc`, whose rows are the same.
-use Rattle.std.specs.Prelude.{ℕ, zero, suc, ◌+◌, ◌/◌, ◌%◌, Bool, List, eqb, get_or, set}
+use Rattle.std.specs.Prelude.{ℕ, zero, suc, ◌/◌, ◌%◌, Bool, List, eqb, get_or, set}
 use Rattle.lists.specs.Search.{all_from, count_below}
 use Rattle.digits.specs.Digits.{digit, set_digit}
 use Rattle.ports.specs.Lengths.{columns, tile_numbers}

@@ -1,5 +1,5 @@
 -- Writing a tile: the bits of its settings. Each claimed position has what its owner's setting puts there, every other is 0.
-use Rattle.std.specs.Prelude.{ℕ, ◌+◌, ◌-◌, ◌*◌, ◌/◌, ◌%◌, cond, List, ltb}
+use Rattle.std.specs.Prelude.{ℕ, ◌-◌, ◌/◌, ◌%◌, cond, List, ltb}
 use Rattle.digits.specs.Digits.{digit}
 use Rattle.routing.specs.TileKind.{bits_per_cell}
 use Rattle.routing.specs.LogicTile.{logic_tile}

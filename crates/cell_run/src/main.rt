@@ -6,11 +6,10 @@ ghost use Rattle.std.specs.Prelude.{◌<◌};
 
 use cell::flip_flop::{Control, FlipFlop};
 use cell::logic::{Cell, Looked};
-use libc::STDOUT_FILENO;
 
-fn put(c: u8) {
+fn put(rt: &impl Print, c: u8) {
     let line = [c];
-    io::write_all(STDOUT_FILENO, &line);
+    let _ = rt.write_all(&line);
 }
 
 // Bit k of a number, as a byte.
@@ -70,35 +69,35 @@ fn looked_up_bits(table: u16, n: u32) -> u8 {
 }
 
 // A table with one bit set, then that bit alone clear.
-fn print_lookups(k: u32) {
+fn print_lookups(rt: &impl Print, k: u32) {
     if k < 16 {
         let table: u16 = 1 << k;
         for inputs in 0..18 {
-            put(looked_up(table, inputs));
+            put(rt, looked_up(table, inputs));
         }
         for inputs in 0..16 {
-            put(looked_up_bits(65535 - table, inputs));
+            put(rt, looked_up_bits(65535 - table, inputs));
         }
-        put(b'\n');
+        put(rt, b'\n');
     }
 }
 
-fn main() {
+fn main(rt: HostRuntime) {
     for n in 0..8 {
-        put(tick_of(n));
+        put(&rt, tick_of(n));
     }
-    put(b'\n');
+    put(&rt, b'\n');
     for n in 0..512 {
-        put(next_of(n));
+        put(&rt, next_of(n));
         if n % 64 == 63 {
-            put(b'\n');
+            put(&rt, b'\n');
         }
     }
     for n in 0..8 {
-        put(majority_of(n));
+        put(&rt, majority_of(n));
     }
-    put(b'\n');
+    put(&rt, b'\n');
     for k in 0..16 {
-        print_lookups(k);
+        print_lookups(&rt, k);
     }
 }

@@ -2,7 +2,11 @@
 // and prints each report behind its number. `stdout` holds what the users' vectors and the real blocks' files say.
 #![tactic(auto)]
 
-use libc::STDOUT_FILENO;
+ghost use Rattle.std.specs.Prelude.{◌≤◌, length};
+
+use std::fs::File;
+use std::io::Read;
+use std::rt::Files;
 
 fn figure(n: u32) -> u8 {
     b'0' + (n % 10) as u8
@@ -21,32 +25,48 @@ fn name(n: u32) -> [u8; 7] {
     ]
 }
 
+// Reads until the room is full, the input ends or a read fails: how many bytes are at its start.
+fn read_full<R: Read>(reader: &mut R, room: &mut [u8]) -> usize
+    ensures { result ≤ length room.new }
+{
+    let mut done = 0;
+    while done < room.len() {
+        match reader.read(&mut room[done..]) {
+            Ok(0) => break,
+            Ok(n) => done += n,
+            Err(_) => break,
+        }
+    }
+    done
+}
+
 // The report of one file.
-fn run(fd: i32) {
+fn run<R: Read>(rt: &impl Print, file: &mut R) {
     let mut input = reporting::input_room();
-    let got = io::read_full(fd, &mut input);
+    let got = read_full(file, &mut input);
     let mut out = reporting::output_room();
     let written = reporting::report(&input[..got], &mut out);
-    io::write_all(STDOUT_FILENO, &out[..written]);
+    let _ = rt.write_all(&out[..written]);
 }
 
 // Runs input n, if there is one.
-fn run_number(n: u32) -> bool {
+fn run_number(rt: &(impl Files + Print), n: u32) -> bool {
     let path = name(n);
-    let fd = os::open_read(&path);
-    if fd < 0 {
+    let Ok(text) = str::from_utf8(&path) else {
         return false;
-    }
-    io::write_all(STDOUT_FILENO, &path);
-    io::write_all(STDOUT_FILENO, b"\n");
-    run(fd);
-    libc::close(fd);
+    };
+    let Ok(mut file) = File::open(rt, text) else {
+        return false;
+    };
+    let _ = rt.write_all(&path);
+    let _ = rt.write_all(b"\n");
+    run(rt, &mut file);
     true
 }
 
-fn main() {
+fn main(rt: HostRuntime) {
     for n in 0..10000 {
-        if !run_number(n) {
+        if !run_number(&rt, n) {
             return;
         }
     }

@@ -19,11 +19,11 @@ data Turns : Stage → List Frame → Stage → Type 0 where
   and_then : {stage next end : Stage} {f : Frame} {fs : List Frame} → Turn stage f next → Turns next fs end → Turns stage (f ∷ fs) end
 
 -- where they stand one behind another, they have begun
-run : {s : List ℕ} {gs fs : List Frame} {at b : ℕ} {stage end : Stage} → Turns stage fs end → Begins s gs at stage → Each Proper fs → Each Sized fs
-    → Spans s at (text fs) b → Begins s (gs ++ fs) b end
-run {s} {gs} {at = at} {b} {end = end} no_more begins fit sized h =
+run : {s : List ℕ} {fs : List Frame} {b : ℕ} {stage end : Stage} → Turns stage fs end → {gs : List Frame} {at : ℕ} → Begins s gs at stage → Each Proper fs
+    → Each Sized fs → Spans s at (text fs) b → Begins s (gs ++ fs) b end
+run {s} {b = b} {end = end} no_more {gs} {at} begins fit sized h =
     subst (λ (l : List Frame). Begins s l b end) (sym (append-nil gs)) (subst (λ (i : ℕ). Begins s gs i end) (sym (add-zero at) ∙ h.ends) begins)
-run {s} {gs} {at = at} {b} {end = end} (and_then {f = f} {fs = fs} turn rest) begins fit sized h =
+run {s} {b = b} {end = end} (and_then {f = f} {fs = fs} turn rest) {gs} {at} begins fit sized h =
     subst (λ (l : List Frame). Begins s l b end) (append_assoc gs (f ∷ []) fs)
     (run rest (one_more begins turn fit.0 sized.0 (spans_left (line f) (text fs) h).stands) fit.1 sized.1 (spans_right (line f) (text fs) h))
 

@@ -1,7 +1,7 @@
 -- What a wire's value comes from. Two settings, of blocks with the same wires, which give a wire and all that it depends on one equation each, and lent
 -- values that agree where these are lent, give the wire one value. Main laws: `same_value`; `says_row`: a wire has one equation; `lent_open`, `open_row`: a
 -- lent row is an open wire's. Assumes nothing.
-use Prim.Native.Nat.{ℕ, ◌*◌, ◌/◌, ◌%◌, ◌<◌}
+use Prim.Native.Nat.{ℕ, ◌/◌, ◌%◌, ◌<◌}
 use mathlib.Core.Path.{◌≡◌, refl, sym, ap, subst, ◌∙◌}
 use mathlib.Core.Bool.{true}
 use mathlib.Core.List.{List}
@@ -16,7 +16,6 @@ use Rattle.fabric.specs.Wire.{wire_of}
 use Rattle.netlist.specs.declared.row.Row.{Row}
 use Rattle.netlist.specs.Kinds.{lent_kind}
 use Rattle.netlist.specs.Rows.{operand_of}
-use Rattle.netlist.specs.Running.{row_value}
 use Rattle.netlist.proofs.AgreeLaws.{agree}
 use Rattle.netlist.proofs.ValueLaws.{row_value_local, row_value_lent}
 use Rattle.equations.specs.declared.drives.Drive.{Drive}

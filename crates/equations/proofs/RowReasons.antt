@@ -12,19 +12,19 @@ use Rattle.lists.proofs.CaseLaws.{clash, lt_or_le}
 use Rattle.ports.specs.declared.size.Block.{Block}
 use Rattle.ports.specs.Block.{tiles, port_of}
 use Rattle.ports.specs.Lengths.{ports, ports_per_tile}
-use Rattle.ports.specs.PortIndex.{out_port, cout_port, lout_port, carry_in, carry_in_mux, cen}
+use Rattle.ports.specs.PortIndex.{out_port, cout_port, lout_port, carry_in, carry_in_mux}
 use Rattle.fabric.specs.Wire.{wire_of}
 use Rattle.ports.proofs.BlockLaws.{port_of_lt}
 use Rattle.fabric.proofs.WireLaws.{wire_idempotent}
 use Rattle.netlist.specs.declared.row.Row.{Row}
-use Rattle.netlist.specs.Kinds.{lent_kind, zero_kind, one_kind, flip_flop_kind, copy_kind}
+use Rattle.netlist.specs.Kinds.{zero_kind, one_kind, flip_flop_kind, copy_kind}
 use Rattle.netlist.specs.Rows.{zero_row}
 use Rattle.equations.specs.declared.drives.Drive.{Drive}
 use Rattle.equations.specs.declared.drives.Drive.TheVariants.{Nothing, Low, High, CellOut, CellLout, CellCout, CarryMux}
 use Rattle.equations.specs.Tiles.{carry_on, flop_on, carry_set, chained}
 use Rattle.equations.specs.Switches.{switches, origin, Ends, NoSwitch, NoContention}
 use Rattle.equations.specs.Routed.{Routed}
-use Rattle.equations.specs.Equations.{wire, ZeroPort, OpenPort, NoCell, Undriven}
+use Rattle.equations.specs.Equations.{NoCell}
 use Rattle.equations.specs.Drives.{drive_of}
 use Rattle.equations.specs.RowMeaning.{plain_row, lookup_row, majority_row, RowSays, switch_copies, open_lent, no_switch_zero, no_switch_one, out_flip_flop, out_lookup, lout_lookup, cout_majority, cout_zero, mux_one, mux_copies, mux_zero}
 use Rattle.equations.specs.WireRows.{drive_row, driver, row_of}

@@ -29,7 +29,7 @@ use Rattle.equations.specs.Routed.{Routed}
 use Rattle.equations.specs.Equations.{Meets, NoLoop}
 use Rattle.equations.specs.WireRows.{wire_rows}
 use Rattle.equations.specs.Settling.{block_list, run_of, Inputs, Settles}
-use Rattle.equations.specs.RowMeaning.{RowSays, switch_copies, open_lent, no_switch_zero, no_switch_one, out_flip_flop, out_lookup, lout_lookup, cout_majority, cout_zero, mux_one, mux_copies, mux_zero}
+use Rattle.equations.specs.RowMeaning.{switch_copies, open_lent, no_switch_zero, no_switch_one, out_flip_flop, out_lookup, lout_lookup, cout_majority, cout_zero, mux_one, mux_copies, mux_zero}
 use Rattle.equations.proofs.RowReasons.{Why, no_wire, says, why}
 use Rattle.equations.proofs.WireRowLaws.{graph, row_is, kind_past, own_wire_lem, wire_own, rows_named}
 use Rattle.equations.proofs.EqualLaws.{meets_solves, solves_meets}

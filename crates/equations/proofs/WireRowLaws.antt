@@ -3,7 +3,7 @@
 use Prim.Native.Nat.{ℕ, ◌+◌, ◌*◌, ◌≤◌, ◌<◌}
 use mathlib.Core.Path.{◌≡◌, refl, ◌∙◌, ap}
 use mathlib.Core.Bool.{true, false}
-use mathlib.Core.Logic.{⊎_elim, ◌≢◌, ◌↔◌}
+use mathlib.Core.Logic.{⊎_elim, ◌≢◌}
 use mathlib.Core.List.{List}
 use native.Mathlib.Omega.{arith}
 use lib.ListN.{length, get_or-eq_default}
@@ -21,7 +21,7 @@ use Rattle.netlist.specs.Rows.{row_length, row_at, graph_of}
 use Rattle.netlist.proofs.RowLaws.{rows_length_lem, row_rows}
 use Rattle.equations.specs.declared.drives.Drive.TheVariants.{CellOut, CellLout, CellCout, CarryMux}
 use Rattle.equations.specs.Tiles.{carry_on, flop_on, carry_set, chained}
-use Rattle.equations.specs.RowMeaning.{plain_row, lookup_row, majority_row, RowSays, switch_copies, open_lent, no_switch_zero, no_switch_one, out_flip_flop, out_lookup, lout_lookup, cout_majority, cout_zero, mux_one, mux_copies, mux_zero}
+use Rattle.equations.specs.RowMeaning.{plain_row, lookup_row, majority_row, switch_copies, open_lent, no_switch_zero, no_switch_one, out_flip_flop, out_lookup, lout_lookup, cout_majority, cout_zero, mux_one, mux_copies, mux_zero}
 use Rattle.equations.specs.WireRows.{drive_row, row_of, wire_rows}
 use Rattle.equations.proofs.RowReasons.{Why, no_wire, says, why}
 

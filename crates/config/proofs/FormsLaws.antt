@@ -20,7 +20,6 @@ use Rattle.config.specs.Blocks.{tiles_of, decoded}
 use Rattle.config.specs.Facts.{LowestFault, TilesRead}
 use Rattle.config.specs.Entry.{read_answer, read_answer_of, bit_count_answer}
 use Rattle.config.specs.Bytes.{read_bytes_answer, count_bytes_answer}
-use Rattle.config.specs.declared.BitCount.{BitCount}
 use Rattle.config.specs.declared.BitCount.TheVariants as counted
 
 module _ (table : List ℕ) (n : ℕ) (bytes : List ℕ) (long : length bytes ≡ tile_bytes * n) where

@@ -2,6 +2,7 @@
 pub mod MeaningLaws  -- read_means, write_means: every answer says what specs/Meaning.antt has it say
 pub mod ExactLaws  -- read_exact, write_exact: one answer, and one content of the lent memory, only
 pub mod RoundTrip  -- written_reads, read_writes: both round trips of a block
+pub mod KeptLaws  -- output_not_done: an output after an answer that is not done
 pub mod PassedLaws  -- read_passed, read_clean, write_passed, write_fit: what a yes has passed
 pub mod EntryLaws  -- read-.., write-..: the answers, ground by ground; lengths_exact
 pub mod BitCountLaws  -- count-..: the same of a bit count

@@ -2,7 +2,7 @@
 -- serves `follow` and `step` too.
 use Rattle.std.specs.Prelude.{ℕ, ◌+◌, ◌*◌, ◌<◌, ◌≡◌, List, length}
 use Rattle.ports.specs.declared.size.Size.{Size}
-use Rattle.ports.specs.Block.{Allowed, tile_count}
+use Rattle.ports.specs.Block.{Allowed}
 use Rattle.routing.specs.LogicTile.{logic_tile}
 use Rattle.ports.specs.Lengths.{table_length, bits_length, settings_total}
 use Rattle.routing.specs.Rules.{TableRules, FirstBroken}

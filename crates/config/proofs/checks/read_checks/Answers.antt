@@ -1,0 +1,104 @@
+-- `config::checks::read_checks` meets its contract: each return is one way through `read_answer`, and the last has read all tiles into the front of the
+-- room. Assumes nothing.
+use mathlib.Core.Path.{sym, ap, ◌∙◌}
+use Prim.Native.Nat.{ℕ, ◌+◌, ◌*◌}
+use native.Mathlib.Omega.{arith}
+use borrow.Author.Tests.{eq-eqb}
+use lib.ListN.{length, drop}
+use lib.Seq.{take_at}
+use Rattle.lists.proofs.SearchLaws.{first_le}
+use Rattle.ports.proofs.BlockLaws.{allowed_exact, tile_count_le}
+use Rattle.ports.specs.Block.{tile_count}
+use Rattle.routing.proofs.TableCheckLaws.{table_exact}
+use Rattle.routing.specs.LogicTile.{logic_tile}
+use Rattle.routing.specs.TableCheck.{breaks, faulty_part, part_count}
+use Rattle.config.specs.Blocks.{faulty_place, tiles_of}
+use Rattle.config.specs.Facts.{Checked}
+use Rattle.config.proofs.EntryLaws.{lengths_exact, read_size, read_length, read_table, read_undecodable, read_done}
+use Rattle.config.proofs.BlocksLaws.{front_length}
+use Rattle.config.proofs.PassedLaws.{refused_not_done}
+use Rattle.config.proofs.checks.read_checks.Goals as goal
+
+-- W or H not 1 to 8
+pub returns-then-not-is_allowed : goal.returns-then-not-is_allowed
+returns-then-not-is_allowed c =
+    let args = c.args in
+    record { answer = read_size args.s args.table.now args.bits.now args.settings (sym c.is_allowed.ensures ∙ c.if-not-is_allowed.true); room = λ e. refused_not_done e }
+
+-- a length that is not exact
+pub returns-then-not-lengths_ok : goal.returns-then-not-lengths_ok
+returns-then-not-lengths_ok c =
+    let args = c.args in
+    let table = args.table.now in
+    let size = (allowed_exact args.s).0 (sym c.is_allowed.ensures ∙ c.if-not-is_allowed.false) in
+    record { answer = read_length args.s table args.bits.now args.settings size (sym c.lengths_ok.ensures ∙ c.if-not-lengths_ok.true); room = λ e. refused_not_done e }
+
+pub overflow_cast-result : goal.overflow_cast-result
+overflow_cast-result c =
+    let table = c.args.table.now in
+    omega (arith, c.shared_slice_known-1.given 68, c.check_table-part.ensures.part, first_le (breaks logic_tile table) 0 (part_count logic_tile table))
+
+-- a table that breaks a rule
+pub returns-then-part-parts : goal.returns-then-part-parts
+returns-then-part-parts c =
+    let args = c.args in
+    let table = args.table.now in
+    let size = (allowed_exact args.s).0 (sym c.is_allowed.ensures ∙ c.if-not-is_allowed.false) in
+    let lengths = (lengths_exact args.s (length table) (length args.bits.now) args.settings).0 (sym c.lengths_ok.ensures ∙ c.if-not-lengths_ok.false) in
+    record { answer = read_table args.s table args.bits.now args.settings size lengths _ c.check_table-part.ensures.part (λ e. c.if-part-parts.true (e ∙ sym (ap (λ (x : ℕ). 2 + x) c.group_count-parts.ensures))); room = λ e. refused_not_done e }
+
+pub slice_bounds-read_block-end-2 : goal.slice_bounds-read_block-end-2
+slice_bounds-read_block-end-2 c =
+    let args = c.args in
+    let table = args.table.now in
+    let size = (allowed_exact args.s).0 (sym c.is_allowed.ensures ∙ c.if-not-is_allowed.false) in
+    let lengths = (lengths_exact args.s (length table) (length args.bits.now) args.settings).0 (sym c.lengths_ok.ensures ∙ c.if-not-lengths_ok.false) in
+    let few = tile_count_le args.s size in
+    omega (arith, lengths.settings_long, c.requires)
+
+pub slice_bounds-read_block-end-3 : goal.slice_bounds-read_block-end-3
+slice_bounds-read_block-end-3 c =
+    let args = c.args in
+    let table = args.table.now in
+    let size = (allowed_exact args.s).0 (sym c.is_allowed.ensures ∙ c.if-not-is_allowed.false) in
+    let lengths = (lengths_exact args.s (length table) (length args.bits.now) args.settings).0 (sym c.lengths_ok.ensures ∙ c.if-not-lengths_ok.false) in
+    let few = tile_count_le args.s size in
+    sym (front_length (tile_count args.s) args.settings args.room.now few lengths.settings_long c.requires)
+
+pub read_block-place-requires : goal.read_block-place-requires
+read_block-place-requires c =
+    let args = c.args in
+    let table = args.table.now in
+    let size = (allowed_exact args.s).0 (sym c.is_allowed.ensures ∙ c.if-not-is_allowed.false) in
+    let lengths = (lengths_exact args.s (length table) (length args.bits.now) args.settings).0 (sym c.lengths_ok.ensures ∙ c.if-not-lengths_ok.false) in
+    let passes = eq-eqb (faulty_part logic_tile table) (part_count logic_tile table) (sym c.check_table-part.ensures.part ∙ c.if-part-parts.false ∙ ap (λ (x : ℕ). 2 + x) c.group_count-parts.ensures) in
+    let rules = (table_exact logic_tile table lengths.table_long).0 passes in
+    let few = tile_count_le args.s size in
+    (few, rules, c.check_table-part.ensures.map passes, lengths.bits_long, front_length (tile_count args.s) args.settings args.room.now few lengths.settings_long c.requires ∙ lengths.settings_long)
+
+-- a tile that cannot be decoded
+pub returns-then-place-n : goal.returns-then-place-n
+returns-then-place-n c =
+    let args = c.args in
+    let table = args.table.now in
+    let size = (allowed_exact args.s).0 (sym c.is_allowed.ensures ∙ c.if-not-is_allowed.false) in
+    let lengths = (lengths_exact args.s (length table) (length args.bits.now) args.settings).0 (sym c.lengths_ok.ensures ∙ c.if-not-lengths_ok.false) in
+    let passes = eq-eqb (faulty_part logic_tile table) (part_count logic_tile table) (sym c.check_table-part.ensures.part ∙ c.if-part-parts.false ∙ ap (λ (x : ℕ). 2 + x) c.group_count-parts.ensures) in
+    let rules = (table_exact logic_tile table lengths.table_long).0 passes in
+    let checked : Checked args.s table (length args.bits.now) args.settings = record { size = size; lengths = lengths; rules = rules } in
+    record { answer = read_undecodable args.s table args.bits.now args.settings checked _ c.read_block-place.ensures.place c.if-place-n.true; room = λ e. refused_not_done e }
+
+-- none of these
+pub returns : goal.returns
+returns c =
+    let args = c.args in
+    let table = args.table.now in
+    let size = (allowed_exact args.s).0 (sym c.is_allowed.ensures ∙ c.if-not-is_allowed.false) in
+    let lengths = (lengths_exact args.s (length table) (length args.bits.now) args.settings).0 (sym c.lengths_ok.ensures ∙ c.if-not-lengths_ok.false) in
+    let passes = eq-eqb (faulty_part logic_tile table) (part_count logic_tile table) (sym c.check_table-part.ensures.part ∙ c.if-part-parts.false ∙ ap (λ (x : ℕ). 2 + x) c.group_count-parts.ensures) in
+    let rules = (table_exact logic_tile table lengths.table_long).0 passes in
+    let checked : Checked args.s table (length args.bits.now) args.settings = record { size = size; lengths = lengths; rules = rules } in
+    let part = c.read_block-place.new.settings in
+    let few = tile_count_le args.s size in
+    let long = c.read_block-place.auto.settings ∙ front_length (tile_count args.s) args.settings args.room.now few lengths.settings_long c.requires in
+    record { answer = read_done args.s table args.bits.now args.settings checked _ c.read_block-place.ensures.place c.if-place-n.false; room = λ e. take_at part (drop args.settings args.room.now) args.settings long ∙ c.read_block-place.ensures.settings (omega (arith, c.if-place-n.false, c.read_block-place.ensures.place, first_le (faulty_place table (tiles_of args.bits.now)) 0 (864 * tile_count args.s))) }

@@ -1,0 +1,32 @@
+-- `sources::find_sources` meets its contract. Invariant: the pass has taken the switches of the tiles before `tile` (`Sourced`). Measure: the tiles
+-- that are left. Assumes nothing.
+use Rattle.ports.specs.Lengths.{ports}
+use lib.ListN.{length}
+use Rattle.equations.proofs.Sourcing.{sourced_start, sourced_end}
+use Rattle.equations.specs.Sources.{Sourced}
+use Rattle.ports.proofs.BlockLaws.{tiles_le}
+use Rattle.lists.specs.Tables.{zeros}
+use native.Mathlib.Omega.{arith}
+use mathlib.Core.List.{List}
+use mathlib.Core.Path.{sym, ap, subst, ◌∙◌}
+use Prim.Native.Nat.{ℕ}
+use Rattle.drivers.proofs.sources.find_sources.Goals as goal
+
+pub loop-tile-init : goal.loop-tile-init
+loop-tile-init c =
+    let a = c.args in
+    let B = a.b in
+    let t = a.table.now in
+    let st = a.st.now in
+    let ok = c.requires.0 in
+    let few = tiles_le B ok.size in
+    (omega arith, subst (λ (x : List ℕ). Sourced B t st 0 x (length a.sources.now)) (sym (c.clear.ensures ∙ ap zeros c.requires.2)) (subst (λ (n : ℕ). Sourced B t st 0 (zeros (ports B)) n) (sym c.requires.2) (sourced_start B t st)))
+
+pub returns : goal.returns
+returns c =
+    let a = c.args in
+    let B = a.b in
+    let t = a.table.now in
+    let st = a.st.now in
+    let ok = c.requires.0 in
+    let few = tiles_le B ok.size in let all_clauses = sourced_end B t st _ _ _ c.loop-tile.invariant.1 (omega arith) in record { answer = all_clauses.0; sources = all_clauses.1 }

@@ -2,7 +2,7 @@
 # this is root on Debian.
 #
 #     make shelf      proves and builds the library, then judges the bundled designs; DESIGNS='a.asc folder' judges others
-#     make check      the gate: every crate proved from nothing, every edit that must be refused, every test program
+#     make check      the gate: every crate proved, every edit that must be refused, every test program
 #     make lib        the libraries, proved, under the name that they are installed by, with their receipt: target/lib
 #     make            the static library and the report program, proved: target/staticlib/libcapi.a, target/bin/report
 #     make wasm       the proved library as WebAssembly: target/wasm/ice40.wasm
@@ -11,7 +11,7 @@
 #     make install    PREFIX=/usr/local: programs, libraries, header, pkg-config file, tools, manual pages; DESTDIR is put before it
 #     make uninstall  the same files away again
 #     make dist       what members get who have no kit: the page, manual pages, a .deb and a tarball for Linux on x86-64, SHA256SUMS: target/dist
-#     make clean      target/ away; the next build proves everything again
+#     make clean      target/ and what the kit kept of each crate away; the next build proves everything again
 #     make help       this list
 PREFIX ?= /usr/local
 CC ?= cc
@@ -22,7 +22,7 @@ DESIGNS ?= tests/data
 
 VERSION := $(shell sed -n 's/^.define ICE40_VERSION "\(.*\)"/\1/p' include/ice40.h)
 ABI := $(basename $(VERSION))
-SOURCES := crates.txt $(shell find crates -type f)
+SOURCES := crates.txt $(shell find $(filter-out %/out,$(wildcard crates/*/*)) -type f)
 REPORT := target/bin/report
 ARCHIVE := target/staticlib/libcapi.a
 ARCHIVE_RECEIPT := target/staticlib/libcapi.receipt
@@ -60,26 +60,26 @@ help:
 # `make wasm`, with the archive's SHA-256.
 $(ARCHIVE) $(ARCHIVE_RECEIPT) $(MODULE) &: $(SOURCES)
 	@scripts/needs.sh $(RT) $(PYTHON) $(CC)
-	scripts/keep_module.sh $(dir $(MODULE)) $(RT) $(PYTHON) scripts/prove.py library $(RT) $(ARCHIVE)
-	@sha256sum $(ARCHIVE) >$(MODULE)
-	@touch $(ARCHIVE) $(ARCHIVE_RECEIPT)
+	$(PYTHON) scripts/prove.py library $(RT) $(ARCHIVE)
+	scripts/keep_module.sh $(dir $(MODULE)) $(RT) $(ARCHIVE)
+	@touch $(ARCHIVE) $(ARCHIVE_RECEIPT) $(MODULE)
 
-# rt leaves a file that is up to date as it is
 $(REPORT): $(SOURCES)
 	@scripts/needs.sh $(RT) $(PYTHON)
-	$(PYTHON) scripts/prove.py check $(RT) report
+	$(PYTHON) scripts/prove.py program $(RT) report $@
 	@touch $@
 
 $(STATIC): $(ARCHIVE)
 	@mkdir -p $(@D)
 	cp $< $@
 
+# its other names are hard links, because the gate refuses symbolic ones below the checkout
 $(SHARED): $(ARCHIVE)
 	@mkdir -p $(@D)
 	@echo '{ global: ice40_*; local: *; };' >target/lib/exported
 	$(CC) $(LDFLAGS) -shared -Wl,-soname,libice40.so.$(ABI) -Wl,--version-script,target/lib/exported -Wl,--whole-archive $< -Wl,--no-whole-archive -o $@
-	ln -sf $(@F) target/lib/libice40.so.$(ABI)
-	ln -sf $(@F) target/lib/libice40.so
+	ln -f $@ target/lib/libice40.so.$(ABI)
+	ln -f $@ target/lib/libice40.so
 
 $(RECEIPT): $(STATIC) $(SHARED) $(ARCHIVE_RECEIPT)
 	$(PYTHON) scripts/prove.py shared $(ARCHIVE_RECEIPT) $(STATIC) $(SHARED) >$@
@@ -132,6 +132,7 @@ dist: all lib page
 	rm -rf $(DIST) target/installed
 	@$(MAKE) --silent install PREFIX=/usr DESTDIR=target/installed
 	$(PYTHON) scripts/dist.py target/installed/usr $(PAGE) $(DIST)
+	@rm -rf target/installed
 
 clean:
-	rm -rf target
+	rm -rf target crates/*/out

@@ -1,39 +1,46 @@
 #!/bin/sh
-# Runs a command with a kit that keeps the module it compiles: scripts/keep_module.sh FOLDER RT COMMAND .. puts that of RT's kit into FOLDER.
+# Keeps the LLVM module of the archive: scripts/keep_module.sh FOLDER RT ARCHIVE puts it into FOLDER, with the archive's SHA-256.
 #
-# The kit turns a proved crate into an LLVM module and calls its own clang, for x86-64. Here it runs from a folder of links to itself, in which
-# clang first keeps the module and then goes on as ever. Nothing of the kit is copied or changed. Where a kit has no clang of that kind the
-# command runs as it is, and no module is kept.
+# The kit turns a proved crate into an LLVM module and calls its own clang, for x86-64. ARCHIVE was built so. Here it is built once more, over the same
+# proofs, by a kit of links to that kit, in which clang first keeps the module and then goes on as ever; both archives must be the same, byte for byte.
+# rt finds its kit from where it lies, so rt alone is copied. Where a kit has no such clang no module is kept. The links are not below the checkout,
+# because the gate refuses links there.
 set -eu
 
-out=$1 rt=$2
-shift 2
+out=$1 rt=$2 archive=$3
 rm -rf "$out"
 mkdir -p "$out"
 out=$(cd "$out" && pwd -P)
 program=$(readlink -f "$(command -v "$rt")")
-kit=${RATTLE_HOME:-$(dirname "$(dirname "$program")")}
-own=on/$(uname -m)
-clang=$kit/$own/toolchain/bin/clang
-[ -x "$clang" ] || exec "$@"
-
-links=$out/kit
-mkdir -p "$links/$own/toolchain/bin"
-link_all() { # FOLDER BUT: links to all in a folder of the kit but one name
-    for path in "$kit/$1"/*; do
-        [ "${path##*/}" = "$2" ] || ln -s "$path" "$links/$1/"
-    done
-}
-link_all . on
-link_all "$own" toolchain
-link_all "$own/toolchain" bin
-link_all "$own/toolchain/bin" clang
-cat >"$links/$own/toolchain/bin/clang" <<END
+kit=$(dirname "$(dirname "$program")")
+clang=$kit/toolchain/bin/clang
+if [ -x "$clang" ]; then
+    room=$(mktemp -d)
+    trap 'rm -rf "$room"' EXIT
+    trap 'exit 1' HUP INT TERM
+    links=$room/kit
+    mkdir -p "$links/bin" "$links/toolchain/bin"
+    link_all() { # FOLDER BUT..: links to all in a folder of the kit but these names
+        folder=$1
+        shift
+        for path in "$kit/$folder"/*; do
+            case " $* " in *" ${path##*/} "*) ;; *) ln -s "$path" "$links/$folder/" ;; esac
+        done
+    }
+    link_all . bin toolchain
+    link_all bin rt rtlib.py
+    cp "$kit/bin/rt" "$kit/bin/rtlib.py" "$links/bin/"
+    link_all toolchain bin
+    link_all toolchain/bin clang
+    cat >"$links/toolchain/bin/clang" <<END
 #!/bin/sh
 for word in "\$@"; do
     case \$word in *.bc) cp "\$word" "$out/" ;; esac
 done
 exec "$clang" "\$@"
 END
-chmod +x "$links/$own/toolchain/bin/clang"
-RATTLE_HOME=$links "$@"
+    chmod +x "$links/toolchain/bin/clang"
+    (cd crates/capi && "$links/bin/rt" lib) >"$room/log" 2>&1 || { cat "$room/log" >&2; exit 1; }
+    cmp -s "$archive" crates/capi/out/libcapi.a || { echo "keep_module.sh: the archive came out otherwise: make clean, and once more" >&2; exit 1; }
+fi
+sha256sum "$archive" >"$out/archive.sha256"

@@ -1,8 +1,8 @@
 #!/usr/bin/env python3
 """Proves and builds the static library, says how far it is, and writes its receipt. `make` runs it.
 
-    prove.py check RT CRATE             `rt check CRATE`
-    prove.py library RT ARCHIVE         `rt staticlib capi`, and ARCHIVE's receipt beside it: libcapi.receipt
+    prove.py program RT CRATE PROGRAM   `rt run` in the crate's folder, with no input, and the program that it built
+    prove.py library RT ARCHIVE         `rt lib` in that of capi, the archive, and its receipt beside it: libcapi.receipt
     prove.py shared RECEIPT ARCHIVE SHARED   the receipt of the shared library that was linked from that archive, on standard output
     prove.py gate COMMAND ..            the gate, with its last line kept in target/gate for receipts of the same sources
 
@@ -13,9 +13,9 @@ import hashlib
 import json
 import os
 import re
+import shutil
 import subprocess
 import sys
-import tempfile
 
 ROOT = os.path.dirname(os.path.dirname(os.path.abspath(__file__)))
 sys.path.insert(0, os.path.join(ROOT, 'tools'))
@@ -31,7 +31,7 @@ def crates():
     """Each listed crate, and the crates that it builds on."""
     with open('crates.txt', encoding='utf-8') as file:
         lines = [line.partition('#')[0] for line in file]
-    return {name.strip(): words.split() for name, colon, words in (line.partition(':') for line in lines) if colon}
+    return {name.split()[0]: words.split() for name, colon, words in (line.partition(':') for line in lines) if colon}
 
 
 def below(name, listed):
@@ -45,11 +45,18 @@ def below(name, listed):
     return found
 
 
+def files():
+    """Every file below crates/ but what the kit made, in out/ of a crate."""
+    for where, folders, names in os.walk('crates'):
+        if os.path.dirname(where) == 'crates':
+            folders[:] = [name for name in folders if name != 'out']
+        yield from (os.path.join(where, name) for name in names)
+
+
 def sources():
     """The SHA-256 of crates.txt and of every file below crates/, each with its path."""
     found = hashlib.sha256()
-    paths = ['crates.txt'] + [os.path.join(where, name) for where, _, names in os.walk('crates') for name in names]
-    for path in sorted(paths):
+    for path in sorted(['crates.txt', *files()]):
         found.update(b'%s\0%s\n' % (os.fsencode(path), digest_of(path).encode()))
     return found.hexdigest()
 
@@ -76,40 +83,52 @@ class Shown:
 
     def __init__(self, crates_to_come, edits_to_come=0):
         self.totals, self.counts, self.terminal = {'crate': crates_to_come, 'edit': edits_to_come}, {'crate': 0, 'edit': 0}, sys.stderr.isatty()
+        self.at = None
 
     def take(self, line):
-        met = re.match(r'rt: (?:must-fail )?(\S+?):? (proved|refused)\b', line)
+        """The gate names each crate and each edit in a line of its own; else the last line of a crate says that it is proved, and one before it which it is."""
+        met = re.match(r'crate (\w+): modules ', line)
         if met:
-            what = 'crate' if met[2] == 'proved' else 'edit'
-            self.counts[what] += 1
-            words = '%s %d of %d: %s %s' % (what, self.counts[what], self.totals[what], met[1], met[2])
-            sys.stderr.write('\r\033[K%s' % words if self.terminal else words + '\n')
-            sys.stderr.flush()
+            self.at = met[1]
+        elif line.startswith('logic=') and self.at:
+            if line.startswith('logic=proved'):
+                self.show('crate', self.at, 'proved')
+            self.at = None
+        met = re.match(r'rt: (\w+) (?:proved|is (kept)\b)', line)
+        if met:
+            self.show('crate', met[1], met[2] or 'proved')
+        met = re.match(r'rt: must-fail (\S+?)(?:\.edit)?: refused\b', line)
+        if met:
+            self.show('edit', met[1], 'refused')
+
+    def show(self, what, name, how):
+        self.counts[what] += 1
+        words = '%s %d of %d: %s %s' % (what, self.counts[what], self.totals[what], name, how)
+        sys.stderr.write('\r\033[K%s' % words if self.terminal else words + '\n')
+        sys.stderr.flush()
 
     def end(self):
         if self.terminal:
             sys.stderr.write('\r\033[K')
 
 
-def proved(command, *totals):
-    """Runs the kit: how many crates it says are proved, and the last line that it prints. Ends the program where it fails."""
+def proved(command, folder, *totals):
+    """Runs the kit in a folder: the last line that it prints. Ends the program where it fails."""
     shown, last = Shown(*totals), ''
-    with tempfile.TemporaryFile('w+', encoding='utf-8') as log:  # the gate takes target/ away
-        with subprocess.Popen(command, stdout=subprocess.PIPE, stderr=subprocess.STDOUT, encoding='utf-8', errors='backslashreplace') as kit:
+    os.makedirs('target', exist_ok=True)
+    with open(LOG, 'w', encoding='utf-8') as log:
+        with subprocess.Popen(command, cwd=folder, stdin=subprocess.DEVNULL, stdout=subprocess.PIPE, stderr=subprocess.STDOUT, encoding='utf-8', errors='backslashreplace') as kit:
             for line in kit.stdout:
                 log.write(line)
                 shown.take(line)
                 last = line.strip() or last
         shown.end()
-        log.seek(0)
-        text = log.read()
-    os.makedirs('target', exist_ok=True)
-    write(LOG, text)
     if kit.returncode:
-        sys.stderr.write(text)
+        with open(LOG, encoding='utf-8') as log:
+            sys.stderr.write(log.read())
         sys.stderr.write('prove.py: %s failed; what it said is above and in %s\n' % (' '.join(command), LOG))
         sys.exit(kit.returncode)
-    return shown.counts['crate'], last
+    return last
 
 
 def gate_of(digest):
@@ -134,13 +153,28 @@ def text_of(receipt):
     return json.dumps(receipt, indent=1, sort_keys=True) + '\n'
 
 
+def built(rt, verb, crate, name, path):
+    """Has the kit prove and build a crate and what is below it, and copies what it made: how many crates those are, and the kit's last line."""
+    count = len(below(crate, crates()))
+    folder = os.path.join('crates', crate)
+    last = proved([os.path.abspath(shutil.which(rt) or rt), verb], folder, count)
+    os.makedirs(os.path.dirname(path), exist_ok=True)
+    shutil.copy(os.path.join(folder, 'out', name), path)
+    return count, last
+
+
+def program(rt, crate, path):
+    built(rt, 'run', crate, crate, path)
+
+
 def library(rt, archive):
-    before, listed = sources(), crates()
-    count, last = proved([rt, 'staticlib', 'capi'], len(below('capi', listed)))
+    before = sources()
+    count, last = built(rt, 'lib', 'capi', 'libcapi.a', archive)
     if sources() != before:
+        os.remove(archive)
         sys.exit('prove.py: the sources were changed while they were proved: once more')
     told = {'format': FORMAT, 'version': version(), 'commit': commit(), 'sources': before, 'kit': output_of(rt, 'version'), 'archive': digest_of(archive),
-            'crates': count + 1, 'check': last, 'gate': gate_of(before)}  # the kit counts those below capi, and builds capi only where it is proved
+            'crates': count, 'check': last, 'gate': gate_of(before)}  # the kit builds a crate only where all below it are proved
     write(os.path.splitext(archive)[0] + '.receipt', text_of(told))
 
 
@@ -154,8 +188,8 @@ def shared(receipt, archive, path):
 
 def gate(*command):
     before = sources()
-    edits = sum(name.endswith('.edit') for _, _, names in os.walk('crates') for name in names)
-    _, last = proved(list(command), len(crates()), edits)
+    edits = sum(path.endswith('.edit') for path in files())
+    last = proved(list(command), '.', len(crates()), edits)
     print(last)
     if re.fullmatch(r'\d+ passed, 0 failed', last):
         write(GATE, '%s %s\n' % (before, last))
@@ -163,10 +197,7 @@ def gate(*command):
 
 def main(what, *words):
     os.chdir(ROOT)
-    if what == 'check':
-        proved([words[0], 'check', *words[1:]], len(below(words[1], crates())))
-    else:
-        {'library': library, 'shared': shared, 'gate': gate}[what](*words)
+    {'program': program, 'library': library, 'shared': shared, 'gate': gate}[what](*words)
 
 
 if __name__ == '__main__':

@@ -20,7 +20,6 @@ use Rattle.netlist.specs.Marks.{listed}
 use Rattle.netlist.specs.Running.{run_from, RowFits}
 use Rattle.netlist.specs.Checking.{first_bad_row, wire_count}
 use Rattle.netlist.proofs.PassedLaws.{passed_fits, passed_bits}
-use Rattle.netlist.proofs.Settling.{run_length}
 use Rattle.stepper.specs.Settling.{settled_by, port_value, port_values, PortBits, wire_mark, wire_marks, Runnable}
 
 module _ (B : Block) where

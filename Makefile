@@ -81,7 +81,8 @@ $(SHARED): $(ARCHIVE)
 	ln -f $@ target/lib/libice40.so.$(ABI)
 	ln -f $@ target/lib/libice40.so
 
-$(RECEIPT): $(STATIC) $(SHARED) $(ARCHIVE_RECEIPT)
+# the gate is named where it was passed since
+$(RECEIPT): $(STATIC) $(SHARED) $(ARCHIVE_RECEIPT) $(wildcard target/gate)
 	$(PYTHON) scripts/prove.py shared $(ARCHIVE_RECEIPT) $(STATIC) $(SHARED) >$@
 
 # the module that the archive is compiled from, compiled a second time
@@ -89,7 +90,7 @@ $(WASM): $(MODULE) web/wasm.sh
 	@scripts/needs.sh $(RT)
 	RT=$(RT) web/wasm.sh $(dir $(MODULE)) $(@D)
 
-$(WASM_RECEIPT): $(WASM) $(ARCHIVE_RECEIPT)
+$(WASM_RECEIPT): $(WASM) $(ARCHIVE_RECEIPT) $(wildcard target/gate)
 	$(PYTHON) scripts/prove.py shared $(ARCHIVE_RECEIPT) $(ARCHIVE) $(WASM) >$@
 
 $(PAGE): $(WASM) $(WASM_RECEIPT) $(wildcard web/*) $(wildcard tools/*.py) $(wildcard tools/chips/*) include/ice40.h

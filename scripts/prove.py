@@ -3,7 +3,7 @@
 
     prove.py program RT CRATE PROGRAM   `rt run` in the crate's folder, with no input, and the program that it built
     prove.py library RT ARCHIVE         `rt lib` in that of capi, the archive, and its receipt beside it: libcapi.receipt
-    prove.py shared RECEIPT ARCHIVE SHARED   the receipt of the shared library that was linked from that archive, on standard output
+    prove.py shared RECEIPT ARCHIVE SHARED   the receipt of the shared library that was linked from that archive, on standard output, with the gate of these sources
     prove.py gate COMMAND ..            the gate, with its last line kept in target/gate for receipts of the same sources
 
 On a terminal one line says which crate the kit is at; elsewhere there is a line for each. The kit's own lines are in target/prove.log at the end;
@@ -183,11 +183,13 @@ def shared(receipt, archive, path):
         told = json.load(file)
     if told['archive'] != digest_of(archive):
         sys.exit('prove.py: %s is not the archive of its receipt: make clean, and once more' % archive)
-    sys.stdout.write(text_of(dict(told, shared=digest_of(path))))
+    sys.stdout.write(text_of(dict(told, shared=digest_of(path), gate=gate_of(told['sources']))))
 
 
 def gate(*command):
     before = sources()
+    if os.path.exists(GATE):
+        os.remove(GATE)
     edits = sum(path.endswith('.edit') for path in files())
     last = proved(list(command), '.', len(crates()), edits)
     print(last)

@@ -57,7 +57,7 @@ def check_targets():
     count.same(make('--dry-run', 'check')[1].splitlines()[-1:], ['python3 scripts/prove.py gate .ci/run'])
     status, _, errors = make('check', 'RT=/none/rt')
     count.same((status, 'The Rattle kit' in errors), (2, True), 'no rt on the path')
-    count.same(make('--dry-run', 'clean')[:2], (0, 'rm -rf target\n'))
+    count.same(make('--dry-run', 'clean')[:2], (0, 'rm -rf target crates/*/out\n'))
     return count.done()
 
 

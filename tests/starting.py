@@ -25,18 +25,49 @@ KIT = """#!/bin/sh
 echo "$@" >>'%(folder)s/calls'
 case $1 in
 version) echo 'kit of the tests' ;;
-staticlib)
-    %(change)s
-    for crate in lists refusal digits; do echo "rt: $crate proved (1 s)"; echo 'x.antt:1:1: note: large solution: ..'; done
-    mkdir -p target/staticlib
-    cp '%(archive)s' target/staticlib/libcapi.a
-    echo 'rt: the archive is there' ;;
-ci) rm -rf target; echo 'rt: lists proved (1 s)'; echo 'rt: must-fail lists/x: refused, as it must be (1 s)'; echo '%(verdict)s'; %(end)s ;;
+lib)
+    (cd ../.. && %(change)s) || exit
+    for crate in lists refusal digits; do
+        echo 'x.antt:1:1: note: large solution: ..'
+        echo "fn $crate::f: proved"
+        echo "crate $crate: modules loaded=0 checked=1"
+        echo 'logic=proved functions=1 of the tests'
+    done
+    mkdir -p out
+    cp '%(archive)s' out/libcapi.a ;;
+ci)
+    echo 'rt: lists proved'
+    echo 'rt: digits is kept: an earlier run on this machine proved the same files over the same libraries'
+    echo 'rt: must-fail lists/x.edit: refused, as it must be: note: ..'
+    echo 'rt: ok; handles allowed: none; must-fail edits: 1 refused%(bad)s; every proof and must-fail edit was done in this run'
+    echo '%(verdict)s'
+    %(end)s ;;
 *) echo 'error: no such proof'; exit 1 ;;
 esac
 """
-ALWAYS = ('sh', 'env', 'bash', 'make', 'id', 'sed', 'find', 'mkdir', 'touch', 'cp', 'ln', 'rm', 'echo', 'cat', 'uname', 'dirname', 'readlink', 'chmod', 'sha256sum')
+ALWAYS = ('sh', 'env', 'bash', 'make', 'id', 'sed', 'find', 'mkdir', 'touch', 'cp', 'ln', 'rm', 'echo', 'cat', 'dirname', 'readlink', 'chmod', 'sha256sum', 'mktemp', 'tee', 'grep')
 README_LINES = 120
+
+
+def listed():
+    """Each crate that crates.txt lists, and those that it builds on."""
+    rows = [line.partition(':') for line in contents(os.path.join(ROOT, 'crates.txt')).splitlines() if not line.startswith('#')]
+    return {name.split()[0]: below.split() for name, _, below in rows if name.strip()}
+
+
+def below_capi():
+    """How many crates the library has: capi and all that it builds on."""
+    of, found = listed(), {'capi'}
+    while True:
+        more = found | {name for crate in found for name in of[crate]}
+        if more == found:
+            return len(found)
+        found = more
+
+
+def edits():
+    """How many edits the two crates have that a tree copies."""
+    return sum(name.endswith('.edit') for crate in ('lists', 'capi') for _, _, names in os.walk(os.path.join(ROOT, 'crates', crate)) for name in names)
 
 
 class Tree:
@@ -49,7 +80,8 @@ class Tree:
             shutil.copytree(os.path.join(ROOT, name), os.path.join(self.root, name), ignore=shutil.ignore_patterns('__pycache__'))
         for name in ('Makefile', 'crates.txt'):
             shutil.copy(os.path.join(ROOT, name), self.root)
-        shutil.copytree(os.path.join(ROOT, 'crates', 'lists'), os.path.join(self.root, 'crates', 'lists'))
+        for name in ('lists', 'capi'):
+            shutil.copytree(os.path.join(ROOT, 'crates', name), os.path.join(self.root, 'crates', name), ignore=shutil.ignore_patterns('out'))
         os.makedirs(os.path.join(self.root, 'tests'))
         shutil.copytree(os.path.join(ROOT, 'tests', 'data'), os.path.join(self.root, 'tests', 'data'))
         self.own('python3', '#!/bin/sh\nexec %s "$@"\n' % sys.executable)
@@ -73,8 +105,8 @@ class Tree:
         for name in names:
             os.remove(os.path.join(self.bin, name))
 
-    def kit(self, change=':', verdict='12 passed, 0 failed', end='exit 0'):
-        self.own('rt', KIT % {'folder': self.folder, 'archive': self.archive, 'change': change, 'verdict': verdict, 'end': end})
+    def kit(self, change=':', verdict='12 passed, 0 failed', end='exit 0', bad=''):
+        self.own('rt', KIT % {'folder': self.folder, 'archive': self.archive, 'change': change, 'verdict': verdict, 'end': end, 'bad': bad})
 
     def calls(self):
         """What the kit was called for since the last time."""
@@ -106,7 +138,7 @@ def check_needs(tree):
     tree.own('id', '#!/bin/sh\necho 0\n')
     tree.own('apt-get', '#!/bin/sh\necho "apt-get $@" >>%s/calls\n[ "$1" = update ] || ln -s %s %s/cc\n' % (tree.folder, shutil.which('cc'), tree.bin))
     status, output, errors = tree.make('lib')
-    count.same((status, tree.calls()), (0, ['apt-get update -qq', 'apt-get install -y -qq --no-install-recommends gcc libc6-dev', 'staticlib capi', 'version']), errors)
+    count.same((status, tree.calls()), (0, ['apt-get update -qq', 'apt-get install -y -qq --no-install-recommends gcc libc6-dev', 'lib', 'version']), errors)
     tree.without('rt')
     for target in ('check', 'lib'):
         if target == 'lib':
@@ -124,10 +156,10 @@ def check_shelf(tree):
     lines = output.splitlines()
     judged = ['yes  tests/data/%s.asc' % name for name in ('counter8', 'uart_tx')]
     count.same((status, [line.partition('  1k')[0] for line in lines if line.startswith('yes')], lines[-1]), (0, judged, '2 yes, 0 no, 0 could not be told'), output + errors)
-    count.same(re.findall(r'crate \d+ of \d+: \w+', errors), ['crate %d of 27: %s' % (k, name) for k, name in enumerate(('lists', 'refusal', 'digits'), 1)], errors)
+    count.same(re.findall(r'crate \d+ of \d+: \w+', errors), ['crate %d of %d: %s' % (k, below_capi(), name) for k, name in enumerate(('lists', 'refusal', 'digits'), 1)], errors)
     count.same('large solution' in output + errors, False)
     count.same((tree.calls(), tree.make('shelf', 'DESIGNS=tests/data/uart_tx.asc')[1].splitlines()[-1], tree.calls()),
-               (['staticlib capi', 'version'], '1 yes, 0 no, 0 could not be told', []), 'nothing is proved twice')
+               (['lib', 'version'], '1 yes, 0 no, 0 could not be told', []), 'nothing is proved twice')
     listed = re.findall(r'^    make ?(\w*)', tree.make('help')[1], re.MULTILINE)
     phony = re.search(r'^\.PHONY: (.*)$', contents(os.path.join(ROOT, 'Makefile')), re.MULTILINE)[1].split()
     count.same(set(listed), set(phony) - {'all'} | {''})
@@ -141,11 +173,12 @@ def check_receipts(tree):
     receipt = tree.path('target', 'lib', 'ice40.receipt')
     count.same(tree.make('lib')[0], 0)
     told = json.loads(contents(receipt))
-    count.same((told['kit'], told['crates'], told['check'], told['gate'], told['commit']), ('kit of the tests', 4, 'rt: the archive is there', None, 'unknown'))
+    count.same((told['kit'], told['crates'], told['check'], told['gate'], told['commit']), ('kit of the tests', below_capi(), 'logic=proved functions=1 of the tests', None, 'unknown'))
     count.same(tree.make('lib', '--question')[0], 0, 'nothing is built a second time')
     status, output, errors = tree.make('check')
     count.same((status, output.splitlines()[-1]), (0, '12 passed, 0 failed'), output + errors)
-    count.same(('crate 1 of 35: lists proved\n' in errors, re.findall(r'edit 1 of \d+: lists/x refused\n', errors) != []), (True, True), errors)
+    count.same(re.findall(r'^(?:crate|edit) .*$', errors, re.MULTILINE),
+               ['crate 1 of %d: lists proved' % len(listed()), 'crate 2 of %d: digits kept' % len(listed()), 'edit 1 of %d: lists/x refused' % edits()], errors)
     count.same((tree.make('lib')[0], json.loads(contents(receipt))['gate']), (0, '12 passed, 0 failed'), 'the gate was passed with these sources')
     with open(tree.path('crates.txt'), 'a') as file:
         file.write('# changed\n')
@@ -153,6 +186,10 @@ def check_receipts(tree):
     tree.kit(verdict='11 passed, 1 failed', end='exit 1')
     status, output, errors = tree.make('check')
     count.same((status, '11 passed, 1 failed' in errors, os.path.exists(tree.path('target', 'gate'))), (2, True, False), output + errors)
+    tree.kit(bad=', 1 bad')
+    status, output, errors = tree.make('check')
+    count.same((status, 'a must-fail edit is bad' in errors), (2, True), output + errors)
+    shutil.rmtree(tree.path('target'))
     tree.kit(change='echo "# changed" >>crates.txt')
     status, output, errors = tree.make('lib')
     count.same((status, 'the sources were changed while they were proved' in errors, os.path.exists(receipt)), (2, True, False), errors)

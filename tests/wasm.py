@@ -330,15 +330,17 @@ def check_kits():
     """A kit without WebAssembly, no kit, a module of another archive: one line that says so, and nothing is written. The same module gives the same bytes."""
     count = Count('make wasm: the same bytes again, a clear line without a kit')
     with tempfile.TemporaryDirectory() as folder:
-        tools, out, other = os.path.join(folder, 'kit', 'on', os.uname().machine, 'toolchain', 'bin'), os.path.join(folder, 'out'), os.path.join(folder, 'other')
-        os.makedirs(tools)
-        with open(os.path.join(tools, 'clang'), 'w') as file:
-            file.write('#!/bin/sh\necho "    x86-64     - 64-bit X86"\n')
-        os.chmod(file.name, 0o755)
+        kit, out, other = os.path.join(folder, 'kit'), os.path.join(folder, 'out'), os.path.join(folder, 'other')
+        rt, clang = os.path.join(kit, 'bin', 'rt'), os.path.join(kit, 'toolchain', 'bin', 'clang')
+        for program in (rt, clang):
+            os.makedirs(os.path.dirname(program))
+            with open(program, 'w') as file:
+                file.write('#!/bin/sh\necho "    x86-64     - 64-bit X86"\n')
+            os.chmod(program, 0o755)
         shutil.copytree(MODULE, other, symlinks=True)
         with open(os.path.join(other, 'archive.sha256'), 'w') as file:
             file.write('%s  target/staticlib/libcapi.a\n' % ('0' * 64))
-        for words, module, environment in (('does not compile for wasm32', MODULE, {'RATTLE_HOME': os.path.join(folder, 'kit')}), ('The Rattle kit', MODULE, {'RT': '/none/rt'}),
+        for words, module, environment in (('does not compile for wasm32', MODULE, {'RT': rt}), ('The Rattle kit', MODULE, {'RT': '/none/rt'}),
                                            ('no module of the archive that is there', other, {}), ('no module of the archive', folder, {})):
             status, errors = compiled(out, module, **environment)
             count.same((status, words in errors, errors.count('\n'), os.path.exists(out)), (2, True, 1, False), errors)

@@ -1,15 +1,12 @@
 -- Every answer of `compare` says what specs/Meaning.antt has it say. Main law: `compare_says`. Assumes nothing.
-use Prim.Native.Nat.{ℕ, ◌*◌, ◌<◌, ◌≤◌}
-use mathlib.Core.Path.{◌≡◌, refl, sym, subst, ◌∙◌}
-use mathlib.Core.Logic.{◌↔◌}
-use mathlib.Core.Bool.{true, false}
+use Prim.Native.Nat.{ℕ, ◌*◌, ◌≤◌}
+use mathlib.Core.Path.{◌≡◌, refl, sym, subst}
 use mathlib.Core.List.{List}
 use native.Mathlib.Omega.{arith}
 use borrow.Author.Tests.{leb-true, leb-false}
 use lib.Dec.{leb}
 use lib.ListN.{length}
 use Rattle.lists.proofs.CaseLaws.{clash}
-use Rattle.refusal.specs.Grounds.{number_of}
 use Rattle.refusal.specs.Memory.{output}
 use Rattle.refusal.specs.declared.Refusal.{Refusal}
 use Rattle.refusal.specs.declared.Refusal.TheVariants.{ListTooShort}
@@ -17,7 +14,7 @@ use Rattle.refusal.specs.declared.Answer.TheVariants.{Done}
 use Rattle.refusal.proofs.GroundsLaws.{unless_cases}
 use Rattle.refusal.proofs.MemoryLaws.{output_refused}
 use Rattle.ports.specs.declared.size.Size.{Size}
-use Rattle.ports.specs.Block.{Allowed, tile_count, allowed}
+use Rattle.ports.specs.Block.{tile_count, allowed}
 use Rattle.ports.specs.Lengths.{settings_total}
 use Rattle.ports.proofs.BlockLaws.{allowed_exact, allowed_true}
 use Rattle.routing.specs.LogicTile.{logic_tile}
@@ -32,12 +29,12 @@ use Rattle.config.proofs.BlocksLaws.{decoded_reads}
 use Rattle.config.proofs.FaultPlaceLaws.{fault_place_lowest, no_fault_decodable}
 use Rattle.compare.specs.Places.{row_length}
 use Rattle.compare.specs.Rows.{difference_count}
-use Rattle.compare.specs.Lengths.{same_size, SameSize, compare_lent, compare_exact, CompareLong}
+use Rattle.compare.specs.Lengths.{same_size, compare_lent, compare_exact}
 use Rattle.compare.specs.declared.lengths.CompareLent.{CompareLent}
 use Rattle.compare.specs.Entry.{compared_number, rows_answer, rows_list, bits_answer, compare_answer, compared_list}
-use Rattle.compare.specs.Meaning.{Alike, BothRead, ListsDifferences, CompareNo, wrong_first_size, wrong_second_size, sizes_differ, wrong_length, broken, first_undecodable, second_undecodable, too_short, Compares, CompareSays}
+use Rattle.compare.specs.Meaning.{Alike, BothRead, ListsDifferences, CompareNo, wrong_first_size, wrong_second_size, sizes_differ, wrong_length, broken, first_undecodable, second_undecodable, too_short, CompareSays}
 use Rattle.compare.specs.declared.Compared.{Compared}
-use Rattle.compare.specs.declared.Compared.TheVariants.{Rows, Refused}
+use Rattle.compare.specs.declared.Compared.TheVariants.{Refused}
 use Rattle.compare.proofs.LengthLaws.{same_size_exact, compare_long_exact}
 use Rattle.compare.proofs.DifferenceLaws.{differences_listed, differences_length}
 use Rattle.compare.proofs.EmptyLaws.{empty_exact}

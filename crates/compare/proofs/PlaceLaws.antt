@@ -7,7 +7,7 @@ use mathlib.Core.Logic.{⊎_elim, ◌≢◌}
 use mathlib.Core.List.{List, [], ◌∷◌}
 use native.Mathlib.Omega.{arith}
 use borrow.Author.Tests.{lt-ltb, le-ltb, eq-eqb, ne_eqb, eqb-true}
-use lib.Dec.{eqb, ltb}
+use lib.Dec.{eqb}
 use lib.ListN.{length, get_or}
 use Rattle.lists.proofs.CaseLaws.{cases, eq_or_ne, and_equal, and_left, and_right}
 use Rattle.lists.proofs.TableLaws.{tabulate_zero}

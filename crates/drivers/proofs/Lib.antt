@@ -2,8 +2,8 @@
 pub mod FollowingLaws  -- driven_exact, driven_unique: following a driver has one answer, the computed one. no_ring: without a loop it is no ring
 pub mod CarryReadLaws  -- carry_read_exact, carry_read_none_exact: ground 6. The lowest disabled carry that is read, or none
 pub mod ClockLaws  -- clocked_exact, clocked_none_exact: ground 8. The lowest tile with a clock or reset from a cell, or none
-pub mod LeadLaws  -- goes_leads, leads-goes: the map of sources and the switches. sources_length, sources_bounded: what the code asks of the map
-pub mod StandingLaws  -- stands-at, stands_drive: what stands where no switch ends. drive_at_lem: a wire's drive by one of its ports
+pub mod LeadLaws  -- goes_leads, leads_goes: the map of sources and the switches. sources_length, sources_bounded: what the code asks of the map
+pub mod StandingLaws  -- stands_at, stands_drive: what stands where no switch ends. drive_at_lem: a wire's drive by one of its ports
 pub mod WalkLaws  -- gets_linear: a walk from source to source is a line. ring_or_end: it meets a ring or an end. end_unique
 pub mod Walking  -- traced_walked: what a walk with marks answers
 pub mod Tracing  -- the loop of `walk`. end_traced: an end that a walk gets to is its answer

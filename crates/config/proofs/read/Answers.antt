@@ -10,6 +10,7 @@ use Rattle.config.specs.Blocks.{decoded, tiles_of}
 use Rattle.config.proofs.BlocksLaws.{decoded_length}
 use Rattle.config.proofs.MeaningLaws.{read_says}
 use Rattle.config.proofs.PassedLaws.{read_passed}
+use borrow.Author.Rules.{rules}
 use Rattle.config.proofs.read.Goals as goal
 
 -- a no
@@ -17,7 +18,7 @@ pub returns-in_default : goal.returns-in_default
 returns-in_default c =
     let args = c.args in
     let answer = c.read_checks-can_read.ensures.answer in
-    let kept = output_not_done args.settings.now (decoded args.table.now (tiles_of args.bits.now) (tile_count args.s)) _ c.in_default.not-Done in
+    let kept = output_not_done args.settings.now (decoded args.table.now (tiles_of args.bits.now) (tile_count args.s)) _ (search rules) in
     record { answer = answer; settings = kept; says = read_says args.s args.table.now args.bits.now args.settings.now _ _ answer kept }
 
 pub slice_bounds-room-end : goal.slice_bounds-room-end

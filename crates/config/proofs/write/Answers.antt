@@ -9,6 +9,7 @@ use Rattle.config.specs.Blocks.{encoded}
 use Rattle.config.proofs.MeaningLaws.{write_says}
 use Rattle.config.proofs.KeptLaws.{output_not_done}
 use Rattle.config.proofs.PassedLaws.{write_passed, write_fit}
+use borrow.Author.Rules.{rules}
 use Rattle.config.proofs.write.Goals as goal
 
 -- a no
@@ -16,7 +17,7 @@ pub returns-in_default : goal.returns-in_default
 returns-in_default c =
     let args = c.args in
     let answer = c.write_checks-can_write.ensures in
-    let written = output_not_done args.bits.now (encoded args.table.now args.settings.now (tile_count args.s)) _ c.in_default.not-Done in
+    let written = output_not_done args.bits.now (encoded args.table.now args.settings.now (tile_count args.s)) _ (search rules) in
     record { answer = answer; bits = written; says = write_says args.s args.table.now args.settings.now args.bits.now _ _ answer written }
 
 pub overflow_mul-s : goal.overflow_mul-s

@@ -1,0 +1,34 @@
+-- `list::list_sources` meets its contract: the rows written are the block's, and a disabled carry that is read is the lowest. Assumes nothing.
+use Rattle.block.proofs.ScheduleLaws.{rows_written}
+use Rattle.block.proofs.BuildingLaws.{list_carry}
+use native.Mathlib.Omega.{arith}
+use mathlib.Core.Path.{refl}
+use Rattle.block.proofs.list.list_sources.Goals as goal
+
+pub carry_read_wire-carry-requires : goal.carry_read_wire-carry-requires
+carry_read_wire-carry-requires c =
+    let B = c.args.b in
+    let table = c.args.table.now in
+    let st = c.args.st.now in
+    let sources = c.args.sources.now in
+    let written = rows_written B table st sources _ c.requires.wires_value.1 c.write_rows.ensures in
+    let room = c.requires.room_long in
+    (c.requires.routed.0, written)
+
+-- a disabled carry is read
+pub returns-then-carry-n : goal.returns-then-carry-n
+returns-then-carry-n c =
+    let B = c.args.b in
+    let table = c.args.table.now in
+    let room = c.requires.room_long in
+    record { answer = list_carry B table c.args.st.now c.requires.routed.1 _ c.carry_read_wire-carry.ensures (omega (arith, room.wires_long)); list = refl }
+
+pub list_rows-requires : goal.list_rows-requires
+list_rows-requires c =
+    let B = c.args.b in
+    let table = c.args.table.now in
+    let st = c.args.st.now in
+    let sources = c.args.sources.now in
+    let written = rows_written B table st sources _ c.requires.wires_value.1 c.write_rows.ensures in
+    let room = c.requires.room_long in
+    record { routed = (c.requires.routed.0, c.requires.routed.1, omega (arith, c.carry_read_wire-carry.ensures, room.wires_long)); wires_value = (c.requires.wires_value.0, c.requires.wires_value.1, written); room_long = record { list_long = room.list_long; wires_long = room.wires_long; sources_long = room.sources_long; rows_long = omega (arith, room.rows_long); marks_long = room.marks_long; queue_long = room.queue_long } }

@@ -40,8 +40,7 @@ ENTRIES = [
     ('compare', 'src/lib.rt', 'compare', '1'),
     ('compare', 'src/part.rt', 'part_answer', '1'),
     ('compare', 'src/part.rt', 'tile_part', '1'),
-    ('sim', 'src/lib.rt', 'settle', '1'),
-    ('sim', 'src/lib.rt', 'clock', '1'),
+    ('sim', 'src/lib.rt', 'step', '1'),
     ('asc', 'src/lib.rt', 'read', '12'),
     ('asc', 'src/lib.rt', 'text_length', '1'),
     ('asc', 'src/lib.rt', 'write', '12'),
@@ -58,10 +57,8 @@ ENTRIES = [
     ('capi', 'src/comparing.rt', 'ice40_tile_part', '1'),
     ('capi', 'src/circuits.rt', 'ice40_build', '1'),
     ('capi', 'src/circuits.rt', 'ice40_follow', '1'),
-    ('capi', 'src/circuits.rt', 'ice40_settle', '1'),
-    ('capi', 'src/circuits.rt', 'ice40_clock', '1'),
+    ('capi', 'src/circuits.rt', 'ice40_step', '1'),
     ('capi', 'src/contentions.rt', 'ice40_contentions', '1'),
-    ('capi', 'src/cards.rt', 'ice40_card', '1'),
     ('capi', 'src/files.rt', 'ice40_asc_read', '1'),
     ('capi', 'src/files.rt', 'ice40_asc_length', '1'),
     ('capi', 'src/files.rt', 'ice40_asc_write', '1'),
@@ -70,101 +67,99 @@ ENTRIES = [
 ]
 
 # Closed statements that stand beside a demand's own.
-BESIDE = {'2': ['theorem/Forms'], '3': ['theorem/Influence']}
+BESIDE = {'2': ['theorem/Forms']}
 
 # The closed statements of each demand with the law that proves each, and the records that their fields speak of.
 STATEMENTS = {'1': [('theorem/Demand1.Demand1', 'theorem/demand1')],
-              '2': [('theorem/Demand2.Demand2', 'theorem/demand2'), ('theorem/Forms.SameForms', 'theorem/same-forms')],
-              '3': [('theorem/Demand3.Demand3', 'theorem/demand3'), ('theorem/Influence.Influence', 'theorem/influence')]}
+              '2': [('theorem/Demand2.Demand2', 'theorem/demand2'), ('theorem/Forms.SameForms', 'theorem/same_forms')],
+              '3': [('theorem/Demand3.Demand3', 'theorem/demand3')]}
 PARTS = {'theorem/Demand3.Demand3': ['theorem/Demand3.AcceptedBlock']}
 
 # Slices whose clause has another form: the report is at the front of `out`, and the rest of it as it was.
 OTHERWISE = {('report', 'out')}
 
-# What a yes of `build`, `settle` and `clock` writes is demand 3's: where a demand's roots are contracts, it is not one of them.
-WRITTEN = {'equations/Settling.blockList', 'stepper/Settling.settledBy', 'stepper/Settling.portValues', 'stepper/Clocking.nextStates'}
+# What a yes of `build` and `step` writes is demand 3's: where a demand's roots are contracts, it is not one of them.
+WRITTEN = {'equations/Settling.block_list', 'stepper/Settling.settled_by', 'stepper/Settling.port_values', 'stepper/Clocking.next_states'}
 
 # computed, what stands in its place, the laws that say so. A name is CRATE/MODULE.NAME, with * for any
 # module of the crate, and a law CRATE/LAW.
 COMPUTED = [
     # tests of what is also said as facts
-    ('ports/Block.allowed', ['ports/Block.Allowed'], ['ports/allowed-exact']),
-    ('ports/Block.sized', ['ports/Block.Sized'], ['ports/sized-exact']),
-    ('ports/Ports.portAt', ['ports/PortNames.indexOf', 'ports/PortNames.Within'], ['ports/index-back', 'ports/port-at-back']),
-    ('config/Entry.lengthsOk', ['config/Facts.ExactLengths'], ['config/lengths-exact']),
-    ('block/Lengths.buildExact', ['block/Lengths.BuildLong'], ['block/build-long-exact']),
-    ('block/Lengths.followExact', ['block/Lengths.FollowLong'], ['block/follow-long-exact']),
-    ('compare/Lengths.sameSize', ['compare/Lengths.SameSize'], ['compare/same-size-exact']),
-    ('compare/Lengths.compareExact', ['compare/Lengths.CompareLong'], ['compare/compare-long-exact']),
-    ('compare/Entry.compareAnswer', ['compare/Meaning.CompareSays'], ['compare/compare-says', 'compare/compare-exact']),
-    ('compare/Entry.comparedList', ['compare/Difference.DiffersIn', 'lists/Listing.Lists'], ['compare/differences-listed']),
-    ('contention/Lengths.contentionExact', ['contention/Lengths.ContentionLong'], ['contention/contention-long-exact']),
-    ('sim/Lengths.settleExact', ['sim/Lengths.SettleLong'], ['sim/settle-long-exact']),
-    ('sim/Lengths.clockExact', ['sim/Lengths.ClockLong'], ['sim/clock-long-exact']),
+    ('ports/Block.allowed', ['ports/Block.Allowed'], ['ports/allowed_exact']),
+    ('ports/Block.sized', ['ports/Block.Sized'], ['ports/sized_exact']),
+    ('ports/Ports.port_at', ['ports/PortNames.index_of', 'ports/PortNames.Within'], ['ports/index_back', 'ports/port_at_back']),
+    ('config/Entry.lengths_ok', ['config/Facts.ExactLengths'], ['config/lengths_exact']),
+    ('block/Lengths.build_exact', ['block/Lengths.BuildLong'], ['block/build_long_exact']),
+    ('block/Lengths.follow_exact', ['block/Lengths.FollowLong'], ['block/follow_long_exact']),
+    ('compare/Lengths.same_size', ['compare/Lengths.SameSize'], ['compare/same_size_exact']),
+    ('compare/Lengths.compare_exact', ['compare/Lengths.CompareLong'], ['compare/compare_long_exact']),
+    ('compare/Entry.compare_answer', ['compare/Meaning.CompareSays'], ['compare/compare_says', 'compare/compare_exact_lem']),
+    ('compare/Entry.compared_list', ['compare/Difference.DiffersIn', 'lists/Listing.Lists'], ['compare/differences_listed']),
+    ('contention/Lengths.contention_exact', ['contention/Lengths.ContentionLong'], ['contention/contention_long_exact']),
+    ('sim/Lengths.step_exact', ['sim/Lengths.StepLong'], ['sim/step_long_exact']),
     # wires
-    ('fabric/Wire.wireOf', ['fabric/Joins.Lowest'], ['fabric/wire-exact', 'fabric/wire-lowest']),
-    ('fabric/Wire.wiresOf', ['fabric/Joins.Lowest'], ['fabric/wires-at', 'fabric/wire-lowest']),
-    ('fabric/Count.ownWire', ['fabric/Joins.Lowest'], ['fabric/wire-own-exact']),
+    ('fabric/Wire.wire_of', ['fabric/Joins.Lowest'], ['fabric/wire_exact', 'fabric/wire_lowest']),
+    ('fabric/Wire.wires_of', ['fabric/Joins.Lowest'], ['fabric/wires_at', 'fabric/wire_lowest']),
+    ('fabric/Count.own_wire', ['fabric/Joins.Lowest'], ['fabric/wire_own_exact']),
     # a block's bits in both their forms
-    ('words/Forms.pastColumns', ['words/Stray.Stray'], ['words/stray-exact']),
-    ('words/Stray.firstStray', ['words/Stray.LowestStray'], ['words/first-stray-exact', 'words/first-stray-none']),
-    ('words/Forms.wordsOf', ['words/Forms.SameBits'], ['words/words-same']),
-    ('words/Forms.bytesOf', ['words/Forms.SameBits'], ['words/bytes-same']),
-    ('words/Answers.wordsAnswer', ['words/Meaning.WordsSay'], ['words/words-say', 'words/words-exact']),
-    ('words/Answers.bytesAnswer', ['words/Meaning.BytesSay'], ['words/bytes-say', 'words/bytes-exact']),
+    ('words/Forms.past_columns', ['words/Stray.Stray'], ['words/stray_exact']),
+    ('words/Stray.first_stray', ['words/Stray.LowestStray'], ['words/first_stray_exact', 'words/first_stray_none']),
+    ('words/Forms.words_of', ['words/Forms.SameBits'], ['words/words_same']),
+    ('words/Forms.bytes_of', ['words/Forms.SameBits'], ['words/bytes_same']),
+    ('words/Answers.words_answer', ['words/Meaning.WordsSay'], ['words/words_say', 'words/words_exact']),
+    ('words/Answers.bytes_answer', ['words/Meaning.BytesSay'], ['words/bytes_say', 'words/bytes_exact']),
     # the table's rules
-    ('routing/TableCheck.tableOk', ['routing/Rules.TableRules'], ['routing/table-exact']),
-    ('routing/TableCheck.faultyPart', ['routing/Rules.FirstBroken'], ['routing/faulty-part-exact']),
+    ('routing/TableCheck.table_ok', ['routing/Rules.TableRules'], ['routing/table_exact']),
+    ('routing/TableCheck.faulty_part', ['routing/Rules.FirstBroken'], ['routing/faulty_part_exact']),
     # reading and writing
-    ('codec/Decode.decode', ['codec/Reading.ReadsTo'], ['codec/decode-reads', 'codec/reads-unique']),
-    ('codec/Fault.tileFault', ['codec/Reading.Faulty'], ['codec/tile-fault-exact', 'codec/fault-exact']),
-    ('codec/Limits.settingsFit', ['codec/Reading.HasBits'], ['codec/settings-fit-exact']),
+    ('codec/Decode.decode', ['codec/Reading.ReadsTo'], ['codec/decode_reads', 'codec/reads_unique']),
+    ('codec/Fault.tile_fault', ['codec/Reading.Faulty'], ['codec/tile_fault_exact', 'codec/fault_exact']),
+    ('codec/Limits.settings_fit', ['codec/Reading.HasBits'], ['codec/settings_fit_exact']),
     ('codec/Encode.encode', ['codec/Reading.ReadsTo', 'codec/Reading.Decodable'],
-     ['codec/encode-decodable', 'codec/settings-back', 'codec/bits-back']),
-    ('config/Blocks.faultPlace', ['config/Facts.LowestFault'], ['config/fault-place-exact']),
-    ('config/Blocks.bitlessTile', ['config/Facts.LowestBitless'], ['config/bitless-lowest']),
-    ('config/Blocks.decoded', ['config/Facts.TilesRead'], ['config/decoded-at', 'codec/decode-reads', 'codec/reads-unique']),
-    ('config/Blocks.encoded', ['config/Facts.TilesRead'], ['config/encoded-reads', 'codec/bits-back']),
-    ('config/Entry.readAnswer', ['config/Meaning.ReadSays'], ['config/read-says', 'config/read-exact']),
-    ('config/Entry.writeAnswer', ['config/WriteMeaning.WriteSays'], ['config/write-says', 'config/write-exact']),
+     ['codec/encode_decodable', 'codec/settings_back', 'codec/bits_back']),
+    ('config/Blocks.fault_place', ['config/Facts.LowestFault'], ['config/fault_place_exact']),
+    ('config/Blocks.bitless_tile', ['config/Facts.LowestBitless'], ['config/bitless_lowest']),
+    ('config/Blocks.decoded', ['config/Facts.TilesRead'], ['config/decoded_at_lem', 'codec/decode_reads', 'codec/reads_unique']),
+    ('config/Blocks.encoded', ['config/Facts.TilesRead'], ['config/encoded_reads', 'codec/bits_back']),
+    ('config/Entry.read_answer', ['config/Meaning.ReadSays'], ['config/read_says', 'config/read_exact']),
+    ('config/Entry.write_answer', ['config/WriteMeaning.WriteSays'], ['config/write_says', 'config/write_exact']),
     # building and following
-    ('equations/Sources.contendedWire', ['equations/Switches.LowestContention'],
-     ['equations/contended-exact', 'equations/contended-none-exact']),
-    ('equations/Sources.sourcesOf', ['equations/Switches.Ends'], ['drivers/goes-leads', 'drivers/leads-goes', 'reporting/wire-says']),
-    ('equations/Drives.driveOf', ['drivers/Following.StandsAt'], ['drivers/stands-at', 'drivers/stands-drive']),
-    ('drivers/Following.driverOf', ['drivers/Following.DrivenBy'], ['drivers/driven-exact', 'drivers/driven-unique']),
-    ('drivers/CarryReads.carryReadWire', ['equations/DisabledCarry.LowestDisabledCarry'],
-     ['drivers/carry-read-exact', 'drivers/carry-read-none-exact']),
-    ('drivers/Clocks.clockedTile', ['drivers/Clocks.LowestFromCell'], ['drivers/clocked-exact', 'drivers/clocked-none-exact']),
-    ('loops/Loops.loopWire', ['equations/Equations.LowestLooped'], ['loops/loop-wire-is', 'equations/loop-lowest-exact']),
-    ('block/Building.listAnswer', ['block/Meaning.ListSays'], ['block/list-says']),
-    ('block/Building.buildAnswer', ['block/Meaning.BuildSays'], ['block/build-says', 'block/build-exact']),
-    ('block/Drivers.followAnswer', ['block/DriverMeaning.FollowSays'], ['block/follow-says', 'block/follow-exact']),
-    ('contention/Entry.contentionsAnswer', ['contention/Meaning.ContentionsSay'], ['contention/contentions-say', 'contention/contentions-exact']),
-    ('contention/Entry.contentionsList', ['contention/Contentions.ContentionRow', 'lists/Listing.Lists'], ['contention/contentions-listed']),
-    ('card/Entry.cardAnswer', ['card/Meaning.CardSays'], ['card/card-say', 'card/card-exact']),
-    ('card/Entry.cardAfter', ['card/Card.Card'], ['card/card-is', 'card/leaving-exact', 'card/feeding-exact']),
-    ('equations/Settling.blockList', ['theorem/*.Listing', 'theorem/*.OnlyChoice'], ['theorem/listing', 'theorem/demand3', 'equations/row-says']),
-    # settling and clocking
-    ('stepper/Settling.badRow', ['netlist/Checking.FirstBad'], ['netlist/first-bad-exact']),
-    ('sim/Checks.badByte', ['sim/Meaning.FirstAbove'], ['sim/settle-says', 'sim/clock-says']),
-    ('sim/Settling.settleAnswer', ['sim/Meaning.SettleSays'], ['sim/settle-says', 'sim/settle-exact']),
-    ('sim/Clocking.clockAnswer', ['sim/Meaning.ClockSays'], ['sim/clock-says', 'sim/clock-exact']),
+    ('equations/Sources.contended_wire', ['equations/Switches.LowestContention'],
+     ['equations/contended_exact', 'equations/contended_none_exact']),
+    ('equations/Sources.sources_of', ['equations/Switches.Ends'], ['drivers/goes_leads', 'drivers/leads_goes', 'reporting/wire_says']),
+    ('equations/Drives.drive_of', ['drivers/Following.StandsAt'], ['drivers/stands_at', 'drivers/stands_drive']),
+    ('drivers/Following.driver_of', ['drivers/Following.DrivenBy'], ['drivers/driven_exact', 'drivers/driven_unique']),
+    ('drivers/CarryReads.carry_read_wire', ['equations/DisabledCarry.LowestDisabledCarry'],
+     ['drivers/carry_read_exact', 'drivers/carry_read_none_exact']),
+    ('drivers/Clocks.clocked_tile', ['drivers/Clocks.LowestFromCell'], ['drivers/clocked_exact', 'drivers/clocked_none_exact']),
+    ('loops/Loops.loop_wire', ['equations/Equations.LowestLooped'], ['loops/loop_wire_is', 'equations/loop_lowest_exact']),
+    ('block/Building.list_answer', ['block/Meaning.ListSays'], ['block/list_says']),
+    ('block/Building.build_answer', ['block/Meaning.BuildSays'], ['block/build_says', 'block/build_exact_lem']),
+    ('block/Drivers.follow_answer', ['block/DriverMeaning.FollowSays'], ['block/follow_says', 'block/follow_exact_lem']),
+    ('contention/Entry.contentions_answer', ['contention/Meaning.ContentionsSay'], ['contention/contentions_say', 'contention/contentions_exact']),
+    ('contention/Entry.contentions_list', ['contention/Contentions.ContentionRow', 'lists/Listing.Lists'], ['contention/contentions_listed']),
+    ('card/Entry.card_answer', ['card/Meaning.CardSays'], ['card/card_say', 'card/card_exact']),
+    ('card/Entry.card_after', ['card/Card.Card'], ['card/card_is', 'card/leaving_exact', 'card/feeding_exact']),
+    ('equations/Settling.block_list', ['theorem/*.Listing', 'theorem/*.OnlyChoice'], ['theorem/listing', 'theorem/demand3', 'equations/row_says']),
+    # the step
+    ('stepper/Settling.bad_row', ['netlist/Checking.FirstBad'], ['netlist/first_bad_exact']),
+    ('sim/Stepping.bad_byte', ['sim/Meaning.FirstAbove'], ['sim/step_says']),
+    ('sim/Stepping.step_answer', ['sim/Meaning.StepSays'], ['sim/step_says', 'sim/step_exact_lem']),
     # ASCII files; the first word of a line is said by its law alone
-    ('texts/Lines.wordLength', [], ['texts/word-length-at', 'texts/word-at']),
-    ('asc/Answers.readAnswer', ['asc/Meaning.AscSays'], ['asc/read-told', 'asc/asc-exact']),
-    ('asc/Answers.bitsRead', ['asc/Meaning.AscSays'], ['asc/read-told', 'asc/asc-exact']),
-    ('asc/Answers.writeAnswer', ['asc/WriteMeaning.WriteSays'], ['asc/write-told', 'asc/write-exact']),
+    ('texts/Lines.word_length', [], ['texts/word_length_at', 'texts/word_at']),
+    ('asc/Answers.read_answer', ['asc/Meaning.AscSays'], ['asc/read_told', 'asc/asc_exact']),
+    ('asc/Answers.bits_read', ['asc/Meaning.AscSays'], ['asc/read_told', 'asc/asc_exact']),
+    ('asc/Answers.write_answer', ['asc/WriteMeaning.WriteSays'], ['asc/write_told', 'asc/write_exact']),
     # frames and the report
-    ('frames/Input.parsed', ['frames/Meaning.ParsedSays'], ['frames/parsed-says', 'frames/parsed-exact']),
-    ('frames/Contents.tableOf', ['frames/Whole.Holds'], ['frames/table-holds']),
-    ('frames/Contents.bitsOf', ['frames/Whole.flat'], ['frames/bits-flat']),
-    ('lines/Listing.switchPart', ['reporting/Meaning.WireSays'], ['reporting/wire-says']),
-    ('reporting/Report.reportOf', ['theorem/ReportGrounds.ReportSays'], ['theorem/report-exact']),
+    ('frames/Input.parsed', ['frames/Meaning.ParsedSays'], ['frames/parsed_says', 'frames/parsed_exact']),
+    ('frames/Contents.table_of', ['frames/Whole.Holds'], ['frames/table_holds']),
+    ('frames/Contents.bits_of', ['frames/Whole.flat'], ['frames/bits_flat']),
+    ('lines/Listing.switch_part', ['reporting/Meaning.WireSays'], ['reporting/wire_says']),
+    ('reporting/Report.report_of', ['theorem/ReportGrounds.ReportSays'], ['theorem/report_exact']),
 ]
 
 # A search over numbers is always computed: where one is reached, a definition that uses it lacks its row above.
-SEARCHES = {'lists/Search.first', 'lists/Search.allFrom', 'lists/Search.someBelow'}
+SEARCHES = {'lists/Search.first', 'lists/Search.all_from', 'lists/Search.some_below'}
 
 # The order in which the files are best read: what is of a crate that is not named comes last.
 ORDER = ['names', 'ports', 'fabric', 'routing', 'digits', 'words', 'codec', 'config', 'refusal', 'cell', 'equations', 'drivers', 'block', 'netlist',
@@ -279,7 +274,7 @@ def bound(text):
 def names_in(text, but):
     names = set()
     for word in WORD.findall(text):
-        if not word.startswith('.') and word not in but:
+        if not word.startswith('.') and word not in but and word.split('.')[0] not in but:
             names.add(word)
     return names
 
@@ -307,12 +302,24 @@ def words_of(code, d):
     return names_in(text, but | {d.name})
 
 
+def contract_clauses(text):
+    """The clauses of a contract: whether it is a `requires` or an `ensures`, its name, and what it says."""
+    found = []
+    for m in re.finditer(r'^ *(requires|ensures) ?(\w*) \{', text, re.M):
+        depth, end = 1, m.end()
+        while depth:
+            depth += {'{': 1, '}': -1}.get(text[end], 0)
+            end += 1
+        found.append((m.group(1), m.group(2), text[m.end():end - 1]))
+    return found
+
+
 def take_uses(text, crate, uses, aliases):
     for path, names in re.findall(r'^(?:ghost )?use ([^\s{;]+?)\.\{([^}]*)\};?$', text, re.M):
         where = place(path, crate)
         if where:
             for name in names.split(','):
-                uses[name.strip()] = where
+                uses[name.split(' as ')[-1].strip()] = where
     for path, name in re.findall(r'^(?:ghost )?use (\S+) as (\S+?);?$', text, re.M):
         where = place(path, crate)
         if where:
@@ -320,12 +327,12 @@ def take_uses(text, crate, uses, aliases):
 
 
 def place(path, crate):
-    m = re.match(r'Rattle·([A-Za-z_]+)(?:·specs)?\.specs\.(.*)$', path)
+    m = re.match(r'Rattle\.([A-Za-z_]+)\.specs\.(.*)$', path)
     if not m:
         return None
     owner, rest = m.groups()
     if rest.startswith('declared.'):
-        parts = rest[len('declared.'):].replace('.the-variants', '').split('.')
+        parts = rest[len('declared.'):].replace('.TheVariants', '').split('.')
         return (owner, 'declared', parts[-1])
     return (owner, 'specs', rest)
 
@@ -367,8 +374,10 @@ class Sources:
         where = uses.get(name)
         last = name
         if where is None and '.' in name:
-            alias, last = name.split('.', 1)
-            where = aliases.get(alias)
+            first, last = name.split('.', 1)
+            where = aliases.get(first)
+            if where is None:  # a field of what is before the dot
+                return self.find(first, module_key, uses, aliases, own)
         if where is None:
             return None
         crate, kind, rest = where
@@ -416,7 +425,7 @@ class Sources:
         if not text:
             return None
         found = []
-        for name in sorted(names_in(' '.join(re.findall(r'⌜(.*?)⌝', text, re.S)), set())):
+        for name in sorted(names_in(' '.join(said for _, _, said in contract_clauses(text)), set())):
             other = self.find(name, None, uses, aliases, {})
             if other is not None:
                 found.append(other)
@@ -564,7 +573,7 @@ def lists(sources, reached):
     parts['computed'] = rows
     rows = ['| Entry point | Clauses | Digest |', '|---|---|---|']
     for crate, file, function, _ in ENTRIES:
-        labels = [x or '(the answer)' for x in re.findall(r'^ *ensures (\w*) ?\{', sources.clauses(crate, file, function), re.M)]
+        labels = [name or '(the answer)' for kind, name, _ in contract_clauses(sources.clauses(crate, file, function)) if kind == 'ensures']
         means = meaning_of_names(read(os.path.join(CRATES, crate, file)))
         rows.append('| [`%s::%s`](../crates/%s/%s) | %s | %s |' % (
             crate, function, crate, file, ', '.join(labels), digest(means + sources.clauses(crate, file, function).split('\n'))))
@@ -606,13 +615,13 @@ def fields_faults(sources):
 
 
 def memory_faults(sources):
-    """Each slice that an entry point writes has a clause of its name, by `output` or `workRoom`; the code's entry points for C are all listed."""
+    """Each slice that an entry point writes has a clause of its name, by `output` or `work_room`; the code's entry points for C are all listed."""
     faults = []
     for crate, file, function, _ in ENTRIES:
         text = sources.clauses(crate, file, function)
-        clauses = dict(re.findall(r'^ *ensures (\w+) \{(.*?)⌝ \}', text, re.M | re.S))
+        clauses = {name: said for kind, name, said in contract_clauses(text) if kind == 'ensures'}
         for name in re.findall(r'(\w+): &mut \[', text.split('ensures')[0]):
-            if not re.search(r'\b(output|workRoom)\b', clauses.get(name, '')) and (function, name) not in OTHERWISE:
+            if not re.search(r'\b(output|work_room)\b', clauses.get(name, '')) and (function, name) not in OTHERWISE:
                 faults.append('%s::%s: no clause says what is in %s afterwards' % (crate, function, name))
     listed = set(function for crate, _, function, _ in ENTRIES if crate == 'capi')
     src = os.path.join(CRATES, 'capi', 'src')
@@ -645,8 +654,8 @@ def contents_faults(sources, believed):
             faults.append('%s: %s is %sbelieved' % (short(lib), module.name, '' if key in believed else 'not '))
         if not says and not line.startswith(('computed: ', 'inner')):
             faults.append('%s: %s: neither believed, computed nor inner' % (short(lib), module.name))
-        for name in re.findall(r'computed: ([a-z0-9, -]+)', line):
-            for law in name.split(', '):
+        for names in re.findall(r'computed: ([a-z0-9_, -]+)', line):
+            for law in names.replace('-', '_').split(', '):
                 if not any(has_law(c + '/' + law) for c in os.listdir(CRATES) if os.path.isdir(os.path.join(CRATES, c, 'proofs'))):
                     faults.append('%s: %s: no law %s' % (short(lib), module.name, law))
     return faults

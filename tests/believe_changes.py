@@ -20,14 +20,14 @@ from library import Count, run  # noqa: E402
 # what is changed, the file below the project's folder, what stands there (once at least; the first is changed), what is put in its place
 CHANGES = [
     ('a bound within a believed line', 'crates/fabric/specs/Joins.antt', 'k < 36', 'k < 35'),
-    ('a hypothesis that nobody can meet', 'crates/theorem/specs/Demand3.antt', 'pub six-exactly : (B : Block)', 'pub six-exactly : ⊥ → (B : Block)'),
-    ('a law that says less', 'crates/fabric/proofs/WireLaws.antt', 'pub wire-lowest : ', 'pub wire-lowest : ⊥ → '),
+    ('a hypothesis that nobody can meet', 'crates/theorem/specs/Demand3.antt', 'pub six_exactly : (B : Block)', 'pub six_exactly : ⊥ → (B : Block)'),
+    ('a law that says less', 'crates/fabric/proofs/WireLaws.antt', 'pub wire_lowest : ', 'pub wire_lowest : ⊥ → '),
     ('the parameters that a law is stated over', 'crates/config/proofs/BlocksLaws.antt', 'module _ (', 'module _ (never : ⊥) ('),
-    ('what a name means', 'crates/fabric/specs/Joins.antt', 'use Prim.Native.Nat.{', 'use Other.Native.Nat.{'),
-    ('a clause that says less', 'crates/config/src/lib.rt', 'ensures settings { λ r. ⌜ ', 'ensures settings { λ r. ⌜ ⊥ → '),
-    ('a table written by hand', 'docs/BELIEVE.md', '| `loop-exactly` | "passes checks 1 to 6": `PassesSix` |', '| `loop-exactly` | none |'),
-    ('a field that the table leaves out', 'docs/BELIEVE.md', '`follow-stays`: ', ''),
-    ('an entry point that asks for something', 'crates/sim/src/lib.rt', '    ensures answer', '    requires { ⌜ ⊥ ⌝ }\n    ensures answer'),
+    ('what a name means', 'crates/fabric/specs/Joins.antt', 'use Rattle.std.specs.Prelude.{', 'use Rattle.other.specs.Prelude.{'),
+    ('a clause that says less', 'crates/config/src/lib.rt', 'ensures settings { ', 'ensures settings { ⊥ → '),
+    ('a table written by hand', 'docs/BELIEVE.md', '| `loop_exactly` | "passes checks 1 to 6": `PassesSix` |', '| `loop_exactly` | none |'),
+    ('a field that the table leaves out', 'docs/BELIEVE.md', '| `step_means` |', '| |'),
+    ('an entry point that asks for something', 'crates/sim/src/lib.rt', '    ensures answer', '    requires { ⊥ }\n    ensures answer'),
     ('an entry point that nobody listed', 'crates/capi/src/lib.rt', 'pub extern "C" fn ice40_lookup(', 'pub extern "C" fn ice40_other() -> u64 { 0 }\npub extern "C" fn ice40_lookup('),
     ('a slice whose contents nothing says', 'crates/sim/src/lib.rt', '    ensures marks {', '    ensures wires2 {'),
 ]

@@ -306,7 +306,7 @@ def lookup_page():
     code, said = contents(os.path.join(ROOT, 'crates', 'cell', 'src', 'logic.rt')), contents(os.path.join(ROOT, 'crates', 'cell', 'specs', 'Halves.antt'))
     lines = re.findall(r'(?m)^\| in_\d picks .* \| `(let .*)` \| `(.*)` \| `(.*)` \|$', page)
     for line, bit, field in lines:
-        count.same(('    %s\n' % line in code, 'pub %s : %s ≡ lookupBit ' % (field, bit) in said), (True, True), line)
+        count.same(('    %s\n' % line in code, 'pub %s : %s ≡ lookup_bit ' % (field, bit) in said), (True, True), line)
     count.same(len(lines), 4)
     swapped = [list(cell_model.halves(0xACFC, in2 + in3 + rest))[-1] for in3, in2, rest in (('1', '1', '01'), ('0', '1', '00'))]
     count.same(swapped, ['1', '0'], 'in_2 picks the eight: nothing changes at 1101, and 0 in place of 1 at 0100')

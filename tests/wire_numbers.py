@@ -10,8 +10,8 @@ import subprocess
 import sys
 import tempfile
 
-sys.path.insert(0, os.path.dirname(os.path.abspath(__file__)))
-from library import ROOT, build_archive  # noqa: E402
+ROOT = os.path.dirname(os.path.dirname(os.path.abspath(__file__)))
+ARCHIVE = 'target/staticlib/libcapi.a'
 
 RANGES = [('sp4_h_l', 48), ('sp4_h_r', 48), ('sp4_v_t', 48), ('sp4_v_b', 48), ('sp4_r_v_b', 48),
           ('sp12_h_l', 24), ('sp12_h_r', 24), ('sp12_v_t', 24), ('sp12_v_b', 24), ('local', 32), ('glb2local', 4), ('in', 32), ('out', 8),
@@ -112,12 +112,12 @@ REFUSED = 6  # the last calls, all with ground 1 at place 0: a byte above 1, or 
 
 def answers():
     """What the library answers to the calls of DRIVER."""
-    archive = build_archive()
+    subprocess.run(['make', '-s', ARCHIVE], cwd=ROOT, check=True, stdout=subprocess.DEVNULL, stderr=subprocess.DEVNULL)
     with tempfile.TemporaryDirectory() as folder:
         source, program = os.path.join(folder, 'all.c'), os.path.join(folder, 'all')
         with open(source, 'w') as f:
             f.write(DRIVER)
-        subprocess.run(['cc', '-I', os.path.join(ROOT, 'include'), source, archive, '-o', program], check=True)
+        subprocess.run(['cc', '-I', os.path.join(ROOT, 'include'), source, os.path.join(ROOT, ARCHIVE), '-o', program], check=True)
         return [int(line) for line in subprocess.run([program], check=True, stdout=subprocess.PIPE).stdout.split()]
 
 

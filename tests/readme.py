@@ -144,7 +144,7 @@ def check_yes_words():
 def check_architecture():
     count = Count('docs/ARCHITECTURE.md: every crate, every folder')
     text = contents('docs/ARCHITECTURE.md')
-    crates = {line.split(':')[0] for line in contents('crates.txt').splitlines() if ':' in line and not line.startswith('#')}
+    crates = {line.split(':')[0].split()[0] for line in contents('crates.txt').splitlines() if ':' in line and not line.startswith('#')}
     rows = text[text.index('## The crates'):text.index('## The folders')]
     listed = set(re.findall(r'`(\w+)`', ' '.join(line.split('|')[1] for line in rows.splitlines() if line.startswith('|'))))
     count.same(crates - listed, set())

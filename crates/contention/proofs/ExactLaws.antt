@@ -1,5 +1,5 @@
 -- What an answer of `contentions` says fits one answer, and one content of the lent list, only. Main law: `contentions_exact`. Assumes nothing.
-use Prim.Native.Nat.{ℕ, ◌*◌, ◌<◌, ◌≤◌}
+use Prim.Native.Nat.{ℕ, ◌*◌, ◌≤◌}
 use mathlib.Core.Path.{◌≡◌, sym, subst, ◌∙◌}
 use mathlib.Core.List.{List}
 use native.Mathlib.Omega.{arith}
@@ -12,7 +12,7 @@ use Rattle.refusal.specs.Grounds.{unless}
 use Rattle.refusal.specs.declared.Refusal.{Refusal}
 use Rattle.refusal.specs.declared.Refusal.TheVariants.{WrongSize, WrongLength, Table, Undecodable}
 use Rattle.ports.specs.declared.size.Block.{Block}
-use Rattle.ports.specs.Block.{Sized, sized, tiles}
+use Rattle.ports.specs.Block.{sized, tiles}
 use Rattle.ports.proofs.BlockLaws.{sized_exact, sized_true}
 use Rattle.routing.specs.LogicTile.{logic_tile}
 use Rattle.routing.specs.TableCheck.{faulty_part, part_count, table_ok}
@@ -24,7 +24,7 @@ use Rattle.contention.specs.declared.ContentionList.{ContentionList}
 use Rattle.contention.specs.declared.ContentionList.TheVariants.{Rows, Refused}
 use Rattle.contention.specs.declared.lengths.ContentionLent.{ContentionLent}
 use Rattle.contention.specs.Contentions.{row_length, contention_count}
-use Rattle.contention.specs.Lengths.{contention_exact, ContentionLong}
+use Rattle.contention.specs.Lengths.{contention_exact}
 use Rattle.contention.specs.Entry.{rows_answer, settings_read}
 use Rattle.contention.specs.Meaning.{Readable, ListsContentions, ContentionsNo, wrong_size, wrong_length, broken, undecodable, too_short, ContentionsSay}
 use Rattle.contention.proofs.ContentionLaws.{contentions_listed}

@@ -76,6 +76,13 @@ part_passed A B first second tile e =
     let long = (part_long_exact A first second).0 d in
     record { size = (allowed_exact A).0 a; first_long = long.0; second_long = long.1; within = ltb-true tile (tile_count A) l }
 
+-- so the tile's numbers lie in each block
+pub first_fits : (A B : Size) (first second tile : ℕ) → part_answer A B first second tile ≡ Done → tile_numbers * tile + tile_numbers ≤ first
+first_fits A B first second tile e = let passed = part_passed A B first second tile e in omega (arith, passed.first_long, passed.within)
+
+pub second_fits : (A B : Size) (first second tile : ℕ) → part_answer A B first second tile ≡ Done → tile_numbers * tile + tile_numbers ≤ second
+second_fits A B first second tile e = let passed = part_passed A B first second tile e in omega (arith, passed.second_long, passed.within)
+
 -- ---- the part
 
 module _ (answer : Answer) (side : Side) (first second : List ℕ) (tile : ℕ) where

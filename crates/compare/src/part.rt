@@ -38,6 +38,7 @@ pub fn part_answer(a: Size, b: Size, first: usize, second: usize, tile: u32) -> 
 
 // The tile's sixteen numbers as a part of the block asked for, whether they can be decoded or not; empty on a no, whose ground is `part_answer`'s.
 // Rules out: the part of the other block; a part of a no.
+#[tactic(auto, using(crate::proofs::PartLaws::first_fits, crate::proofs::PartLaws::second_fits))]
 pub fn tile_part<'a>(
     a: Size,
     b: Size,

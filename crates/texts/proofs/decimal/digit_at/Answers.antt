@@ -9,4 +9,4 @@ returns-then-c-lt-ZERO c = record { digit = omega arith; small = omega arith }
 
 pub returns : goal.returns
 unfolding digit_at
-returns c = record { digit = omega arith; small = omega (arith, c.shared_slice_known-1.given c.args.k) }
+returns c = record { digit = omega arith; small = omega (arith, c.type_inv.s c.args.k) }

@@ -1,6 +1,6 @@
 -- A tile's part as C gets it: the index of its first number. Main laws: `part_fits`, `part_yes`, `part_no`. Assumes nothing.
-use Prim.Native.Nat.{ℕ, ◌*◌, ◌%◌, ◌/◌, ◌^◌, ◌<◌}
-use mathlib.Core.Path.{◌≡◌, sym, ap, ◌∙◌, subst}
+use Prim.Native.Nat.{ℕ, ◌*◌, ◌<◌}
+use mathlib.Core.Path.{◌≡◌, sym, ap, ◌∙◌}
 use mathlib.Core.List.{List, [], ◌∷◌}
 use native.Mathlib.Omega.{arith}
 use lib.ListN.{take, drop, length}
@@ -11,7 +11,6 @@ use Rattle.refusal.specs.Grounds.{number_of, place_of}
 use Rattle.refusal.specs.Memory.{output}
 use Rattle.refusal.proofs.MemoryLaws.{output_refused}
 use Rattle.ports.specs.declared.size.Size.{Size}
-use Rattle.ports.specs.Block.{Allowed}
 use Rattle.ports.specs.Lengths.{tile_numbers}
 use Rattle.ports.proofs.BlockLaws.{tile_count_le}
 use Rattle.compare.specs.declared.part.Side.{Side}

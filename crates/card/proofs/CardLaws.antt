@@ -1,6 +1,6 @@
 -- The computed numbers are a card, where the marks are those of leaving and of feeding wires. Main laws: `card_is`, `numbers_length`; `card_written`, `card_filled`:
 -- the card as the code writes it. Assumes nothing.
-use Prim.Native.Nat.{ℕ, suc, ◌+◌, ◌-◌, ◌*◌, ◌≤◌, ◌<◌}
+use Prim.Native.Nat.{ℕ, ◌+◌, ◌-◌, ◌*◌, ◌≤◌, ◌<◌}
 use mathlib.Core.Path.{◌≡◌, refl, sym, ap, ap₂, subst, ◌∙◌}
 use mathlib.Core.Bool.{true}
 use mathlib.Core.Logic.{◌↔◌}
@@ -11,7 +11,7 @@ use borrow.Rule.Slice.PartMut.{put_mid}
 use lib.Seq.{sets, take_at, drop-append-add, drop-drop, get_or_at, get_or-drop}
 use Rattle.lists.specs.Search.{count_below}
 use Rattle.lists.specs.Tables.{zeros}
-use Rattle.lists.specs.Listing.{Precedes, here, Lists, rows_where, zero_filled}
+use Rattle.lists.specs.Listing.{here, Lists, zero_filled}
 use Rattle.lists.proofs.CountLaws.{count_le}
 use Rattle.lists.proofs.RowLaws.{rows_length_lem, sets_append}
 use Rattle.lists.proofs.ListingLaws.{Enumerates, rows_listed, filled_rest, filled_length}

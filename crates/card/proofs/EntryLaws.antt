@@ -1,7 +1,7 @@
 -- The answers of `shelf_card`, ground by ground, each where the grounds before it have passed, and the work room after any answer. Main laws:
 -- `numbers_short`, `numbers_yes`; `bits_no`, `bits_yes`; `answer_size`, `-length`, `-bits`; `room_cleared`. Assumes nothing.
 use Prim.Native.Nat.{ℕ, ◌<◌, ◌≤◌}
-use mathlib.Core.Path.{◌≡◌, refl, sym, ap, subst, ◌∙◌}
+use mathlib.Core.Path.{◌≡◌, refl, sym, ap, ◌∙◌}
 use mathlib.Core.Bool.{Bool, true, false}
 use mathlib.Core.List.{List}
 use borrow.Author.Tests.{le-leb, lt-leb}
@@ -17,7 +17,7 @@ use Rattle.ports.specs.Block.{sized}
 use Rattle.config.specs.Blocks.{tiles_of}
 use Rattle.block.specs.declared.Built.{Built}
 use Rattle.block.specs.declared.Built.TheVariants as built
-use Rattle.block.specs.Building.{built_number, bits_answer, build_answer}
+use Rattle.block.specs.Building.{built_number, build_answer}
 use Rattle.block.proofs.BuildingLaws.{build_size, build_length, build_bits, build_room}
 use Rattle.card.specs.declared.Carded.{Carded}
 use Rattle.card.specs.declared.Carded.TheVariants.{Numbers, Refused}

@@ -9,27 +9,24 @@ use native.Mathlib.Nat.{eq-or-lt_of_le, le_of_suc-le-suc}
 use borrow.Author.Tests.{eqb-true, eq-eqb, ne_eqb}
 use lib.Dec.{eqb}
 use lib.ListN.{length}
-use Rattle.lists.proofs.CaseLaws.{clash}
 use Rattle.ports.specs.declared.size.Block.{Block}
 use Rattle.ports.specs.Block.{Sized, tiles, port_of}
-use Rattle.ports.specs.Lengths.{ports, ports_per_tile}
+use Rattle.ports.specs.Lengths.{ports}
 use Rattle.ports.specs.PortIndex.{in_port, clk, cen, s_r}
 use Rattle.ports.proofs.BlockLaws.{port_of_lt}
 use Rattle.fabric.specs.Wire.{wire_of}
 use Rattle.fabric.specs.Count.{wires}
 use Rattle.fabric.proofs.WireLaws.{wire_within, wire_idempotent}
 use Rattle.netlist.specs.declared.row.Row.{Row}
-use Rattle.netlist.specs.Graph.{DependsOn}
 use Rattle.netlist.specs.Kinds.{lent_kind}
 use Rattle.netlist.specs.Marks.{listed}
 use Rattle.netlist.specs.Order.{order, AllListed}
 use Rattle.netlist.proofs.MarkLaws.{listed_lt}
-use Rattle.equations.specs.declared.drives.Drive.{Drive}
 use Rattle.equations.specs.declared.drives.Drive.TheVariants.{Nothing, Low, High}
 use Rattle.equations.specs.Tiles.{flop_on}
 use Rattle.equations.specs.Switches.{NoContention}
 use Rattle.equations.specs.Routed.{Routed}
-use Rattle.equations.specs.Equations.{wire, OpenWire, ZeroPort, in_port_lem, clk_port, s_r_port, NoLoop, Depends}
+use Rattle.equations.specs.Equations.{OpenWire, in_port_lem, clk_port, s_r_port, NoLoop}
 use Rattle.equations.specs.Drives.{drive_of}
 use Rattle.equations.specs.WireRows.{row_of, wire_rows}
 use Rattle.equations.specs.Sources.{row_from, sources_of}
@@ -44,7 +41,6 @@ use Rattle.equations.proofs.SettlingLaws.{count_wires}
 use Rattle.equations.proofs.SourceLaws.{row_from_sources}
 use Rattle.equations.proofs.InfluenceLaws.{lent_open, open_nothing, open_row}
 use Rattle.card.specs.Cells.{flop_cell}
-use Rattle.card.specs.Leaving.{LeavingWire}
 use Rattle.card.specs.Feeding.{FlipFlopWire, in_wire_lem, clk_wire, cen_wire, s_r_wire, Shown, leaves, clocked, FeedingWire}
 use Rattle.card.specs.Marks.{flop_mark, flop_marks, leaving_marks, reach, open_from, feeding_marks}
 use Rattle.card.proofs.MarkingLaws.{Marked, marked_none, marked_both, marked_as, marked_if, PortsOf, ports_marked, kept_only, kept_all, kept_length}

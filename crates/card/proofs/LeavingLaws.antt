@@ -1,6 +1,6 @@
 -- The computed marks of the leaving wires are those of LeavingWire. Main laws: `leaving_exact`, `leaving_length`. Assumes nothing.
 use Prim.Native.Nat.{ℕ, zero, suc, ◌+◌, ◌*◌, ◌/◌, ◌%◌, ◌≤◌, ◌<◌}
-use mathlib.Core.Path.{◌≡◌, refl, sym, ap, subst, ◌∙◌}
+use mathlib.Core.Path.{◌≡◌, sym, ap, subst, ◌∙◌}
 use mathlib.Core.Bool.{true}
 use mathlib.Core.Logic.{◌⊎◌, inl, inr, ⊎_elim, ◌↔◌}
 use mathlib.Core.List.{List}
@@ -14,7 +14,7 @@ use Rattle.lists.specs.Tables.{zeros}
 use Rattle.lists.proofs.CaseLaws.{clash, lt_or_le}
 use Rattle.lists.proofs.TableLaws.{zeros_length, tabulate_zero, tabulate_length}
 use Rattle.ports.specs.declared.size.Block.{Block}
-use Rattle.ports.specs.Block.{Sized, tiles, port, port_of}
+use Rattle.ports.specs.Block.{Sized, tiles, port_of}
 use Rattle.ports.specs.Lengths.{ports}
 use Rattle.fabric.specs.Joins.{Outside}
 use Rattle.fabric.specs.Wire.{wire_of}
@@ -26,7 +26,7 @@ use Rattle.equations.specs.WireRows.{driver}
 use Rattle.equations.specs.Sources.{source_in, sources_of}
 use Rattle.equations.proofs.SwitchLaws.{driver_ends, driver_none, target_lt}
 use Rattle.card.specs.Leaving.{Fails, sp4_h_east, sp4_h_west, sp4_v_south, sp4_v_north, sp4_right_east, sp4_right_west, sp12_h_east, sp12_h_west, sp12_v_south, sp12_v_north, GoesOut, LeavingWire}
-use Rattle.card.specs.Marks.{west_marks, east_marks, south_marks, north_marks, tile_marks, exit_marks, leaving_marks}
+use Rattle.card.specs.Marks.{mark_ports, west_marks, east_marks, south_marks, north_marks, tile_marks, exit_marks, leaving_marks}
 use Rattle.card.proofs.MarkingLaws.{Marked, marked_none, marked_both, marked_as, marked_if, PortsOf, ports_marked, kept_only, kept_all, kept_length}
 
 -- ---- which side a tile outside is on
@@ -89,7 +89,7 @@ module _ (B : Block) (T : ℕ) where
     unfolding west_marks
     west_marked =
         let a = ports_marked B T 0 48 m l (omega arith) e in
-        let b = ports_marked B T 144 48 _ l (omega arith) (a.long ∙ e) in
+        let b = ports_marked B T 144 48 (mark_ports B T 0 48 m) l (omega arith) (a.long ∙ e) in
         let c = ports_marked B T 240 24 _ l (omega arith) (b.long ∙ a.long ∙ e) in
         marked_if (eqb (T % B.w) 0) (marked_both (marked_both a b) c)
 
@@ -97,7 +97,7 @@ module _ (B : Block) (T : ℕ) where
     unfolding east_marks
     east_marked =
         let a = ports_marked B T 48 48 m l (omega arith) e in
-        let b = ports_marked B T 192 48 _ l (omega arith) (a.long ∙ e) in
+        let b = ports_marked B T 192 48 (mark_ports B T 48 48 m) l (omega arith) (a.long ∙ e) in
         let c = ports_marked B T 264 24 _ l (omega arith) (b.long ∙ a.long ∙ e) in
         marked_if (eqb (T % B.w + 1) B.w) (marked_both (marked_both a b) c)
 

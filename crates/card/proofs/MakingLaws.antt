@@ -1,7 +1,7 @@
 -- What the code hands on, from the list that building wrote to the card. Main laws: `rows_touchable`; `leaving_made`, `feeding_made`, `answer_made`, `card_made`.
 -- Assumes nothing.
 use Prim.Native.Nat.{ℕ, ◌*◌, ◌<◌}
-use mathlib.Core.Path.{◌≡◌, refl, sym, ap, ap₂, subst, ◌∙◌}
+use mathlib.Core.Path.{◌≡◌, ap, ap₂, subst, ◌∙◌}
 use mathlib.Core.List.{List}
 use native.Mathlib.Omega.{arith}
 use Rattle.lists.specs.Search.{count_below}

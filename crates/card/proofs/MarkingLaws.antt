@@ -10,7 +10,7 @@ use native.Mathlib.Nat.{eq-or-lt_of_le, le_of_suc-le-suc}
 use lib.Dec.{eqb}
 use lib.ListN.{length, get_or, set, length-set, get_or-eq_default}
 use lib.Seq.{get_or-set_same, get_or-set_other, set_out}
-use Rattle.lists.proofs.CaseLaws.{cases, clash, eq_or_ne, lt_or_le}
+use Rattle.lists.proofs.CaseLaws.{clash, eq_or_ne, lt_or_le}
 use Rattle.ports.specs.declared.size.Block.{Block}
 use Rattle.ports.specs.Block.{tiles, port_of}
 use Rattle.ports.specs.Lengths.{ports, ports_per_tile}

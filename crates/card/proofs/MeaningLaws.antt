@@ -32,7 +32,7 @@ use Rattle.card.specs.Cells.{used_cell, flop_cell}
 use Rattle.card.specs.Marks.{leaving_marks, feeding_marks}
 use Rattle.card.specs.Card.{Card, card_numbers, card_length}
 use Rattle.card.specs.Entry.{carded_number, numbers_answer, after_build, settings_of, card_answer, card_after}
-use Rattle.card.specs.Meaning.{CardNo, unbuilt, too_short, Carries, CardSays}
+use Rattle.card.specs.Meaning.{unbuilt, too_short, CardSays}
 use Rattle.card.proofs.LeavingLaws.{leaving_exact}
 use Rattle.card.proofs.FeedingLaws.{feeding_exact}
 use Rattle.card.proofs.CardLaws.{card_is, numbers_length}

@@ -1,14 +1,14 @@
 -- One pass over the list, from its last row down, marks what the marked wires depend on: a row reads only wires of earlier rows, so the mark of a row's
 -- wire is final when the pass comes to it. Main law: `reach_exact`. Assumes nothing.
 use Prim.Native.Nat.{ℕ, zero, suc, ◌≤◌, ◌<◌}
-use mathlib.Core.Path.{◌≡◌, refl, sym, ap, subst, ◌∙◌}
-use mathlib.Core.Bool.{Bool, true, false, cond}
+use mathlib.Core.Path.{◌≡◌, sym, ap, subst, ◌∙◌}
+use mathlib.Core.Bool.{true}
 use mathlib.Core.Logic.{◌⊎◌, inl, inr, ⊎_elim, ◌↔◌}
 use mathlib.Core.List.{List}
 use native.Mathlib.Omega.{arith}
 use native.Mathlib.Nat.{eq-or-lt_of_le, le_of_suc-le-suc}
-use lib.ListN.{length, get_or, set, length-set}
-use Rattle.lists.proofs.CaseLaws.{cases, clash, lt_or_le}
+use lib.ListN.{length, get_or}
+use Rattle.lists.proofs.CaseLaws.{clash}
 use Rattle.netlist.specs.declared.row.Row.{Row}
 use Rattle.netlist.specs.Graph.{Graph, Reads, DependsOn, reads, via, Closed}
 use Rattle.netlist.specs.Marks.{listed}

@@ -18,7 +18,7 @@ use Rattle.netlist.specs.Marks.{listed}
 use Rattle.netlist.specs.Rows.{row_at, arity_of, operand_of}
 use Rattle.netlist.proofs.MarkLaws.{listed_true, listed_false}
 use Rattle.card.specs.Cells.{flop_cell}
-use Rattle.card.specs.Marks.{mark_ports, west_marks, east_marks, south_marks, north_marks, tile_marks, exit_marks, kept_at, kept_to, flop_mark, flop_marks, read_marks, touched, reach}
+use Rattle.card.specs.Marks.{mark_ports, west_marks, east_marks, south_marks, north_marks, exit_marks, kept_at, kept_to, flop_mark, flop_marks, read_marks, touched, reach}
 
 cond_length : (b : Bool) (x y : List ℕ) (n : ℕ) → length x ≡ n → length y ≡ n → length (cond b x y) ≡ n
 cond_length true x y n p q = p

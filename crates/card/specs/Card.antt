@@ -1,10 +1,9 @@
 -- The numbers of a card (document 02, W14). `Card` is what a reader believes; `card_numbers` computes them, and proofs/CardLaws.antt shows that it does.
 use Rattle.std.specs.Prelude.{ℕ, ◌+◌, ◌*◌, ◌≤◌, ◌≡◌, List, [], ◌∷◌, ◌++◌, length, get_or, take, drop}
 use Rattle.lists.specs.Search.{count_below}
-use Rattle.lists.specs.Listing.{Lists, rows_where, zero_filled}
+use Rattle.lists.specs.Listing.{Lists, rows_where}
 use Rattle.ports.specs.declared.size.Block.{Block}
 use Rattle.ports.specs.Block.{tiles}
-use Rattle.ports.specs.Lengths.{ports}
 use Rattle.netlist.specs.Marks.{listed}
 use Rattle.card.specs.Cells.{used_cell, flop_cell}
 use Rattle.card.specs.Leaving.{LeavingWire}

@@ -10,11 +10,11 @@ use Rattle.netlist.specs.Marks.{listed, marks_after}
 unfoldable pub ready : Graph → List ℕ → ℕ → Bool
 ready g marks w = g.wire w && (not (listed marks w) && all_from (λ j. listed marks (g.operand w j)) 0 (g.arity w))
 
--- "the lowest_numbered" such wire; n where there is none
+-- "the lowest-numbered" such wire; n where there is none
 unfoldable pub next : Graph → ℕ → List ℕ → ℕ
 next g n marks = first (ready g marks) 0 n
 
--- "The next row is always that of the lowest_numbered wire not yet listed whose dependencies all are."
+-- "The next row is always that of the lowest-numbered wire not yet listed whose dependencies all are."
 -- The next k wires: fewer where none is ready.
 unfoldable pub order_from : Graph → ℕ → ℕ → List ℕ → List ℕ
 order_from g n zero marks = []

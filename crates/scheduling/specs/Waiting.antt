@@ -1,4 +1,4 @@
--- Who waits while the order is made. "The next row is always that of the lowest_numbered wire not yet listed whose dependencies all are": a
+-- Who waits while the order is made. "The next row is always that of the lowest-numbered wire not yet listed whose dependencies all are": a
 -- wire that was looked at and is not ready waits for the first wire that it reads and that is not listed, and is looked at again once that
 -- one is. The mark of a listed wire is 1. The mark of any other is k + 2, with k the wire that came last to wait for it, or 0 if none
 -- waits. `links` continues in the same way: at a wire that waits it has the one that came before it to wait for the same.

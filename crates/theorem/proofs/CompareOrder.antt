@@ -1,6 +1,6 @@
 -- The grounds of `compare` and of asking for a tile's part in their orders. Main laws: `compare_order`, `part_order`. Assumes nothing.
 use Prim.Native.Nat.{ℕ, ◌*◌, ◌<◌, ◌≤◌}
-use mathlib.Core.Path.{◌≡◌, refl, sym, ap}
+use mathlib.Core.Path.{◌≡◌, refl}
 use mathlib.Core.Logic.{inl, inr}
 use mathlib.Core.Bool.{Bool, true, false}
 use mathlib.Core.List.{List}
@@ -28,7 +28,7 @@ use Rattle.compare.specs.declared.Compared.{Compared}
 use Rattle.compare.specs.declared.lengths.CompareLent.{CompareLent}
 use Rattle.compare.specs.Difference.{DiffersIn}
 use Rattle.compare.specs.Places.{row_length}
-use Rattle.compare.specs.Rows.{difference_count, differences}
+use Rattle.compare.specs.Rows.{difference_count}
 use Rattle.compare.specs.Lengths.{SameSize, CompareLong, same_size, part_exact, compare_lent, compare_exact}
 use Rattle.compare.specs.Entry.{compared_number, compared_value, rows_answer, bits_answer, compare_answer, compared_list, part_answer}
 use Rattle.compare.proofs.LengthLaws.{same_size_exact, part_long_exact, compare_long_exact}

@@ -1,17 +1,14 @@
 -- The grounds of both conversions in their orders. Main laws: `words_order`, `bytes_order`. Assumes nothing.
 use Prim.Native.Nat.{ℕ}
-use mathlib.Core.Path.{◌≡◌, refl}
+use mathlib.Core.Path.{refl}
 use mathlib.Core.Logic.{inl, inr}
 use mathlib.Core.List.{List}
 use lib.ListN.{length}
 use Rattle.refusal.specs.Grounds.{answer_number, answer_value}
-use Rattle.refusal.specs.Memory.{output}
 use Rattle.refusal.specs.declared.Refusal.{Refusal}
 use Rattle.refusal.specs.declared.Answer.{Answer}
 use Rattle.refusal.specs.declared.Answer.TheVariants.{Done, Refused}
 use Rattle.ports.specs.declared.size.Size.{Size}
-use Rattle.ports.specs.Block.{tile_count}
-use Rattle.words.specs.Forms.{words_of, bytes_of}
 use Rattle.words.specs.Answers.{words_answer, bytes_answer}
 use Rattle.words.specs.Meaning.{FormNo, by_size, by_length, WordsSay, BytesNo, by_form, by_stray, BytesSay}
 use Rattle.words.proofs.StrayLaws.{fits_no_stray}

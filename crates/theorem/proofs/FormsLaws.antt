@@ -1,19 +1,17 @@
 -- Both forms carry the same settings and answers (document 02, W7), closed. Main law: `same_forms`. Assumes nothing.
 use Prim.Native.Nat.{ℕ}
 use mathlib.Core.Path.{◌≡◌, refl, sym, ap, ap₂, ◌∙◌}
-use mathlib.Core.Bool.{Bool}
 use mathlib.Core.List.{List}
 use native.Mathlib.Omega.{arith}
 use lib.ListN.{length}
 use Rattle.refusal.specs.declared.Answer.TheVariants.{Done}
 use Rattle.ports.specs.declared.size.Size.{Size}
-use Rattle.ports.specs.declared.size.Block.{Block}
 use Rattle.ports.specs.Block.{size_of, tile_count}
 use Rattle.ports.specs.Lengths.{bytes_length}
 use Rattle.words.specs.Packed.{FitsIn}
 use Rattle.words.specs.Forms.{TileBits, byte_bits, words_of, bytes_of, tiles_of_bytes}
 use Rattle.words.specs.Answers.{words_answer, bytes_answer}
-use Rattle.words.specs.Meaning.{BothLong, WordsSay, BytesSay}
+use Rattle.words.specs.Meaning.{BothLong}
 use Rattle.words.proofs.FormsLaws as forms
 use Rattle.words.proofs.StrayLaws.{first_stray_none}
 use Rattle.words.proofs.EntryLaws.{words_done, bytes_done}

@@ -1,4 +1,4 @@
--- "The next row is always that of the lowest_numbered wire not yet listed whose dependencies all are": a wire that is lower than the next one is
+-- "The next row is always that of the lowest-numbered wire not yet listed whose dependencies all are": a wire that is lower than the next one is
 -- listed, or reads a wire that is not. Main law: `order_lowest`. Assumes nothing.
 use Prim.Native.Nat.{ℕ, zero, suc, ◌<◌, ◌≤◌}
 use mathlib.Core.Path.{◌≡◌, sym, ap, ◌∙◌}

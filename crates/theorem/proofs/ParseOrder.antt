@@ -5,17 +5,16 @@ use mathlib.Core.Bool.{true, ◌&&◌}
 use mathlib.Core.Logic.{◌⊎◌, inl, inr, ⊎_elim}
 use mathlib.Core.List.{List}
 use native.Mathlib.Omega.{arith}
-use lib.ListN.{length}
 use Rattle.lists.proofs.CaseLaws.{cases, clash}
 use Rattle.refusal.specs.declared.Refusal.{Refusal}
-use Rattle.refusal.specs.declared.Refusal.TheVariants.{WrongSize, Line}
+use Rattle.refusal.specs.declared.Refusal.TheVariants.{WrongSize}
 use Rattle.refusal.specs.Grounds.{number_of, place_of}
 use Rattle.texts.specs.Pieces.{Stands}
 use Rattle.frames.specs.declared.input.Parsed.{Parsed}
 use Rattle.frames.specs.declared.input.Parsed.TheVariants.{Block, Refused}
 use Rattle.frames.specs.Frames.{Frame, size, line, Proper}
 use Rattle.frames.specs.Lines.{fields_line, passive_line, size_line}
-use Rattle.frames.specs.Input.{group_count, size_at, width, height, small, parsed, parsed_number, parsed_place}
+use Rattle.frames.specs.Input.{group_count, size_at, small, parsed, parsed_number, parsed_place}
 use Rattle.frames.specs.Meaning.{with_groups, tiles_left, Turn, the_size, a_tile, Sized, Begins, one_more, SizeSays, wrong_size, bad_line, ParsedNo, ParsedSays}
 use Rattle.frames.proofs.SmallLaws.{small_of, small_passes}
 use Rattle.frames.proofs.FrameLaws.{size_read, size_reads}

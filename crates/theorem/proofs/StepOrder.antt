@@ -9,8 +9,6 @@ use Rattle.refusal.specs.declared.Refusal.{Refusal}
 use Rattle.refusal.specs.declared.Answer.{Answer}
 use Rattle.refusal.specs.declared.Answer.TheVariants as answers
 use Rattle.ports.specs.declared.size.Block.{Block}
-use Rattle.block.specs.declared.Built.TheVariants.{Refused}
-use Rattle.block.specs.Meaning.{wrong_size, wrong_length, broken}
 use Rattle.sim.specs.declared.lengths.StepLent.{StepLent}
 use Rattle.sim.specs.declared.lengths.StepRoomLent.{StepRoomLent}
 use Rattle.sim.specs.Lengths.{inputs_lent, step_lent}

@@ -12,9 +12,9 @@ use Rattle.refusal.specs.declared.Answer.{Answer}
 use Rattle.refusal.specs.declared.Answer.TheVariants.{Done}
 use Rattle.ports.specs.declared.size.Size.{Size}
 use Rattle.ports.specs.declared.size.Block.{Block}
-use Rattle.ports.specs.Block.{size_of, tile_count, tiles}
+use Rattle.ports.specs.Block.{size_of, tile_count}
 use Rattle.ports.specs.Lengths.{bits_length, ports}
-use Rattle.config.specs.Blocks.{decoded, encoded, tiles_of}
+use Rattle.config.specs.Blocks.{encoded, tiles_of}
 use Rattle.config.specs.Entry.{read_answer, write_answer}
 use Rattle.compare.specs.declared.Compared.{Compared}
 use Rattle.compare.specs.Lengths.{compare_lent, compare_exact}

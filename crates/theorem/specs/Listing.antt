@@ -18,7 +18,7 @@ pub record Listing (B : Block) (t st list : List ℕ) (rows : ℕ) : Type 0 wher
   pub once : (i j : ℕ) → i < rows → j < rows → (row_at list i).wire ≡ (row_at list j).wire → i ≡ j
   -- "A row is seven 16-bit numbers: kind, wire, four operands, table": each row is the one that its wire's sentence gives
   pub says : (i : ℕ) → i < rows → RowSays B t st (row_at list i).wire (row_at list i)
-  -- "The next row is always that of the lowest_numbered wire not yet listed whose dependencies all are": its own are, and a lower wire is listed
+  -- "The next row is always that of the lowest-numbered wire not yet listed whose dependencies all are": its own are, and a lower wire is listed
   -- or waits for one that is not
   pub reads_earlier : (i : ℕ) → i < rows → (d : ℕ) → ReadsWire B t st (row_at list i).wire d → Earlier list i d
   pub lowest : (i : ℕ) → i < rows → (v : ℕ) → v < (row_at list i).wire → wire_of B v ≡ v

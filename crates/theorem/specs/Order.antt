@@ -7,11 +7,11 @@ use Rattle.lists.specs.Listing.{Lists}
 
 -- where the check does not pass, its number is the answer's and what comes with it is its place; where it passes, the later checks decide
 abbrev pub Check : ℕ → Type 0 → (ℕ → Type 0) → (ℕ → ℕ → Type 0) → ℕ → ℕ → Type 0
-Check ground passes place later number value = ((passes → ⊥) × (number ≡ ground) × place value) ⊎ (passes × later number value)
+Check its_number passes place later number value = ((passes → ⊥) × (number ≡ its_number) × place value) ⊎ (passes × later number value)
 
 -- the same where what passes is something found, and the later checks are about it
 abbrev pub CheckFor : ℕ → (found : Type 0) → (ℕ → Type 0) → (found → ℕ → ℕ → Type 0) → ℕ → ℕ → Type 0
-CheckFor ground found place later number value = ((found → ⊥) × (number ≡ ground) × place value) ⊎ ((x : found) × later x number value)
+CheckFor its_number found place later number value = ((found → ⊥) × (number ≡ its_number) × place value) ⊎ ((x : found) × later x number value)
 
 -- a yes, and what comes with it
 abbrev pub Yes : (ℕ → Type 0) → ℕ → ℕ → Type 0

@@ -16,6 +16,8 @@ use Rattle.block.specs.Building.{built_number, built_value}
 use Rattle.block.specs.Drivers.{followed_number, followed_value, driver_kind, driver_wire}
 use Rattle.contention.specs.declared.ContentionList.{ContentionList}
 use Rattle.contention.specs.Entry.{contentions_number, contentions_value}
+use Rattle.card.specs.declared.Carded.{Carded}
+use Rattle.card.specs.Entry.{carded_number, carded_value}
 
 -- number and value as one
 abbrev pub packed : ℕ → ℕ → ℕ
@@ -40,6 +42,10 @@ packed_built answer = packed (built_number answer) (built_value answer)
 -- the value of the listing of contentions is the number of rows
 abbrev pub packed_contentions : ContentionList → ℕ
 packed_contentions answer = packed (contentions_number answer) (contentions_value answer)
+
+-- the value of a shelf card is how many numbers it has
+abbrev pub packed_carded : Carded → ℕ
+packed_carded answer = packed (carded_number answer) (carded_value answer)
 
 -- the value of following is 65,536 times 1 open, 2 zero, 3 one, 4 cell, 5 ring, plus the wire
 abbrev pub driver_code : Driver → ℕ

@@ -16,6 +16,7 @@ use fabric::WireNumber;
 use ports::size::Block;
 
 pub mod blocks;
+pub mod cards;
 pub mod circuits;
 pub mod comparing;
 pub mod contentions;

@@ -59,6 +59,7 @@ ENTRIES = [
     ('capi', 'src/circuits.rt', 'ice40_follow', '1'),
     ('capi', 'src/circuits.rt', 'ice40_step', '1'),
     ('capi', 'src/contentions.rt', 'ice40_contentions', '1'),
+    ('capi', 'src/cards.rt', 'ice40_card', '1'),
     ('capi', 'src/files.rt', 'ice40_asc_read', '1'),
     ('capi', 'src/files.rt', 'ice40_asc_length', '1'),
     ('capi', 'src/files.rt', 'ice40_asc_write', '1'),

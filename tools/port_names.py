@@ -115,8 +115,27 @@ def names_of_kit(line, crates):
     return {n.strip().split(" as ")[0] for n in (used[2] or "").split(",") if n.strip()}
 
 
+# Names that are words of English in a comment.
+PROSE = {"flip_flops": "flip-flops", "carry_in_lem": "carry-in"}
+MARKS = {".rt": "//", ".antt": "--", ".edit": "#"}
+
+
 def turned(text, names):
     return WORD.sub(lambda m: names.get(m[0], m[0]), text)
+
+
+def with_prose(path, text):
+    """The text with the words of its comments as English has them."""
+    mark = MARKS[os.path.splitext(path)[1]]
+    lines = text.split("\n")
+    for k, line in enumerate(lines):
+        at = line.find(mark)
+        if at >= 0 and (mark != "#" or at == 0):
+            said = line[at:]
+            for name, word in PROSE.items():
+                said = said.replace(name, word)
+            lines[k] = line[:at] + said
+    return "\n".join(lines)
 
 
 RUST = re.compile(r"//[^\n]*|\"(?:\\.|[^\"\\\n])*\"|b?'(?:\\.|[^'\\\n])'|ghost use [^;]*;|(?<!\w)(?:requires|ensures|ghost)\b[^{};]*\{")
@@ -153,7 +172,7 @@ def main(words):
     for path in texts("crates", ".antt", ".rt", ".edit"):
         text = read(path)
         more = {old: new for crates, old, new in BESIDE if path.split(os.sep)[1] in crates.split()} if path.endswith(".antt") else {}
-        new = turned_rust(text, names) if path.endswith(".rt") else turned(text, names | more)
+        new = with_prose(path, turned_rust(text, names) if path.endswith(".rt") else turned(text, names | more))
         if new != text:
             with open(path, "w", encoding="utf-8") as f:
                 f.write(new)

@@ -26,3 +26,4 @@ pub mod OrderLowest  -- order_lowest: the order in the paper's words
 pub mod ShapeLaws  -- shaped: the numbers that a row's kind does not use are 0
 pub mod OwnListLaws  -- own_list_passes: ground 12 lets a block's own list pass
 pub mod FileLaws  -- filed_reads, read_files: demand 2 by way of an ASCII file
+pub mod InfluenceLaws  -- influence: which pins can move which lamp, closed

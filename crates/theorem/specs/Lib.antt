@@ -1,4 +1,4 @@
--- The three demands, each one record over the answers of the calls, and SameForms beside them.
+-- The three demands, each one record over the answers of the calls, and SameForms and Influence beside them.
 pub mod Calls  -- built, stepped, ..: what the calls answer and write, over what is lent
 pub mod Choice  -- OnlyChoice: the one choice of values that the equations allow; StepMeans: what a step does with it
 pub mod Listing  -- Listing: one row for each wire, in document 01's order
@@ -14,3 +14,4 @@ pub mod Demand1  -- Demand1
 pub mod Demand2  -- Demand2
 pub mod Forms  -- SameForms: bytes and words carry the same settings and answers
 pub mod Demand3  -- Demand3
+pub mod Influence  -- Influence: which pins can move which lamp

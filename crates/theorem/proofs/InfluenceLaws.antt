@@ -1,10 +1,10 @@
 -- Which pins can move which lamp, closed: `influence`. Assumes nothing.
-use Prim.Native.Nat.{ℕ, ◌*◌, ◌≤◌, ◌<◌}
+use Prim.Native.Nat.{ℕ, ◌*◌, ◌<◌}
 use mathlib.Core.Path.{◌≡◌, refl, sym, ap, subst, ◌∙◌}
 use mathlib.Core.Logic.{◌↔◌, ⊎_elim}
 use mathlib.Core.List.{List}
 use native.Mathlib.Omega.{arith}
-use lib.ListN.{length, get_or}
+use lib.ListN.{get_or}
 use Rattle.lists.specs.Tables.{zeros}
 use Rattle.lists.proofs.CaseLaws.{eq_or_ne}
 use Rattle.lists.proofs.TableLaws.{zeros_length, tabulate_zero}
@@ -25,12 +25,12 @@ use Rattle.equations.proofs.InfluenceLaws.{Shared, same_value, lent_open, same_r
 use Rattle.block.specs.declared.Built.TheVariants.{Listed}
 use Rattle.block.specs.declared.lengths.RoomLent.{RoomLent}
 use Rattle.block.specs.Lengths.{build_lent}
-use Rattle.block.specs.Meaning.{Accepted, Readable, BuildSays}
+use Rattle.block.specs.Meaning.{Accepted, BuildSays}
 use Rattle.block.proofs.MeaningLaws.{build_says}
 use Rattle.stepper.specs.Settling.{settled_by, port_value, port_values}
 use Rattle.contention.specs.Entry.{settings_read}
-use Rattle.theorem.specs.Calls.{built, list_built, values_settled}
-use Rattle.theorem.specs.Influence.{DifferingPin, OutOfReach, SameJoins, SameEquation, SameEquations, SameValue, Influence}
+use Rattle.theorem.specs.Calls.{built, list_built}
+use Rattle.theorem.specs.Influence.{OutOfReach, SameJoins, SameEquation, SameEquations, SameValue, Influence}
 use Rattle.theorem.proofs.ReadableLaws.{readable_routed}
 
 -- ---- what is known of a block that `build` accepts

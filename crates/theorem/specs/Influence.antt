@@ -1,5 +1,5 @@
--- Which pins can move which lamp (document 02, W13), over the answers of `build`, what the equations allow, what running a list gives and what
--- settling writes. Proved, with no other hypothesis, by `influence` (proofs/InfluenceLaws.antt).
+-- Which pins can move which lamp (document 02, W13), over the answers of `build`, what the equations allow, what running a list gives and the values
+-- that a step writes. Proved, with no other hypothesis, by `influence` (proofs/InfluenceLaws.antt).
 use Rattle.std.specs.Prelude.{ℕ, ◌<◌, ◌≡◌, ◌≢◌, ◌↔◌, List, get_or}
 use Rattle.ports.specs.declared.size.Block.{Block}
 use Rattle.ports.specs.Block.{size_of, block}
@@ -13,7 +13,7 @@ use Rattle.block.specs.declared.Built.TheVariants.{Listed}
 use Rattle.block.specs.declared.lengths.RoomLent.{RoomLent}
 use Rattle.stepper.specs.Settling.{settled_by, port_value}
 use Rattle.contention.specs.Entry.{settings_read}
-use Rattle.theorem.specs.Calls.{built, list_built, values_settled}
+use Rattle.theorem.specs.Calls.{built, list_built, values_stepped}
 
 -- "one state and two sets of lent values"
 module _ (B : Block) (t st lent other : List ℕ) where
@@ -47,11 +47,12 @@ module _ (B C : Block) (t st u su : List ℕ) where
     pub beyond : (d : ℕ) → Depends B t st w d → SameEquation d
 
 -- port p, and so its wire, has the same value under settings st of B with lent values `lent`, whose list is `list`, and under su of C with `other`, whose
--- list is `second`: in whatever values meet the equations, in what running the lists gives, and in what a yes of `settle` writes
+-- list is `second`: in whatever values meet the equations, in what running the lists gives, and in what a yes of `step` writes where these are lent
+-- before
 pub record SameValue (B C : Block) (t st list u su second state lent other : List ℕ) (p : ℕ) : Type 0 where
   pub allowed : (x y : List ℕ) → Meets B t st state lent x → Meets C u su state other y → port_value B x p ≡ port_value C y p
   pub run : port_value B (settled_by B list state lent) p ≡ port_value C (settled_by C second state other) p
-  pub written : get_or (values_settled B list state lent) p 0 ≡ get_or (values_settled C second state other) p 0
+  pub written : get_or (values_stepped B list state lent) p 0 ≡ get_or (values_stepped C second state other) p 0
 
 pub record Influence : Type 0 where
   -- "For an accepted block, one state and two sets of lent values of 0 and 1: each wire that is no lent wire where the two differ, and depends at any

@@ -1,0 +1,30 @@
+-- `clocking::clock_checked` meets its contract: a no keeps the output, a yes shows that the cells can be clocked. Assumes nothing.
+use Rattle.moments.proofs.ClockLaws.{bytes_clockable}
+use Rattle.moments.proofs.ChecksLaws.{settings_no, settings_yes}
+use Rattle.moments.specs.Checks.{settings_answer, bytes_answer}
+use lib.ListN.{length}
+use mathlib.Core.Path.{sym, ◌∙◌, ap}
+use mathlib.Core.List.{◌++◌}
+use Prim.Native.Nat.{ℕ}
+use Rattle.moments.proofs.clocking.clock_checked.Goals as goal
+
+pub returns-in_default-clause-answer : goal.returns-in_default-clause-answer
+returns-in_default-clause-answer c =
+    let a = c.args in
+    let e = c.in_default.is in
+    let bytes = bytes_answer (a.state.now ++ a.before.now ++ a.after.now) in
+    e ∙ settings_no a.table.now a.settings.now c.tile_count.result bytes _ (sym c.check_settings-read.ensures ∙ e)
+    ∙ ap (λ (n : ℕ). settings_answer a.table.now a.settings.now n bytes) c.tile_count.ensures.0
+
+pub returns-in_default-bits-clause-answer : goal.returns-in_default-bits-clause-answer
+returns-in_default-bits-clause-answer c =
+    let a = c.args in
+    let bytes = bytes_answer (a.state.now ++ a.before.now ++ a.after.now) in
+    c.check_settled-bits.ensures
+    ∙ settings_yes a.table.now a.settings.now c.tile_count.result bytes (sym c.check_settings-read.ensures ∙ c.in-Done.is)
+    ∙ ap (λ (n : ℕ). settings_answer a.table.now a.settings.now n bytes) c.tile_count.ensures.0
+
+pub clock-requires : goal.clock-requires
+clock-requires c =
+    let a = c.args in
+    (bytes_clockable a.s a.table.now a.settings.now a.state.now a.before.now a.after.now (length a.next.now) c.requires.0 c.requires.1 (sym c.check_settled-bits.ensures ∙ c.in-Done-bits.is), c.requires.1.next_long)

@@ -1,0 +1,41 @@
+// Clocking the cells of a block whose size is allowed, of what has the exact lengths: the checks of the contents, then what is written.
+ghost use Rattle.std.specs.Prelude.{◌≡◌, ◌++◌, length};
+ghost use Rattle.refusal.specs.Grounds.{answer_number};
+ghost use Rattle.refusal.specs.Memory.{output};
+ghost use Rattle.ports.specs.Block.{tile_count, Allowed};
+ghost use Rattle.moments.specs.Clocking.{handed, next_states};
+ghost use Rattle.moments.specs.Checks.{settings_answer, bytes_answer};
+ghost use Rattle.moments.specs.Lengths.{clock_lent, ClockLong};
+
+use crate::cells;
+use crate::checks::{check_settings, check_settled};
+use ports::size::{Size, tile_count};
+use refusal::Answer;
+
+// Grounds 3, 9 and 10, and on a yes what is written.
+pub fn clock_checked(
+    s: Size,
+    table: &[u16],
+    settings: &[u16],
+    state: &[u8],
+    before: &[u8],
+    after: &[u8],
+    next: &mut [u8],
+) -> Answer
+    requires { Allowed s × ClockLong s (clock_lent table.now settings.now state.now before.now after.now (length next.old)) }
+    ensures answer { result ≡ settings_answer table.now settings.now (tile_count s)
+        (bytes_answer (state.now ++ before.now ++ after.now)) }
+    ensures next { next.new ≡ output (answer_number result) next.old
+        (next_states s settings.now (handed before.now) (handed after.now) state.now) }
+{
+    let read = check_settings(table, settings, tile_count(s));
+    let Answer::Done = read else {
+        return read;
+    };
+    let bits = check_settled(state, before, after);
+    let Answer::Done = bits else {
+        return bits;
+    };
+    cells::clock(s, settings, before, after, state, next);
+    Answer::Done
+}

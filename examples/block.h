@@ -29,8 +29,8 @@ static inline uint32_t wire(uint32_t tile, uint32_t port) {
 /* What drives a port of a block that was built. */
 static inline uint64_t follow_block(uint32_t tile, uint32_t port) {
     size_t ports = ICE40_PORTS_LENGTH(tiles);
-    return ice40_follow(w, h, east, table, ICE40_TABLE_LENGTH, settings, ICE40_SETTINGS_LENGTH(tiles), tile, port, room_a, ports, room_b, ports, room_rows,
-                        ICE40_LIST_LENGTH(tiles), room_c, ports, room_d, ports);
+    return ice40_follow(w, h, east, table, ICE40_TABLE_LENGTH, settings, ICE40_SETTINGS_LENGTH(tiles), tile, port, room_a, ports, room_b, ports, room_c,
+                        ports);
 }
 
 /* Every port's value, of a block that was built. */

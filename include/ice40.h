@@ -33,7 +33,7 @@
  * run at the same time.
  *
  * Stack. ICE40_STACK_BYTES is enough for any call. Measured: ice40_read and ice40_contentions take 82 kB, ice40_asc_read 56 kB,
- * ice40_card, ice40_build and ice40_follow 12 kB, every other call less than 8 kB.
+ * ice40_card and ice40_build 12 kB, every other call less than 8 kB.
  *
  * No call takes memory from the heap, opens a file, prints, or calls back. */
 #ifndef ICE40_H
@@ -221,6 +221,7 @@ static inline const char *ice40_place_words(uint32_t ground) {
 #define ICE40_ZERO 2
 #define ICE40_ONE 3
 #define ICE40_CELL 4
+#define ICE40_RING 5
 #define ICE40_END(value) ((uint32_t)(value) >> 16)
 #define ICE40_END_WIRE(value) ((uint32_t)(value) & 0xFFFF)
 
@@ -274,13 +275,11 @@ uint64_t ice40_build(uint32_t w, uint32_t h, uint32_t east, const uint16_t *tabl
                      size_t wires_length, uint16_t *sources, size_t sources_length, uint16_t *rows, size_t rows_length, uint16_t *marks,
                      size_t marks_length, uint16_t *queue, size_t queue_length);
 
-/* What drives a port, followed from switch to switch; ICE40_END and ICE40_END_WIRE take the value apart. Grounds 1, 2, 3, 9, 5, 7, 20; the place of 7 is
- * the lowest wire of the block that depends on itself, on the way or not. To know that, the call orders the block's rows: it takes nearly as long as
- * ice40_build. The work room is wires, sources, rows (a list), marks and queue, which but for rows have a number for each port. */
+/* What drives a port, followed from switch to switch; ICE40_END and ICE40_END_WIRE take the value apart. Grounds 1, 2, 3, 9, 5, 20. The
+ * work room is wires, sources and marks. */
 uint64_t ice40_follow(uint32_t w, uint32_t h, uint32_t east, const uint16_t *table, size_t table_length, const uint16_t *settings,
                       size_t settings_length, uint32_t tile, uint32_t port, uint16_t *wires, size_t wires_length, uint16_t *sources,
-                      size_t sources_length, uint16_t *rows, size_t rows_length, uint16_t *marks, size_t marks_length, uint16_t *queue,
-                      size_t queue_length);
+                      size_t sources_length, uint16_t *marks, size_t marks_length);
 
 /* Every contention of a block (document 02: fight): a row of wire, tile and group for each enabled switch on a wire on which two or more
  * end; the value is the number of rows. Grounds 1 to 4, then 15, whose place is the number of rows needed. The output is list, of any length;
@@ -290,6 +289,15 @@ uint64_t ice40_contentions(uint32_t w, uint32_t h, uint32_t east, const uint16_t
                            size_t bits_length, uint16_t *list, size_t list_length, uint16_t *settings, size_t settings_length,
                            uint16_t *wires, size_t wires_length, uint16_t *heads, size_t heads_length, uint16_t *nexts,
                            size_t nexts_length);
+
+/* One step from the values before to those after: writes every port's value before, and the next state. Grounds 1, 2, 3, 9, 12, 10. The
+ * outputs are values and next; the work room is wires, own, marks, first and second. */
+uint64_t ice40_step(uint32_t w, uint32_t h, uint32_t east, const uint16_t *table, size_t table_length, const uint16_t *settings,
+                    size_t settings_length, const uint16_t *list, size_t list_length, const uint8_t *state, size_t state_length,
+                    const uint8_t *before, size_t before_length, const uint8_t *after, size_t after_length, uint8_t *values,
+                    size_t values_length, uint8_t *next, size_t next_length, uint16_t *wires, size_t wires_length, uint16_t *own,
+                    size_t own_length, uint16_t *marks, size_t marks_length, uint8_t *first, size_t first_length, uint8_t *second,
+                    size_t second_length);
 
 /* The shelf card of a block: W, H, cells in use, flip-flops, the wires that leave the block (span wires with an enabled switch and a port whose join to
  * another tile fails, as that tile is outside), and the open wires that a leaving wire or a flip-flop's in, clk, cen or s_r wire depends on; the value is

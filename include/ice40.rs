@@ -117,6 +117,7 @@ pub const OPEN: u32 = 1;
 pub const ZERO: u32 = 2;
 pub const ONE: u32 = 3;
 pub const CELL: u32 = 4;
+pub const RING: u32 = 5;
 
 pub fn end(value: u32) -> u32 {
     value >> 16
@@ -166,12 +167,18 @@ extern "C" {
                        queue: *mut u16, queue_length: usize) -> u64;
     pub fn ice40_follow(w: u32, h: u32, east: u32, table: *const u16, table_length: usize, settings: *const u16, settings_length: usize,
                         tile: u32, port: u32, wires: *mut u16, wires_length: usize, sources: *mut u16, sources_length: usize,
-                        rows: *mut u16, rows_length: usize, marks: *mut u16, marks_length: usize,
-                        queue: *mut u16, queue_length: usize) -> u64;
+                        marks: *mut u16, marks_length: usize) -> u64;
     pub fn ice40_contentions(w: u32, h: u32, east: u32, table: *const u16, table_length: usize, bits: *const u64, bits_length: usize,
                              list: *mut u16, list_length: usize, settings: *mut u16, settings_length: usize,
                              wires: *mut u16, wires_length: usize, heads: *mut u16, heads_length: usize,
                              nexts: *mut u16, nexts_length: usize) -> u64;
+    pub fn ice40_step(w: u32, h: u32, east: u32, table: *const u16, table_length: usize, settings: *const u16, settings_length: usize,
+                      list: *const u16, list_length: usize, state: *const u8, state_length: usize,
+                      before: *const u8, before_length: usize, after: *const u8, after_length: usize,
+                      values: *mut u8, values_length: usize, next: *mut u8, next_length: usize,
+                      wires: *mut u16, wires_length: usize, own: *mut u16, own_length: usize,
+                      marks: *mut u16, marks_length: usize, first: *mut u8, first_length: usize,
+                      second: *mut u8, second_length: usize) -> u64;
     pub fn ice40_card(w: u32, h: u32, east: u32, table: *const u16, table_length: usize, bits: *const u64, bits_length: usize,
                       card: *mut u16, card_length: usize, list: *mut u16, list_length: usize, settings: *mut u16, settings_length: usize,
                       wires: *mut u16, wires_length: usize, sources: *mut u16, sources_length: usize,

@@ -14,7 +14,7 @@ import subprocess
 import sys
 
 HERE = os.path.dirname(os.path.abspath(__file__))
-SCRIPTS = ['believe', 'believe_changes', 'signatures', 'wire_numbers', 'nets', 'leaving', 'library', 'asc', 'compare', 'circuits', 'contentions', 'report', 'tools', 'words', 'fights', 'changes', 'shelf', 'shelf_evidence',
+SCRIPTS = ['believe', 'believe_changes', 'signatures', 'wire_numbers', 'nets', 'leaving', 'library', 'asc', 'compare', 'circuits', 'moments', 'contentions', 'report', 'tools', 'words', 'fights', 'changes', 'shelf', 'shelf_evidence',
            'cards', 'wasm', 'page', 'header', 'examples', 'starting', 'install', 'dist', 'readme']
 PACKAGES = {'gcc': 'cc', 'g++': 'c++', 'binutils': 'nm', 'pkg-config': 'pkg-config', 'rustc': 'rustc', 'nodejs': 'node', 'chromium': 'chromium', 'fpga-icestorm': 'icebox_explain',
             'fpga-icestorm-chipdb': '/usr/share/fpga-icestorm/chipdb', 'yosys': 'yosys', 'nextpnr-ice40': 'nextpnr-ice40'}  # Debian's, and what a script looks for of each

@@ -385,11 +385,12 @@ class Block:
         return next((w for w in left if depends(lambda wire: self.reads(rows[wire]), w)), None)
 
     def follow(self, w):
-        """(kind, wire): 1 open, 2 zero, 3 one, 4 cell. Of a block without a loop: there is no ring to meet."""
-        path = set()
+        """(kind, wire): 1 open, 2 zero, 3 one, 4 cell, 5 ring."""
+        path = []
         while w in self.source:
-            assert w not in path, 'a ring, which ground 7 refuses'
-            path.add(w)
+            if w in path:
+                return 5, min(path[path.index(w):])
+            path.append(w)
             w = self.source[w]
         return {'open': 1, 'zero': 2, 'one': 3}.get(self.cells.get(w, ('open',))[0], 4), w
 
@@ -401,6 +402,15 @@ class Block:
                 return t
         return None
 
+    def follow_without_ring(self, w):
+        """(kind, wire): 1 open, 2 zero, 3 one, 4 cell. Of a block without a loop: there is no ring to meet."""
+        path = set()
+        while w in self.source:
+            assert w not in path, 'a ring, which ground 7 refuses'
+            path.add(w)
+            w = self.source[w]
+        return {'open': 1, 'zero': 2, 'one': 3}.get(self.cells.get(w, ('open',))[0], 4), w
+
 
 def build(w, h, east, table, bits):
     """The rows of the list, in order, or a no."""
@@ -408,8 +418,9 @@ def build(w, h, east, table, bits):
     return settings if isinstance(settings, tuple) else build_settings(w, h, east, table, settings)
 
 
-def followed(w, h, east, table, settings, tile, port):
-    """What following a port's driver answers, of settings that some bits have: a no, or (0, 65,536 times the kind plus the wire)."""
+def followed_without_ring(w, h, east, table, settings, tile, port):
+    """What following a port's driver answers in request W12, which refuses a loop, of settings that some bits have: a no, or (0, 65,536 times the kind
+    plus the wire). The library's follow is the other, which meets rings."""
     block = Block(w, h, east, table, settings)
     if block.contended:
         return 5, min(block.contended)
@@ -418,7 +429,7 @@ def followed(w, h, east, table, settings, tile, port):
         return 7, block.lowest_loop(left, rows)
     if tile >= w * h or port >= PORTS:
         return 20, tile if tile >= w * h else port
-    kind, wire = block.follow(block.at(tile, port))
+    kind, wire = block.follow_without_ring(block.at(tile, port))
     return 0, 65536 * kind + wire
 
 
@@ -455,7 +466,7 @@ def in_room(rows, room):
     return rows if 3 * len(rows) <= room else (15, len(rows))
 
 
-# ---- settling, clocking and a step
+# ---- a step, settling and clocking
 
 def run(rows, state, lent):
     values = {}
@@ -464,6 +475,33 @@ def run(rows, state, lent):
                      else lut >> (values[d] * 8 + values[c] * 4 + values[b] * 2 + values[a]) & 1 if kind == 6
                      else int(values[a] + values[b] + values[c] >= 2))
     return values
+
+
+def step(w, h, east, settings, rows, state, before, after):
+    """Every port's value before, and the next state."""
+    wire = union_find(w, h, east)
+    b, a = run(rows, state, before), run(rows, state, after)
+    new = list(state)
+    for t in range(w * h):
+        def port(values, q):
+            return values[wire[PORTS * t + q]]
+
+        edge = port(b, BASE['clk']), port(a, BASE['clk'])
+        tick = edge == ((1, 0) if settings[SETTINGS * t] else (0, 1))
+        cen, sr, later = port(b, BASE['cen']), port(b, BASE['s_r']), port(a, BASE['s_r'])
+        for i in range(8):
+            lut, flags = settings[SETTINGS * t + 579 + 2 * i], settings[SETTINGS * t + 580 + 2 * i]
+            ins = sum(port(b, BASE['in'] + 4 * i + j) << j for j in range(4))
+            lookup, set_value = lut >> ins & 1, flags >> 2 & 1
+            c = 8 * t + i
+            if not flags >> 1 & 1:
+                continue
+            if flags >> 3 & 1:
+                if tick or (sr, later) == (0, 1):
+                    new[c] = set_value if later else lookup if tick and cen else state[c]
+            elif tick and cen:
+                new[c] = set_value if sr else lookup
+    return [b[wire[p]] for p in range(PORTS * w * h)], new
 
 
 def settle(w, h, east, rows, state, lent):
@@ -497,8 +535,8 @@ def clock(w, h, settings, state, before, after):
     return new
 
 
-def step(w, h, east, settings, rows, state, before, after):
-    """Document 01's step: every port's value before, and the next state."""
+def settled_and_clocked(w, h, east, settings, rows, state, before, after):
+    """The same as two settlings and a clocking."""
     b, a = settle(w, h, east, rows, state, before), settle(w, h, east, rows, state, after)
     return b, clock(w, h, settings, state, b, a)
 

@@ -23,6 +23,7 @@ pub mod contentions;
 pub mod files;
 pub mod forms;
 pub mod pack;
+pub mod settling;
 
 // The number of the wire that a port of a tile is on, in a block of w by h tiles; east is 1 where the column to the east of it is logic or
 // RAM, else 0. Grounds 1 and 20.

@@ -1,6 +1,6 @@
 -- The laws of `routing` that its callers cite.
 pub mod OwnerLaws  -- owner_is: with `Once`, the owner of a used slot's position is that slot; owned_start, -claim, -skip: the map
-pub mod SlotLaws  -- slot_at_cell, -field, -passive, -group; slot-used-..; slot-cases: every used slot is one of these
+pub mod SlotLaws  -- slot_at_cell, -field, -passive, -group; slot-used-..; slot_cases: every used slot is one of these
 pub mod LogicTileLaws  -- logic_tile_once: the 160 cell positions of the logic tile are in the tile and differ
 pub mod PositionLaws  -- position_exact: the test of one position and its rule; the turns of claiming it
 pub mod EntryLaws  -- the ways through the test of an entry

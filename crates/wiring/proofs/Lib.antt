@@ -1,4 +1,4 @@
 -- The laws of `wiring`.
-pub mod FillLaws  -- WiresWritten, written-start, -step; copy_end, cross_end, number_end: a range of ports filled
+pub mod FillLaws  -- WiresWritten, written_start, -step; copy_end, cross_end, number_end: a range of ports filled
 pub mod FillSpans  -- row_span, from_south, rim_owns, rim_far, right_copies, right-owns-..: the ranges of spans as they are filled
 pub mod FillPorts  -- each range of a tile's ports as it is filled

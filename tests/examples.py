@@ -323,7 +323,7 @@ def benchmark(folder):
                    check=True)
     frames, asc = os.path.join(DATA, 'sample.in'), os.path.join(DATA, 'counter8.asc')
     commands = [[program, DATA, *words.split()] for words in ('proved nosuch build 1', 'proved big8_8x8 nosuch 1', 'nosuch big8_8x8 build 1', 'proved big8_8x8 build -1',
-                                                              'proved big8_8x8 build x', 'proved loop_8x8 settle 1', 'proved loop_8x8 clock 1', 'baseline big8_8x8 card 1', 'proved',
+                                                              'proved big8_8x8 build x', 'proved loop_8x8 step 1', 'proved loop_8x8 settle 1', 'proved loop_8x8 clock 1', 'baseline big8_8x8 card 1', 'proved',
                                                               'proved nosuch compare 1', 'nosuch big8_8x8 contentions 1', 'proved big8_8x8 contentions x')]
     commands += [[program], [program, folder]]
     time = [sys.executable, os.path.join(ROOT, 'bench', 'report_time')]
@@ -332,7 +332,7 @@ def benchmark(folder):
     for command in commands:
         status, output, errors = answer(command)
         count.same((status, output, errors.count('\n')), (COULD_NOT, '', 1), (command, errors))
-    for words in (['counter8_1x1', 'build'], ['counter8_1x1', 'card'], ['counter8_1x1', 'settle'], ['counter8_1x1', 'clock'], ['big8_8x8, one bit', 'compare'], ['big8_8x8', 'contentions']):
+    for words in (['counter8_1x1', 'build'], ['counter8_1x1', 'card'], ['counter8_1x1', 'step'], ['counter8_1x1', 'settle'], ['counter8_1x1', 'clock'], ['big8_8x8, one bit', 'compare'], ['big8_8x8', 'contentions']):
         count.same(answer([program, DATA, 'proved', *words, '1']), (0, '', ''), words)
     return count.done()
 

@@ -16,15 +16,17 @@ typedef struct {
     uint8_t bytes[ICE40_BYTES_LENGTH(N)], back[ICE40_BYTES_LENGTH(N)], state[ICE40_STATE_LENGTH(N)], next[ICE40_STATE_LENGTH(N)];
     uint8_t low[ICE40_PORTS_LENGTH(N)], high[ICE40_PORTS_LENGTH(N)]; /* lent before and after */
     uint8_t before[ICE40_PORTS_LENGTH(N)], after[ICE40_PORTS_LENGTH(N)]; /* settled with these */
+    uint8_t values[ICE40_PORTS_LENGTH(N)], stepped[ICE40_STATE_LENGTH(N)]; /* what a step from low to high writes */
     uint8_t text[TEXT];
     uint16_t contentions[ICE40_CONTENTION_LENGTH * ICE40_SWITCHES_LENGTH(N)];
     uint32_t differences[ICE40_DIFFERENCE_LENGTH * 2];
     uint16_t card[6 + 2 * ICE40_PORTS * N];
-    uint64_t answers[17];
+    uint64_t answers[18];
     /* work room */
     uint16_t room_settings[ICE40_SETTINGS_LENGTH(N)], rows[ICE40_LIST_LENGTH(N)], a[ICE40_PORTS_LENGTH(N)], b[ICE40_PORTS_LENGTH(N)];
     uint16_t c[ICE40_PORTS_LENGTH(N)], d[ICE40_PORTS_LENGTH(N)], nexts[ICE40_SWITCHES_LENGTH(N)], other_settings[ICE40_SETTINGS_LENGTH(N)];
     uint16_t room_list[ICE40_LIST_LENGTH(N)];
+    uint8_t first[ICE40_PORTS_LENGTH(N)], second[ICE40_PORTS_LENGTH(N)];
 } Work;
 
 static uint32_t w, h, east;
@@ -39,6 +41,12 @@ static void same(int right, const char *what) {
 static void done(const char *what) {
     printf("%s\t%u\t%u\n", what, cases, wrong);
     cases = wrong = 0;
+}
+
+static uint64_t step(Work *k, const uint8_t *before, const uint8_t *after) {
+    return ice40_step(w, h, east, k->table, ICE40_TABLE_LENGTH, k->settings, ICE40_SETTINGS_LENGTH(n), k->list, ICE40_LIST_LENGTH(n), k->state,
+                      ICE40_STATE_LENGTH(n), before, ports, after, ports, k->values, ports, k->stepped, ICE40_STATE_LENGTH(n), k->a, ports, k->b, ports,
+                      k->c, ports, k->first, ports, k->second, ports);
 }
 
 static uint64_t settle(Work *k, const uint8_t *lent, uint8_t *values) {
@@ -84,7 +92,7 @@ static void call_all(Work *k) {
     k->answers[2] = ice40_build(w, h, east, k->table, ICE40_TABLE_LENGTH, k->bits, ICE40_BITS_LENGTH(n), k->list, ICE40_LIST_LENGTH(n), k->room_settings,
                                 ICE40_SETTINGS_LENGTH(n), k->a, ports, k->b, ports, k->rows, ICE40_LIST_LENGTH(n), k->c, ports, k->d, ports);
     k->answers[3] = ice40_follow(w, h, east, k->table, ICE40_TABLE_LENGTH, k->settings, ICE40_SETTINGS_LENGTH(n), (uint32_t)n - 1, ICE40_PORT_CLK, k->a, ports,
-                                 k->b, ports, k->rows, ICE40_LIST_LENGTH(n), k->c, ports, k->d, ports);
+                                 k->b, ports, k->c, ports);
     k->answers[4] = settle(k, k->low, k->before);
     k->answers[5] = ice40_bit_count(w, h, k->bits, ICE40_BITS_LENGTH(n), 0) + ice40_wire_number(w, h, east, 0, ICE40_PORT_OUT) + ice40_lookup(0xF0F0, 4);
     k->answers[6] = ice40_asc_length(w, h, X, Y);
@@ -98,6 +106,7 @@ static void call_all(Work *k) {
     k->answers[14] = settle(k, k->high, k->after);
     k->answers[15] = clock_cells(k, k->before, k->after);
     k->answers[16] = make_card(k, 6 + 2 * ports);
+    k->answers[17] = step(k, k->low, k->high);
 }
 
 static void *call_often(void *work) {
@@ -138,8 +147,12 @@ static void try_threads(const Work *start, const Work *result) {
 /* Slices that are only read, one over the other. */
 static void try_overlap(const Work *result) {
     Work *apart = copy_of(result), *shared = copy_of(result);
+    memcpy(apart->high, apart->low, sizeof apart->high);
+    uint64_t one = step(apart, apart->low, apart->high), other = step(shared, shared->low, shared->low);
+    same(one == other && !memcmp(apart->values, shared->values, sizeof apart->values) && !memcmp(apart->stepped, shared->stepped, sizeof apart->stepped),
+         "lent before and after the same");
     memcpy(apart->after, apart->before, sizeof apart->after);
-    uint64_t one = clock_cells(apart, apart->before, apart->after), other = clock_cells(shared, shared->before, shared->before);
+    one = clock_cells(apart, apart->before, apart->after), other = clock_cells(shared, shared->before, shared->before);
     same(one == other && !memcmp(apart->next, shared->next, sizeof apart->next), "before and after the same");
     same(!memcmp(shared->next, shared->state, sizeof shared->next), "no edge, no tick");
     memcpy(apart->state, apart->low, ICE40_STATE_LENGTH(n));
@@ -194,11 +207,13 @@ static void try_contentions(const Work *result) {
     done("contentions");
 }
 
-/* Settling says what building says, and clocking what it is handed; a byte above 1 by its index. */
+/* A step and settling say what building says, and clocking what it is handed; a byte above 1 by its index. Settling twice and clocking is the step. */
 static void try_steps(const Work *result) {
     Work *k = copy_of(result);
     int built = ICE40_GROUND(k->answers[2]) == ICE40_YES;
     same(built ? k->answers[4] == 0 && k->answers[14] == 0 : ICE40_GROUND(k->answers[4]) == ICE40_NO_ROW, "settled exactly if there is a list");
+    same(built ? k->answers[17] == 0 : ICE40_GROUND(k->answers[17]) == ICE40_NO_ROW, "stepped exactly if there is a list");
+    same(!built || (!memcmp(k->values, k->before, sizeof k->values) && !memcmp(k->stepped, k->next, sizeof k->stepped)), "settled twice and clocked: the step");
     same(k->answers[15] == 0, "clocking needs no list");
     for (size_t p = 0; built && p < ports; p++) {
         uint32_t own = ICE40_VALUE(ice40_wire_number(w, h, east, (uint32_t)(p / ICE40_PORTS), (uint32_t)(p % ICE40_PORTS)));
@@ -207,6 +222,8 @@ static void try_steps(const Work *result) {
     k->high[ports - 1] = 2, k->low[0] = 3;
     same(clock_cells(k, k->before, k->high) == (no(ICE40_NO_NOT_A_BIT) | (ICE40_STATE_LENGTH(n) + 2 * ports - 1)), "after, joined");
     same(clock_cells(k, k->low, k->high) == (no(ICE40_NO_NOT_A_BIT) | ICE40_STATE_LENGTH(n)), "before, joined");
+    same(!built || step(k, k->low, k->high) == (no(ICE40_NO_NOT_A_BIT) | ICE40_STATE_LENGTH(n)), "a step's before, joined");
+    same(!built || step(k, result->low, k->high) == (no(ICE40_NO_NOT_A_BIT) | (ICE40_STATE_LENGTH(n) + 2 * ports - 1)), "a step's after, joined");
     same(!built || settle(k, k->high, k->before) == (no(ICE40_NO_NOT_A_BIT) | (ICE40_STATE_LENGTH(n) + ports - 1)), "lent, joined");
     k->high[ports - 1] = result->high[ports - 1], k->low[0] = result->low[0];
     same(equal(k, result), "nothing else touched");
@@ -288,11 +305,13 @@ static void try_null(const Work *result) {
         same(ice40_words_of_bytes(x, h, NULL, 0, NULL, 0) == expected, "words_of_bytes");
         same(ice40_bytes_of_words(x, h, NULL, 0, NULL, 0) == expected, "bytes_of_words");
         same(ice40_build(x, h, east, NULL, 0, NULL, 0, NULL, 0, NULL, 0, NULL, 0, NULL, 0, NULL, 0, NULL, 0, NULL, 0) == expected, "build");
-        same(ice40_follow(x, h, east, NULL, 0, NULL, 0, 0, 0, NULL, 0, NULL, 0, NULL, 0, NULL, 0, NULL, 0) == expected, "follow");
+        same(ice40_follow(x, h, east, NULL, 0, NULL, 0, 0, 0, NULL, 0, NULL, 0, NULL, 0) == expected, "follow");
         same(ice40_card(x, h, east, NULL, 0, NULL, 0, NULL, 0, NULL, 0, NULL, 0, NULL, 0, NULL, 0, NULL, 0, NULL, 0, NULL, 0) == expected, "card");
         same(ice40_contentions(x, h, east, NULL, 0, NULL, 0, NULL, 0, NULL, 0, NULL, 0, NULL, 0, NULL, 0) == expected, "contentions");
         same(ice40_compare(x, h, x, h, NULL, 0, NULL, 0, NULL, 0, NULL, 0, NULL, 0, NULL, 0) == expected, "compare");
         same(ice40_tile_part(x, h, x, h, NULL, 0, NULL, 0, 0, 0) == expected, "tile_part");
+        same(ice40_step(x, h, east, NULL, 0, NULL, 0, NULL, 0, NULL, 0, NULL, 0, NULL, 0, NULL, 0, NULL, 0, NULL, 0, NULL, 0, NULL, 0, NULL, 0, NULL, 0) == expected,
+             "step");
         same(ice40_settle(x, h, east, NULL, 0, NULL, 0, NULL, 0, NULL, 0, NULL, 0, NULL, 0, NULL, 0, NULL, 0, NULL, 0) == expected, "settle");
         same(ice40_clock(x, h, NULL, 0, NULL, 0, NULL, 0, NULL, 0, NULL, 0, NULL, 0) == expected, "clock");
     }

@@ -27,7 +27,7 @@ from array import array
 sys.path.insert(0, os.path.dirname(os.path.abspath(__file__)))
 import model  # noqa: E402
 from bits_model import flipped  # noqa: E402
-from circuits import lent_build, lent_follow  # noqa: E402
+from circuits import lent_build  # noqa: E402
 from library import BYTES_OF, DATA, ROOT, U8, U16, U32, U64, Count, blocks, junk, rounds_asked, run  # noqa: E402
 from tools import proved  # noqa: E402
 
@@ -210,9 +210,11 @@ def valid_calls(both, name, vary=True):
         'ice40_compare': [w, h, w, h, table_too, lent, other, (U32, junk(random.choice((0, 5, 60, 2935 * n)), U32)), *rooms(595 * n, 595 * n)],
         'ice40_tile_part': [w, h, w, h, lent, other, random.randrange(3), tile],
         'ice40_build': [w, h, east, table_too, lent, *rooms(*lent_build(n))],
-        'ice40_follow': [w, h, east, table_too, set_too, tile, random.choice((port, 476, 478)), *rooms(*lent_follow(n))],
+        'ice40_follow': [w, h, east, table_too, set_too, tile, random.choice((port, 476, 478)), *rooms(506 * n, 506 * n, 506 * n)],
         'ice40_contentions': [w, h, east, table_too, lent, *rooms(random.choice((0, 3, 30, 1536 * n)), 595 * n, 506 * n, 506 * n, 512 * n)],
         'ice40_card': [w, h, east, table_too, lent, *rooms(random.choice((0, 6, 100, 6 + 1012 * n)), *lent_build(n))],
+        'ice40_step': [w, h, east, table_too, set_too, lists, state, values, (U8, digits(506 * n)), (U8, junk(506 * n, U8)), (U8, junk(8 * n, U8)),
+                       *rooms(506 * n, 506 * n, 506 * n), (U8, junk(506 * n, U8)), (U8, junk(506 * n, U8))],
         'ice40_settle': [w, h, east, table_too, set_too, lists, state, values, (U8, junk(506 * n, U8)), *rooms(506 * n, 506 * n, 506 * n)],
         'ice40_clock': [w, h, table_too, set_too, state, values, (U8, digits(506 * n)), (U8, junk(8 * n, U8))],
         'ice40_asc_read': [w, h, x, y, (U8, text), (U64, junk(16 * n, U64))],

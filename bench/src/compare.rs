@@ -1,5 +1,5 @@
 //! Both readers on the same input: their answers and what they write must be the same.
-use crate::baseline::{self, Answer, Clock, Settle, CELLS, PORTS, ROW, SETTINGS, WORDS};
+use crate::baseline::{self, Answer, Clock, Settle, Step, CELLS, PORTS, ROW, SETTINGS, WORDS};
 use crate::inputs::{Block, Random};
 use crate::proved::{self, Room};
 
@@ -42,6 +42,12 @@ impl Case {
         let _ = baseline::read(b.w, b.h, &b.table, &b.bits, &mut case.settings);
         case.rows = baseline::build(b.w, b.h, b.east, &b.table, &b.bits, &mut case.list).ok();
         case
+    }
+
+    pub fn step(&self) -> Step<'_> {
+        let b = &self.block;
+        let (table, settings, list) = (&b.table[..], &self.settings[..], &self.list[..]);
+        Step { w: b.w, h: b.h, east: b.east, table, settings, list, state: &self.state, before: &self.before, after: &self.after }
     }
 
     /// Settling with the values before.
@@ -113,6 +119,18 @@ pub fn build(case: &Case) -> Result<(u32, u32), String> {
     agree(&b.name, "build", (answer, x), (other, y))
 }
 
+pub fn step(case: &Case) -> Result<(u32, u32), String> {
+    let mut room = Room::new(case.block.tiles());
+    let outputs = || (junk(0x33, case.values.len()), junk(0x33, case.next.len()));
+    let (mut x, mut y) = (outputs(), outputs());
+    let answer = proved::step(&case.step(), &mut x.0, &mut x.1, &mut room);
+    if !room.stepped_clean() {
+        return Err(format!("{} step: work room", case.block.name));
+    }
+    let other = baseline::step(&case.step(), &mut y.0, &mut y.1);
+    agree(&case.block.name, "step", (answer, x), (other, y))
+}
+
 pub fn settle(case: &Case) -> Result<(u32, u32), String> {
     let mut room = Room::new(case.block.tiles());
     let (mut x, mut y) = (junk(0x33, case.values.len()), junk(0x33, case.values.len()));
@@ -137,6 +155,7 @@ pub fn all(case: &Case) -> Result<(), String> {
         call(case)?;
     }
     if case.rows.is_some() {
+        step(case)?;
         settle(case)?;
         clock(case)?;
     }
@@ -186,6 +205,7 @@ fn damage_table(case: &mut Case, random: &mut Random) -> Result<(u32, u32), Stri
     write(case)?;
     settle(case)?;
     clock(case)?;
+    step(case)?;
     build(case)
 }
 
@@ -195,6 +215,7 @@ fn damage_settings(case: &mut Case, random: &mut Random) -> Result<(u32, u32), S
     case.settings[from + random.pick(&at)] = random.pick(&[0, 1, 2, 15, 16, 33, 65535]);
     settle(case)?;
     clock(case)?;
+    step(case)?;
     write(case)
 }
 
@@ -211,7 +232,8 @@ fn damage_list(case: &mut Case, random: &mut Random) -> Result<(u32, u32), Strin
         _ => case.before[i / ROW] = 1,
     }
     clock(case)?;
-    settle(case)
+    settle(case)?;
+    step(case)
 }
 
 /// Other switches, other flags: grounds 5 to 8.
@@ -229,5 +251,6 @@ fn damage_routing(case: &mut Case, random: &mut Random) -> Result<(u32, u32), St
     let _ = baseline::write(b.w, b.h, &b.table, &case.settings, &mut b.bits);
     settle(case)?;
     clock(case)?;
+    step(case)?;
     build(case)
 }

@@ -23,9 +23,9 @@ use std::time::Duration;
 use timing::Times;
 
 const USAGE: &str = "usage: bench DATA [files | listings | proved|baseline BLOCK CALL N]";
-const CALLS: [&str; 5] = ["read", "write", "settle", "clock", "build"];
+const CALLS: [&str; 6] = ["read", "write", "step", "settle", "clock", "build"];
 /// Those that need a list, so that a block which building refuses has none of them.
-const LISTED: [&str; 2] = ["settle", "clock"];
+const LISTED: [&str; 3] = ["step", "settle", "clock"];
 
 /// How often everything is measured, and how long each time.
 const SWEEPS: u32 = 4;
@@ -60,6 +60,12 @@ fn call_proved(case: &mut Case, call: &str) {
         "write" => proved::write(b.w, b.h, &b.table, &case.settings, &mut case.written),
         "build" => proved::build(b.w, b.h, b.east, &b.table, &b.bits, &mut case.list, &mut room),
         "card" => proved::card(b.w, b.h, b.east, &b.table, &b.bits, &mut case.card, &mut room),
+        "step" => {
+            let (mut values, mut next) = (std::mem::take(&mut case.values), std::mem::take(&mut case.next));
+            let answer = proved::step(&case.step(), &mut values, &mut next, &mut room);
+            (case.values, case.next) = (values, next);
+            answer
+        }
         "settle" => {
             let mut values = std::mem::take(&mut case.values);
             let answer = proved::settle(&case.settle(), &mut values, &mut room);
@@ -82,6 +88,12 @@ fn call_baseline(case: &mut Case, call: &str) {
         "read" => baseline::read(b.w, b.h, &b.table, &b.bits, &mut case.settings),
         "write" => baseline::write(b.w, b.h, &b.table, &case.settings, &mut case.written),
         "build" => baseline::build(b.w, b.h, b.east, &b.table, &b.bits, &mut case.list),
+        "step" => {
+            let (mut values, mut next) = (std::mem::take(&mut case.values), std::mem::take(&mut case.next));
+            let answer = baseline::step(&case.step(), &mut values, &mut next);
+            (case.values, case.next) = (values, next);
+            answer
+        }
         "settle" => {
             let mut values = std::mem::take(&mut case.values);
             let answer = baseline::settle(&case.settle(), &mut values);
@@ -179,17 +191,17 @@ fn cards(blocks: &[(Block, bool)]) {
 
 /// The proved library on parts of the real 8 by 8 block, and its growth from 4 by 4.
 fn growth(big: &Block) {
-    println!("\n| size | wires | read, us | write, us | settle, us | clock, us | build, us | build, ns a wire |\n|---|---:|---:|---:|---:|---:|---:|---:|");
+    println!("\n| size | wires | read, us | write, us | step, us | settle, us | clock, us | build, us | build, ns a wire |\n|---|---:|---:|---:|---:|---:|---:|---:|---:|");
     let parts = [1, 2, 3, 4, 6, 8].map(|s| accepted_part(big, s));
     let all = measure(parts.iter());
     let mut four = [0.0; CALLS.len()];
     let mut eight = [0.0; CALLS.len()];
     for (part, times) in parts.iter().zip(all.chunks(CALLS.len())) {
         let wires = Case::new(part.clone()).rows.unwrap();
-        let times = [0, 1, 2, 3, 4].map(|call: usize| times[call].times.proved);
-        let [read, write, settle, clock, build] = times;
+        let times = [0, 1, 2, 3, 4, 5].map(|call: usize| times[call].times.proved);
+        let [read, write, step, settle, clock, build] = times;
         let (w, h) = (part.w, part.h);
-        println!("| {w}x{h} | {wires} | {read:.1} | {write:.1} | {settle:.1} | {clock:.1} | {build:.1} | {:.1} |", build * 1000.0 / wires as f64);
+        println!("| {w}x{h} | {wires} | {read:.1} | {write:.1} | {step:.1} | {settle:.1} | {clock:.1} | {build:.1} | {:.1} |", build * 1000.0 / wires as f64);
         match w {
             4 => four = times,
             8 => eight = times,
@@ -223,6 +235,9 @@ fn profile(blocks: Vec<(Block, bool)>, side: &str, name: &str, call: &str, times
     one_of("call", call, &known)?;
     let (block, _) = blocks.into_iter().find(|(block, _)| block.name == name).unwrap();
     let mut case = Case::new(block);
+    if call == "step" && case.rows.is_none() {
+        return Err(format!("{name} is refused by building and has no step"));
+    }
     if LISTED.contains(&call) && case.rows.is_none() {
         return Err(format!("{name} is refused by building and has no list to {call} with"));
     }

@@ -2,16 +2,18 @@
 #[path = "../../include/ice40.rs"]
 mod ice40;
 
-use crate::baseline::{Answer, Area, Clock, No, Settle, PORTS, ROW, SETTINGS};
+use crate::baseline::{Answer, Area, Clock, No, Settle, Step, PORTS, ROW, SETTINGS};
 use ice40::{
     ice40_asc_length, ice40_asc_read, ice40_asc_write, ice40_build, ice40_card, ice40_clock, ice40_compare, ice40_contentions, ice40_read, ice40_settle,
-    ice40_write,
+    ice40_step, ice40_write,
 };
 
-/// The work room of a block: what building needs, what a card needs besides, and what settling needs.
+/// The work room of a block: what building needs, what a card needs besides, what a step needs, and what settling needs.
 pub struct Room {
     build: [Vec<u16>; 6],
     list: Vec<u16>,
+    step: [Vec<u16>; 3],
+    bytes: [Vec<u8>; 2],
     settle: [Vec<u16>; 3],
 }
 
@@ -22,13 +24,19 @@ impl Room {
         Room {
             build: [SETTINGS * n, ports, ports, ROW * ports, ports, ports].map(|length| vec![0x5555; length]),
             list: vec![0x5555; ROW * ports],
+            step: [(); 3].map(|_| vec![0x5555; ports]),
+            bytes: [(); 2].map(|_| vec![0x55; ports]),
             settle: [(); 3].map(|_| vec![0x5555; ports]),
         }
     }
 
-    /// Whether a build left zeros; whether settling did.
+    /// Whether a build left zeros; whether a step did; whether settling did.
     pub fn built_clean(&self) -> bool {
         self.build.iter().flatten().all(|&number| number == 0)
+    }
+
+    pub fn stepped_clean(&self) -> bool {
+        self.step.iter().flatten().all(|&number| number == 0) && self.bytes.iter().flatten().all(|&byte| byte == 0)
     }
 
     pub fn settled_clean(&self) -> bool {
@@ -111,6 +119,29 @@ pub fn contentions(w: u32, h: u32, east: u32, table: &[u16], bits: &[u64], list:
             wires.as_mut_ptr(), wires.len(),
             heads.as_mut_ptr(), heads.len(),
             nexts.as_mut_ptr(), nexts.len(),
+        )
+    })
+}
+
+pub fn step(s: &Step, values: &mut [u8], next: &mut [u8], room: &mut Room) -> Answer {
+    let [wires, own, marks] = &mut room.step;
+    let [first, second] = &mut room.bytes;
+    unpack(unsafe {
+        ice40_step(
+            s.w, s.h, s.east,
+            s.table.as_ptr(), s.table.len(),
+            s.settings.as_ptr(), s.settings.len(),
+            s.list.as_ptr(), s.list.len(),
+            s.state.as_ptr(), s.state.len(),
+            s.before.as_ptr(), s.before.len(),
+            s.after.as_ptr(), s.after.len(),
+            values.as_mut_ptr(), values.len(),
+            next.as_mut_ptr(), next.len(),
+            wires.as_mut_ptr(), wires.len(),
+            own.as_mut_ptr(), own.len(),
+            marks.as_mut_ptr(), marks.len(),
+            first.as_mut_ptr(), first.len(),
+            second.as_mut_ptr(), second.len(),
         )
     })
 }

@@ -10,6 +10,7 @@ mod compare;
 mod contentions;
 mod order;
 mod settle;
+mod step;
 mod table;
 mod wires;
 
@@ -20,6 +21,7 @@ pub use codec::{read, write};
 pub use compare::compare;
 pub use contentions::contentions;
 pub use settle::{settle, Settle};
+pub use step::{step, Step};
 
 /// A ground's number and place.
 pub struct No {

@@ -41,6 +41,8 @@ ENTRIES = [
     ('compare', 'src/part.rt', 'part_answer', '1'),
     ('compare', 'src/part.rt', 'tile_part', '1'),
     ('sim', 'src/lib.rt', 'step', '1'),
+    ('moments', 'src/lib.rt', 'settle', '1'),
+    ('moments', 'src/lib.rt', 'clock', '1'),
     ('asc', 'src/lib.rt', 'read', '12'),
     ('asc', 'src/lib.rt', 'text_length', '1'),
     ('asc', 'src/lib.rt', 'write', '12'),
@@ -58,6 +60,8 @@ ENTRIES = [
     ('capi', 'src/circuits.rt', 'ice40_build', '1'),
     ('capi', 'src/circuits.rt', 'ice40_follow', '1'),
     ('capi', 'src/circuits.rt', 'ice40_step', '1'),
+    ('capi', 'src/settling.rt', 'ice40_settle', '1'),
+    ('capi', 'src/settling.rt', 'ice40_clock', '1'),
     ('capi', 'src/contentions.rt', 'ice40_contentions', '1'),
     ('capi', 'src/cards.rt', 'ice40_card', '1'),
     ('capi', 'src/files.rt', 'ice40_asc_read', '1'),
@@ -68,19 +72,19 @@ ENTRIES = [
 ]
 
 # Closed statements that stand beside a demand's own.
-BESIDE = {'2': ['theorem/Forms']}
+BESIDE = {'2': ['theorem/Forms'], '3': ['theorem/Influence']}
 
 # The closed statements of each demand with the law that proves each, and the records that their fields speak of.
 STATEMENTS = {'1': [('theorem/Demand1.Demand1', 'theorem/demand1')],
               '2': [('theorem/Demand2.Demand2', 'theorem/demand2'), ('theorem/Forms.SameForms', 'theorem/same_forms')],
-              '3': [('theorem/Demand3.Demand3', 'theorem/demand3')]}
+              '3': [('theorem/Demand3.Demand3', 'theorem/demand3'), ('theorem/Influence.Influence', 'theorem/influence')]}
 PARTS = {'theorem/Demand3.Demand3': ['theorem/Demand3.AcceptedBlock']}
 
 # Slices whose clause has another form: the report is at the front of `out`, and the rest of it as it was.
 OTHERWISE = {('report', 'out')}
 
-# What a yes of `build` and `step` writes is demand 3's: where a demand's roots are contracts, it is not one of them.
-WRITTEN = {'equations/Settling.block_list', 'stepper/Settling.settled_by', 'stepper/Settling.port_values', 'stepper/Clocking.next_states'}
+# What a yes of `build`, `step`, `settle` and `clock` writes is demand 3's: where a demand's roots are contracts, it is not one of them.
+WRITTEN = {'equations/Settling.block_list', 'stepper/Settling.settled_by', 'stepper/Settling.port_values', 'stepper/Clocking.next_states', 'moments/Clocking.next_states'}
 
 # computed, what stands in its place, the laws that say so. A name is CRATE/MODULE.NAME, with * for any
 # module of the crate, and a law CRATE/LAW.
@@ -98,6 +102,8 @@ COMPUTED = [
     ('compare/Entry.compared_list', ['compare/Difference.DiffersIn', 'lists/Listing.Lists'], ['compare/differences_listed']),
     ('contention/Lengths.contention_exact', ['contention/Lengths.ContentionLong'], ['contention/contention_long_exact']),
     ('sim/Lengths.step_exact', ['sim/Lengths.StepLong'], ['sim/step_long_exact']),
+    ('moments/Lengths.settle_exact', ['moments/Lengths.SettleLong'], ['moments/settle_long_exact']),
+    ('moments/Lengths.clock_exact', ['moments/Lengths.ClockLong'], ['moments/clock_long_exact']),
     # wires
     ('fabric/Wire.wire_of', ['fabric/Joins.Lowest'], ['fabric/wire_exact', 'fabric/wire_lowest']),
     ('fabric/Wire.wires_of', ['fabric/Joins.Lowest'], ['fabric/wires_at', 'fabric/wire_lowest']),
@@ -142,10 +148,12 @@ COMPUTED = [
     ('card/Entry.card_answer', ['card/Meaning.CardSays'], ['card/card_say', 'card/card_exact']),
     ('card/Entry.card_after', ['card/Card.Card'], ['card/card_is', 'card/leaving_exact', 'card/feeding_exact']),
     ('equations/Settling.block_list', ['theorem/*.Listing', 'theorem/*.OnlyChoice'], ['theorem/listing', 'theorem/demand3', 'equations/row_says']),
-    # the step
+    # the step, settling and clocking
     ('stepper/Settling.bad_row', ['netlist/Checking.FirstBad'], ['netlist/first_bad_exact']),
     ('sim/Stepping.bad_byte', ['sim/Meaning.FirstAbove'], ['sim/step_says']),
     ('sim/Stepping.step_answer', ['sim/Meaning.StepSays'], ['sim/step_says', 'sim/step_exact_lem']),
+    ('moments/Settling.settle_answer', ['moments/Meaning.SettleSays'], ['moments/settle_says', 'moments/settle_exact_lem']),
+    ('moments/Clocking.clock_answer', ['moments/Meaning.ClockSays'], ['moments/clock_says', 'moments/clock_exact_lem']),
     # ASCII files; the first word of a line is said by its law alone
     ('texts/Lines.word_length', [], ['texts/word_length_at', 'texts/word_at']),
     ('asc/Answers.read_answer', ['asc/Meaning.AscSays'], ['asc/read_told', 'asc/asc_exact']),
@@ -164,7 +172,7 @@ SEARCHES = {'lists/Search.first', 'lists/Search.all_from', 'lists/Search.some_be
 
 # The order in which the files are best read: what is of a crate that is not named comes last.
 ORDER = ['names', 'ports', 'fabric', 'routing', 'digits', 'words', 'codec', 'config', 'refusal', 'cell', 'equations', 'drivers', 'block', 'netlist',
-         'stepper', 'sim', 'theorem', 'texts', 'asc', 'frames', 'lines', 'reporting', 'capi', 'lists']
+         'stepper', 'sim', 'moments', 'theorem', 'texts', 'asc', 'frames', 'lines', 'reporting', 'capi', 'lists']
 FIRST = ['names/specs/Names.antt', 'ports/src/size.rt', 'ports/specs/Block.antt', 'fabric/specs/Joins.antt', 'routing/specs/TileKind.antt',
          'routing/specs/LogicTile.antt', 'routing/specs/Table.antt', 'routing/specs/Rules.antt', 'words/specs/Packed.antt',
          'words/specs/Forms.antt', 'codec/specs/Bits.antt', 'codec/specs/Settings.antt', 'codec/specs/Groups.antt', 'codec/specs/Reading.antt', 'config/specs/Blocks.antt',

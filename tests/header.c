@@ -228,7 +228,7 @@ static void try_steps(const Work *result) {
     k->high[ports - 1] = result->high[ports - 1], k->low[0] = result->low[0];
     same(equal(k, result), "nothing else touched");
     free(k);
-    done("settling and clocking");
+    done("the step, settling and clocking");
 }
 
 /* The card: building's grounds, its numbers, and one that is too short. */

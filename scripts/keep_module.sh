@@ -40,7 +40,7 @@ done
 exec "$clang" "\$@"
 END
     chmod +x "$links/toolchain/bin/clang"
-    (cd crates/capi && "$links/bin/rt" lib) >"$room/log" 2>&1 || { cat "$room/log" >&2; exit 1; }
-    cmp -s "$archive" crates/capi/out/libcapi.a || { echo "keep_module.sh: the archive came out otherwise: make clean, and once more" >&2; exit 1; }
+    (cd crates/capi_c && "$links/bin/rt" lib) >"$room/log" 2>&1 || { cat "$room/log" >&2; exit 1; }
+    cmp -s "$archive" crates/capi_c/out/libcapi_c.a || { echo "keep_module.sh: the archive came out otherwise: make clean, and once more" >&2; exit 1; }
 fi
 sha256sum "$archive" >"$out/archive.sha256"

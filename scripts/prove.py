@@ -2,7 +2,7 @@
 """Proves and builds the static library, says how far it is, and writes its receipt. `make` runs it.
 
     prove.py program RT CRATE PROGRAM   `rt run` in the crate's folder, with no input, and the program that it built
-    prove.py library RT ARCHIVE         `rt lib` in that of capi, the archive, and its receipt beside it: libcapi.receipt
+    prove.py library RT ARCHIVE         `rt lib` in that of capi_c, the archive, and its receipt beside it: libcapi.receipt
     prove.py shared RECEIPT ARCHIVE SHARED   the receipt of the shared library that was linked from that archive, on standard output, with the gate of these sources
     prove.py gate COMMAND ..            the gate, with its last line kept in target/gate for receipts of the same sources
 
@@ -169,7 +169,7 @@ def program(rt, crate, path):
 
 def library(rt, archive):
     before = sources()
-    count, last = built(rt, 'lib', 'capi', 'libcapi.a', archive)
+    count, last = built(rt, 'lib', 'capi_c', 'libcapi_c.a', archive)
     if sources() != before:
         os.remove(archive)
         sys.exit('prove.py: the sources were changed while they were proved: once more')

@@ -633,7 +633,7 @@ def memory_faults(sources):
             if not re.search(r'\b(output|work_room)\b', clauses.get(name, '')) and (function, name) not in OTHERWISE:
                 faults.append('%s::%s: no clause says what is in %s afterwards' % (crate, function, name))
     listed = set(function for crate, _, function, _ in ENTRIES if crate == 'capi')
-    src = os.path.join(CRATES, 'capi', 'src')
+    src = os.path.join(CRATES, 'capi_c', 'src')
     exported = set(x for f in sorted(os.listdir(src)) for x in re.findall(r'extern "C" fn (\w+)', read(os.path.join(src, f))))
     return faults + ['%s is no entry point of this script' % x for x in sorted(exported - listed)]
 

@@ -28,7 +28,7 @@ CHANGES = [
     ('a table written by hand', 'docs/BELIEVE.md', '| `loop_exactly` | "passes checks 1 to 6": `PassesSix` |', '| `loop_exactly` | none |'),
     ('a field that the table leaves out', 'docs/BELIEVE.md', '| `step_means` |', '| |'),
     ('an entry point that asks for something', 'crates/sim/src/lib.rt', '    ensures answer', '    requires { ⊥ }\n    ensures answer'),
-    ('an entry point that nobody listed', 'crates/capi/src/lib.rt', 'pub extern "C" fn ice40_lookup(', 'pub extern "C" fn ice40_other() -> u64 { 0 }\npub extern "C" fn ice40_lookup('),
+    ('an entry point that nobody listed', 'crates/capi_c/src/lib.rt', 'pub extern "C" fn ice40_lookup(', 'pub extern "C" fn ice40_other() -> u64 { 0 }\npub extern "C" fn ice40_lookup('),
     ('a slice whose contents nothing says', 'crates/sim/src/lib.rt', '    ensures marks {', '    ensures wires2 {'),
 ]
 

@@ -1,10 +1,10 @@
 #!/usr/bin/env python3
-"""Holds the declarations of include/ice40.h and include/ice40.rs against the code of crates/capi.
+"""Holds the declarations of include/ice40.h and include/ice40.rs against the code of crates/capi_c.
 
     python3 tests/signatures.py         needs Python 3 alone
 
 The linker sees names and no types, so a header with two arguments swapped, a number of another width or a `const` too many links and
-runs. Here every `extern "C"` function of capi is compared with both files: which functions there are, and for each argument its place,
+runs. Here every `extern "C"` function of capi_c is compared with both files: which functions there are, and for each argument its place,
 its name, its width, whether it is a slice (a pointer and a length behind it) and whether it is written. The script then changes
 declarations, one at a time, and sees that each change is noticed.
 """
@@ -17,7 +17,7 @@ sys.path.insert(0, os.path.dirname(os.path.abspath(__file__)))
 from library import ROOT, Count, run  # noqa: E402
 
 HEADER, BINDING = os.path.join(ROOT, 'include', 'ice40.h'), os.path.join(ROOT, 'include', 'ice40.rs')
-SOURCES = sorted(glob.glob(os.path.join(ROOT, 'crates', 'capi', 'src', '*.rt')))
+SOURCES = sorted(glob.glob(os.path.join(ROOT, 'crates', 'capi_c', 'src', '*.rt')))
 
 # An argument is (name, bits of a number, 'value', 'const' or 'mut'); a function is its arguments and the bits of its answer.
 CODE = re.compile(r'pub extern "C" fn (ice40_\w+)\(([^)]*)\) -> u(\d+)')
@@ -97,7 +97,7 @@ def of_binding(text):
 
 def differing(code, declared):
     """What differs, a line each."""
-    lines = ['%s is not in capi' % name for name in declared if name not in code]
+    lines = ['%s is not in capi_c' % name for name in declared if name not in code]
     for name, (arguments, bits) in code.items():
         if name not in declared:
             lines.append('%s is not declared' % name)
@@ -112,7 +112,7 @@ def differing(code, declared):
 
 
 def check_declared(what, path, declarations):
-    count = Count('%s against crates/capi' % what)
+    count = Count('%s against crates/capi_c' % what)
     code, declared = of_code(), declarations(contents(path))
     count.same(sorted(declared), sorted(code), 'the functions')
     for name in code:

@@ -34,7 +34,7 @@ lib)
         echo 'logic=proved functions=1 of the tests'
     done
     mkdir -p out
-    cp '%(archive)s' out/libcapi.a ;;
+    cp '%(archive)s' out/libcapi_c.a ;;
 ci)
     echo 'rt: lists proved'
     echo 'rt: digits is kept: an earlier run on this machine proved the same files over the same libraries'
@@ -56,8 +56,8 @@ def listed():
 
 
 def below_capi():
-    """How many crates the library has: capi and all that it builds on."""
-    of, found = listed(), {'capi'}
+    """How many crates the library has: capi_c and all that it builds on."""
+    of, found = listed(), {'capi_c'}
     while True:
         more = found | {name for crate in found for name in of[crate]}
         if more == found:
@@ -67,7 +67,7 @@ def below_capi():
 
 def edits():
     """How many edits the two crates have that a tree copies."""
-    return sum(name.endswith('.edit') for crate in ('lists', 'capi') for _, _, names in os.walk(os.path.join(ROOT, 'crates', crate)) for name in names)
+    return sum(name.endswith('.edit') for crate in ('lists', 'capi_c') for _, _, names in os.walk(os.path.join(ROOT, 'crates', crate)) for name in names)
 
 
 class Tree:
@@ -80,7 +80,7 @@ class Tree:
             shutil.copytree(os.path.join(ROOT, name), os.path.join(self.root, name), ignore=shutil.ignore_patterns('__pycache__'))
         for name in ('Makefile', 'crates.txt'):
             shutil.copy(os.path.join(ROOT, name), self.root)
-        for name in ('lists', 'capi'):
+        for name in ('lists', 'capi_c'):
             shutil.copytree(os.path.join(ROOT, 'crates', name), os.path.join(self.root, 'crates', name), ignore=shutil.ignore_patterns('out'))
         os.makedirs(os.path.join(self.root, 'tests'))
         shutil.copytree(os.path.join(ROOT, 'tests', 'data'), os.path.join(self.root, 'tests', 'data'))

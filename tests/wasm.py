@@ -43,7 +43,7 @@ SLICE = re.compile(r'&(?:mut )?\[u(\d+)\]')
 def exports():
     """Every function that capi exports, with the types of its arguments: 0 for a number, else that of a slice's numbers."""
     found = {}
-    for path in glob.glob(os.path.join(ROOT, 'crates', 'capi', 'src', '*.rt')):
+    for path in glob.glob(os.path.join(ROOT, 'crates', 'capi_c', 'src', '*.rt')):
         with open(path) as file:
             for name, given in re.findall(r'pub extern "C" fn (\w+)\(([^)]*)\)', file.read()):
                 types = [SLICE.search(each) for each in given.split(',') if ':' in each]

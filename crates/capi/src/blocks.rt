@@ -12,14 +12,7 @@ use config::BitCount;
 use ports::size::Size;
 
 // Reads a block's bits to its settings. Grounds 1, 2, 3, 4.
-#[unsafe(no_mangle)]
-pub extern "C" fn ice40_read(
-    w: u32,
-    h: u32,
-    table: &[u16],
-    bits: &[u64],
-    settings: &mut [u16],
-) -> u64
+pub fn ice40_read(w: u32, h: u32, table: &[u16], bits: &[u64], settings: &mut [u16]) -> u64
     ensures answer { result ≡ packed
         (answer_number (read_answer (size w h) table.now bits.now (length settings.old)))
         (answer_value (read_answer (size w h) table.now bits.now (length settings.old))) }
@@ -31,14 +24,7 @@ pub extern "C" fn ice40_read(
 }
 
 // Writes a block's settings as bits. Grounds 1, 2, 3, 9.
-#[unsafe(no_mangle)]
-pub extern "C" fn ice40_write(
-    w: u32,
-    h: u32,
-    table: &[u16],
-    settings: &[u16],
-    bits: &mut [u64],
-) -> u64
+pub fn ice40_write(w: u32, h: u32, table: &[u16], settings: &[u16], bits: &mut [u64]) -> u64
     ensures answer { result ≡ packed
         (answer_number (write_answer (size w h) table.now settings.now (length bits.old)))
         (answer_value (write_answer (size w h) table.now settings.now (length bits.old))) }
@@ -50,8 +36,7 @@ pub extern "C" fn ice40_write(
 }
 
 // How many of a tile's bits are set. Grounds 1, 2, 20.
-#[unsafe(no_mangle)]
-pub extern "C" fn ice40_bit_count(w: u32, h: u32, bits: &[u64], tile: u32) -> u64
+pub fn ice40_bit_count(w: u32, h: u32, bits: &[u64], tile: u32) -> u64
     ensures { result ≡ packed (bit_count_number (bit_count_answer (size w h) bits.now tile))
         (bit_count_value (bit_count_answer (size w h) bits.now tile)) }
 {

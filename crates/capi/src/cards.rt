@@ -12,8 +12,7 @@ use ports::size::Block;
 
 // W, H, cells in use, flip-flops, leaving wires after their count, and the open wires that these or a flip-flop depend on after theirs, from a block's
 // bits. Grounds 1 to 8, then 15; the value is how many numbers the card has. The output is card, of any length; the rest is work room.
-#[unsafe(no_mangle)]
-pub extern "C" fn ice40_card(
+pub fn ice40_card(
     w: u32,
     h: u32,
     east: u32,

@@ -19,8 +19,7 @@ use drivers::follow::Driver;
 use ports::size::Block;
 
 // The list of a block's rows in order, from its bits. Grounds 1 to 8; the value is the row count. The output is list; the rest is work room.
-#[unsafe(no_mangle)]
-pub extern "C" fn ice40_build(
+pub fn ice40_build(
     w: u32,
     h: u32,
     east: u32,
@@ -65,8 +64,7 @@ pub extern "C" fn ice40_build(
 
 // What drives a port, followed from switch to switch. Grounds 1, 2, 3, 9, 5, 20; the value is 65,536 times 1 for an open wire, 2 and 3
 // for the constants 0 and 1, 4 for a cell, 5 for a ring, plus the wire. The rest is work room.
-#[unsafe(no_mangle)]
-pub extern "C" fn ice40_follow(
+pub fn ice40_follow(
     w: u32,
     h: u32,
     east: u32,
@@ -99,8 +97,7 @@ pub extern "C" fn ice40_follow(
 }
 
 // One step. Grounds 1, 2, 3, 9, 12, 10. The outputs are values and next; the rest is work room.
-#[unsafe(no_mangle)]
-pub extern "C" fn ice40_step(
+pub fn ice40_step(
     w: u32,
     h: u32,
     east: u32,

@@ -16,8 +16,7 @@ use refusal::Answer;
 
 // Every difference between two blocks, as rows of five numbers: tile, kind, index, old and new setting. Grounds 1, 14, 2, 3, 4, 15; the value is
 // the number of rows. The output is list, of any length; before and after are work room.
-#[unsafe(no_mangle)]
-pub extern "C" fn ice40_compare(
+pub fn ice40_compare(
     w1: u32,
     h1: u32,
     w2: u32,
@@ -62,8 +61,7 @@ fn pack_compared(answer: Compared) -> u64
 
 // Where a tile's numbers begin in the block asked for: which is 0 for the first, any other number for the second. Grounds 1, 14, 2, 20. C cannot be
 // handed a part of a slice; what lies there is the part that `tile_part` hands back.
-#[unsafe(no_mangle)]
-pub extern "C" fn ice40_tile_part(
+pub fn ice40_tile_part(
     w1: u32,
     h1: u32,
     w2: u32,

@@ -12,8 +12,7 @@ use ports::size::Block;
 
 // A row of wire, tile and group for each enabled switch on a wire with two or more, from a block's bits. Grounds 1 to 4, then 15; the value is the
 // number of rows. The output is list, of any length; the rest is work room.
-#[unsafe(no_mangle)]
-pub extern "C" fn ice40_contentions(
+pub fn ice40_contentions(
     w: u32,
     h: u32,
     east: u32,

@@ -10,8 +10,7 @@ use crate::pack;
 use ports::size::Size;
 
 // The bytes of a block as words. Grounds 1, 2.
-#[unsafe(no_mangle)]
-pub extern "C" fn ice40_words_of_bytes(w: u32, h: u32, bytes: &[u8], words: &mut [u64]) -> u64
+pub fn ice40_words_of_bytes(w: u32, h: u32, bytes: &[u8], words: &mut [u64]) -> u64
     ensures answer { result ≡ packed_answer (words_answer (size w h) (length bytes.now) (length words.old)) }
     ensures words { words.new ≡ output (ground_in result) words.old (words_of (tile_count (size w h)) bytes.now) }
 {
@@ -20,8 +19,7 @@ pub extern "C" fn ice40_words_of_bytes(w: u32, h: u32, bytes: &[u8], words: &mut
 }
 
 // The words of a block as bytes. Grounds 1, 2, 4.
-#[unsafe(no_mangle)]
-pub extern "C" fn ice40_bytes_of_words(w: u32, h: u32, words: &[u64], bytes: &mut [u8]) -> u64
+pub fn ice40_bytes_of_words(w: u32, h: u32, words: &[u64], bytes: &mut [u8]) -> u64
     ensures answer { result ≡ packed_answer (bytes_answer (size w h) words.now (length bytes.old)) }
     ensures bytes { bytes.new ≡ output (ground_in result) bytes.old (bytes_of (tile_count (size w h)) words.now) }
 {

@@ -1,4 +1,4 @@
-// The entry points for C and Rust. Each takes numbers, and slices as pointer and length, in the order w, h, east, table, inputs, outputs,
+// The entry points for C and Rust, as functions of a library; capi_c exports them. Each takes numbers and slices, in the order w, h, east, table, inputs, outputs,
 // work room, and answers one 64-bit number; include/ice40.h declares them. Document 01: "The board viewer is written in C and calls the
 // lookup and the wire number".
 //
@@ -27,8 +27,7 @@ pub mod settling;
 
 // The number of the wire that a port of a tile is on, in a block of w by h tiles; east is 1 where the column to the east of it is logic or
 // RAM, else 0. Grounds 1 and 20.
-#[unsafe(no_mangle)]
-pub extern "C" fn ice40_wire_number(w: u32, h: u32, east: u32, tile: u32, port: u32) -> u64
+pub fn ice40_wire_number(w: u32, h: u32, east: u32, tile: u32, port: u32) -> u64
     ensures { result ≡ packed (wire_answer_number (wire_number (block w h east) tile port))
         (wire_answer_value (wire_number (block w h east) tile port)) }
 {
@@ -39,8 +38,7 @@ pub extern "C" fn ice40_wire_number(w: u32, h: u32, east: u32, tile: u32, port: 
 }
 
 // The bit of a lookup table at inputs given as one number, in_0 with weight 1. Ground 20.
-#[unsafe(no_mangle)]
-pub extern "C" fn ice40_lookup(table: u16, inputs: u32) -> u64
+pub fn ice40_lookup(table: u16, inputs: u32) -> u64
     ensures { result ≡ packed (looked_number (looked_up table inputs)) (looked_value (looked_up table inputs)) }
 {
     match cell::logic::lookup(table, inputs) {

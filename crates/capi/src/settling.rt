@@ -12,8 +12,7 @@ use crate::pack;
 use ports::size::{Block, Size};
 
 // Every port's value under a state and lent values, without any tick. Grounds 1, 2, 3, 9, 12, 10. The output is values; the rest is work room.
-#[unsafe(no_mangle)]
-pub extern "C" fn ice40_settle(
+pub fn ice40_settle(
     w: u32,
     h: u32,
     east: u32,
@@ -54,8 +53,7 @@ pub extern "C" fn ice40_settle(
 }
 
 // Every cell's next state, from the values settled before and after and the old state. Grounds 1, 2, 3, 9, 10. The output is next.
-#[unsafe(no_mangle)]
-pub extern "C" fn ice40_clock(
+pub fn ice40_clock(
     w: u32,
     h: u32,
     table: &[u16],

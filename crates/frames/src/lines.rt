@@ -122,6 +122,7 @@ pub fn east(s: &[u8], at: usize) -> u16
 }
 
 // Rules out: a byte that is neither 00 nor 01; a second one.
+#[tactic(auto, using(crate::proofs::BoundLaws::size_line_over))]
 pub fn size_line(s: &[u8], at: usize) -> bool
     requires { at < 2 ^ 30 }
     ensures { result ≡ size_line s.now at }

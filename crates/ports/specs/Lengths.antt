@@ -1,4 +1,4 @@
--- The length of everything that is lent for a block: "Lengths: bits 108, values 506, state 8, list 3,542 numbers, each times W-as-H; those of
+-- The length of everything that is lent for a block: "Lengths: bits 108, values 506, state 8, list 3,542 numbers, each times W·H; those of
 -- table, settings and work room stand in docs/"; document 02, W7: "the exact length is 16 numbers a tile". No other file has these figures.
 --   bits_length, settings_total, state_length == of a size      ports, list_length == of a block      table_length == of any
 use Rattle.std.specs.Prelude.{ℕ, ◌+◌, ◌*◌}

@@ -70,4 +70,4 @@ returns c =
     let lent : WriteLent (area_at c.args.s c.args.x c.args.y) (length c.args.bits.now) (length c.args.text.now) =
     record { right_size = size; bits_long = c.if-bits-n.false; text_long = c.if-text-file_length.false ∙ c.file_length.ensures.0 } in
     let all_clauses = write_told (area_at c.args.s c.args.x c.args.y) c.args.bits.now c.args.text.now c.put_file.new.text Done
-    (write_done (area_at c.args.s c.args.x c.args.y) c.args.bits.now c.args.text.now lent c.first_stray-stray.result c.first_stray-stray.ensures c.put_file.new.text c.if-stray-bits.false c.put_file.ensures) in record { answer = all_clauses.0; text = all_clauses.1.0; says = all_clauses.1.1 }
+    (write_done (area_at c.args.s c.args.x c.args.y) c.args.bits.now c.args.text.now lent c.first_stray-stray.result c.first_stray-stray.ensures c.put_file.new.text (omega arith) c.put_file.ensures) in record { answer = all_clauses.0; text = all_clauses.1.0; says = all_clauses.1.1 }

@@ -6,11 +6,6 @@ use Rattle.frames.specs.Lines.{is_line, size_line}
 use Rattle.frames.proofs.BoundLaws.{size_digits_le}
 use Rattle.frames.proofs.lines.size_line.Goals as goal
 
--- another byte
-pub returns-then-east-gt1 : goal.returns-then-east-gt1
-unfolding size_line
-returns-then-east-gt1 c = rw (← c.east.ensures, le-ltb _ 2 c.if-east-gt1.true)
-
 pub is_line-requires : goal.is_line-requires
 is_line-requires c =
     (omega (arith, c.requires), omega (arith, c.size_digits.ensures, size_digits_le c.args.s.now c.args.at))
@@ -18,5 +13,5 @@ is_line-requires c =
 pub returns : goal.returns
 unfolding size_line
 returns c =
-    rw (← c.east.ensures, lt-ltb c.east.result 2 (let l = c.if-east-gt1.false in omega arith))
+    rw (← c.east.ensures, lt-ltb c.east.result 2 (omega arith))
     (c.is_line.ensures ∙ ap (is_line c.args.s.now c.args.at 4) c.size_digits.ensures)

@@ -48,12 +48,12 @@ def present(program, what):
 
 
 def build_archive():
-    """The static library of capi, built."""
+    """The static library of capi_c, built."""
     return made('target/staticlib/libcapi.a')
 
 
 class Library:
-    """The functions of capi, each with arrays that it is lent and gives back."""
+    """The functions of capi_c, each with arrays that it is lent and gives back."""
 
     def __init__(self):
         archive = build_archive()

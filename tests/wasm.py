@@ -41,7 +41,7 @@ SLICE = re.compile(r'&(?:mut )?\[u(\d+)\]')
 # ---- both libraries
 
 def exports():
-    """Every function that capi exports, with the types of its arguments: 0 for a number, else that of a slice's numbers."""
+    """Every function that capi_c exports, with the types of its arguments: 0 for a number, else that of a slice's numbers."""
     found = {}
     for path in glob.glob(os.path.join(ROOT, 'crates', 'capi_c', 'src', '*.rt')):
         with open(path) as file:
@@ -259,7 +259,7 @@ def damaged(given):
 # ---- the cases
 
 def check_shape(both):
-    count = Count('exports: those of capi and the memory, and no import')
+    count = Count('exports: those of capi_c and the memory, and no import')
     told = both.wasm.told('shape')
     count.same((told['imports'], told['stack']), ([], stack_bytes()))
     count.same({each['name']: each['kind'] for each in told['exports']}, dict({name: 'function' for name in exports()}, memory='memory'))

@@ -1,4 +1,5 @@
 -- An output after an answer. Main law: `output_refused`. Assumes nothing.
+use Rattle.std.specs.Prelude.{Result, Err}
 use mathlib.Core.Path.{◌≡◌, refl, sym, ap, ◌∙◌}
 use mathlib.Core.List.{List}
 use Prim.Native.Nat.{ℕ}
@@ -6,8 +7,6 @@ use Rattle.refusal.specs.Grounds.{number_of, answer_number}
 use Rattle.refusal.specs.Memory.{output}
 use Rattle.refusal.specs.declared.Refusal.{Refusal}
 use Rattle.refusal.specs.declared.Refusal.TheVariants.{WrongSize, WrongLength, Table, Undecodable, Contention, DisabledCarry, Loop, CellClock, NoSuchSettings, NotABit, Line, Row, AscLine, SizesDiffer, ListTooShort, Change, OutOfRange}
-use Rattle.refusal.specs.declared.Answer.{Answer}
-use Rattle.refusal.specs.declared.Answer.TheVariants.{Refused}
 
 module _ (old new : List ℕ) where
   -- whatever the ground, an output keeps its contents
@@ -31,5 +30,5 @@ module _ (old new : List ℕ) where
   output_refused (OutOfRange number) = refl
 
   -- the same of an answer that is a no
-  pub output_kept : (a : Answer) (r : Refusal) → a ≡ Refused r → old ≡ output (answer_number a) old new
-  output_kept a r e = sym (ap (λ (x : Answer). output (answer_number x) old new) e ∙ output_refused r)
+  pub output_kept : {A : Type 0} (a : Result A Refusal) (r : Refusal) → a ≡ Err r → old ≡ output (answer_number a) old new
+  output_kept {A} a r e = sym (ap (λ (x : Result A Refusal). output (answer_number x) old new) e ∙ output_refused r)

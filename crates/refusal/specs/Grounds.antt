@@ -1,10 +1,8 @@
 -- The grounds for a no: number and place of each case of `Refusal` (document 01, 'Grounds for a no'; 13 to 16 are those of document 02, W1, W4, W6
 -- and W10).
-use Rattle.std.specs.Prelude.{ℕ, Bool, true, false}
+use Rattle.std.specs.Prelude.{ℕ, Bool, true, false, Result, Ok, Err}
 use Rattle.refusal.specs.declared.Refusal.{Refusal}
 use Rattle.refusal.specs.declared.Refusal.TheVariants.{WrongSize, WrongLength, Table, Undecodable, Contention, DisabledCarry, Loop, CellClock, NoSuchSettings, NotABit, Line, Row, AscLine, SizesDiffer, ListTooShort, Change, OutOfRange}
-use Rattle.refusal.specs.declared.Answer.{Answer}
-use Rattle.refusal.specs.declared.Answer.TheVariants.{Done, Refused}
 
 -- the column 'No.'
 abbrev pub number_of : Refusal → ℕ
@@ -51,11 +49,17 @@ abbrev pub unless : {A : Type 0} → Bool → A → A → A
 unless true refused later = later
 unless false refused later = refused
 
--- The paper's number of an answer, that of the ground and 0 for a yes (frame 08), and what comes with it.
-abbrev pub answer_number : Answer → ℕ
-answer_number Done = 0
-answer_number (Refused refusal) = number_of refusal
+-- The paper's number of an answer, that of the ground and 0 for a yes (frame 08), whatever a yes brings.
+abbrev pub answer_number : {A : Type 0} → Result A Refusal → ℕ
+answer_number (Ok _) = 0
+answer_number (Err refusal) = number_of refusal
 
-abbrev pub answer_value : Answer → ℕ
-answer_value Done = 0
-answer_value (Refused refusal) = place_of refusal
+-- What comes with it: the place of a no, or 0 for a yes that has nothing to say
+abbrev pub answer_value : Result (Unit {0}) Refusal → ℕ
+answer_value (Ok _) = 0
+answer_value (Err refusal) = place_of refusal
+
+-- the same where a yes brings a number
+abbrev pub number_value : Result ℕ Refusal → ℕ
+number_value (Ok n) = n
+number_value (Err refusal) = place_of refusal

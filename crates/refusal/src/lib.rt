@@ -45,13 +45,6 @@ pub enum Refusal {
     OutOfRange(u32),
 }
 
-// A yes that has nothing to say, or a no.
-#[derive(Clone, Copy)]
-pub enum Answer {
-    Done,
-    Refused(Refusal),
-}
-
 // The paper's number of a ground.
 // Rules out: one number for two grounds; counting the cases instead of the paper's numbers (20 follows 16).
 pub fn number(r: Refusal) -> u8
@@ -83,22 +76,20 @@ pub fn place(r: Refusal) -> u32
     ensures { result ≡ place_of r }
 {
     match r {
-        Refusal::WrongSize => 0,
-        Refusal::WrongLength => 0,
-        Refusal::Table(p) => p,
-        Refusal::Undecodable(p) => p,
-        Refusal::Contention(p) => p,
-        Refusal::DisabledCarry(p) => p,
-        Refusal::Loop(p) => p,
-        Refusal::CellClock(p) => p,
-        Refusal::NoSuchSettings(p) => p,
-        Refusal::NotABit(p) => p,
-        Refusal::Line(p) => p,
-        Refusal::Row(p) => p,
-        Refusal::AscLine(p) => p,
-        Refusal::SizesDiffer => 0,
-        Refusal::ListTooShort(p) => p,
-        Refusal::Change(p) => p,
-        Refusal::OutOfRange(p) => p,
+        Refusal::WrongSize | Refusal::WrongLength | Refusal::SizesDiffer => 0,
+        Refusal::Table(p)
+        | Refusal::Undecodable(p)
+        | Refusal::Contention(p)
+        | Refusal::DisabledCarry(p)
+        | Refusal::Loop(p)
+        | Refusal::CellClock(p)
+        | Refusal::NoSuchSettings(p)
+        | Refusal::NotABit(p)
+        | Refusal::Line(p)
+        | Refusal::Row(p)
+        | Refusal::AscLine(p)
+        | Refusal::ListTooShort(p)
+        | Refusal::Change(p)
+        | Refusal::OutOfRange(p) => p,
     }
 }

@@ -1,5 +1,6 @@
 -- What an answer of the two conversions says fits one answer, and one content of the lent memory, only. Main laws: `words_exact`, `bytes_exact`. Assumes
 -- nothing.
+use Rattle.std.specs.Prelude.{Result, Ok, Err}
 use Prim.Native.Nat.{ℕ, ◌*◌}
 use mathlib.Core.Path.{◌≡◌, refl, sym, ap, ◌∙◌}
 use mathlib.Core.List.{List}
@@ -10,8 +11,6 @@ use Rattle.ports.specs.Block.{tile_count}
 use Rattle.ports.specs.Lengths.{columns, tile_numbers, tile_bytes}
 use Rattle.refusal.specs.declared.Refusal.{Refusal}
 use Rattle.refusal.specs.declared.Refusal.TheVariants.{Undecodable}
-use Rattle.refusal.specs.declared.Answer.{Answer}
-use Rattle.refusal.specs.declared.Answer.TheVariants.{Done, Refused}
 use Rattle.words.specs.Packed.{FitsIn}
 use Rattle.words.specs.Forms.{byte_bits, SameBits}
 use Rattle.words.specs.Meaning.{BothLong, FormNo, by_size, by_length, WordsSay, BytesNo, by_form, by_stray, BytesSay}
@@ -56,16 +55,16 @@ module _ (S : Size) (words : List ℕ) (bytes : ℕ) where
 
 -- ---- any two answers
 
-pub words_exact : (S : Size) (bytes before a b : List ℕ) (r q : Answer) → WordsSay S bytes before a r → WordsSay S bytes before b q → (r ≡ q) × (a ≡ b)
-words_exact S bytes before a b Done Done x y =
+pub words_exact : (S : Size) (bytes before a b : List ℕ) (r q : Result (Unit {0}) Refusal) → WordsSay S bytes before a r → WordsSay S bytes before b q → (r ≡ q) × (a ≡ b)
+words_exact S bytes before a b (Ok _) (Ok _) x y =
     (refl, words_one (tile_count S) a b bytes (x.1 ∙ x.0.words_long) (y.1 ∙ y.0.words_long) x.2 y.2)
-words_exact S bytes before a b Done (Refused q) x y = long_or_no S (length bytes) (length before) x.0 y.1
-words_exact S bytes before a b (Refused r) Done x y = long_or_no S (length bytes) (length before) y.0 x.1
-words_exact S bytes before a b (Refused r) (Refused q) x y = (ap Refused (form_same S (length bytes) (length before) x.1 y.1), x.0 ∙ sym y.0)
+words_exact S bytes before a b (Ok _) (Err q) x y = long_or_no S (length bytes) (length before) x.0 y.1
+words_exact S bytes before a b (Err r) (Ok _) x y = long_or_no S (length bytes) (length before) y.0 x.1
+words_exact S bytes before a b (Err r) (Err q) x y = (ap Err (form_same S (length bytes) (length before) x.1 y.1), x.0 ∙ sym y.0)
 
-pub bytes_exact : (S : Size) (words before a b : List ℕ) (r q : Answer) → BytesSay S words before a r → BytesSay S words before b q → (r ≡ q) × (a ≡ b)
-bytes_exact S words before a b Done Done x y =
+pub bytes_exact : (S : Size) (words before a b : List ℕ) (r q : Result (Unit {0}) Refusal) → BytesSay S words before a r → BytesSay S words before b q → (r ≡ q) × (a ≡ b)
+bytes_exact S words before a b (Ok _) (Ok _) x y =
     (refl, bytes_one (tile_count S) a b words (x.1 ∙ x.0.bytes_long) (y.1 ∙ y.0.bytes_long) x.3 y.3 x.2 y.2)
-bytes_exact S words before a b Done (Refused q) x y = yes_or_no S words (length before) x.0 x.2.fits y.1
-bytes_exact S words before a b (Refused r) Done x y = yes_or_no S words (length before) y.0 y.2.fits x.1
-bytes_exact S words before a b (Refused r) (Refused q) x y = (ap Refused (no_same S words (length before) x.1 y.1), x.0 ∙ sym y.0)
+bytes_exact S words before a b (Ok _) (Err q) x y = yes_or_no S words (length before) x.0 x.2.fits y.1
+bytes_exact S words before a b (Err r) (Ok _) x y = yes_or_no S words (length before) y.0 y.2.fits x.1
+bytes_exact S words before a b (Err r) (Err q) x y = (ap Err (no_same S words (length before) x.1 y.1), x.0 ∙ sym y.0)

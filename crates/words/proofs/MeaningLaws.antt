@@ -1,4 +1,6 @@
 -- Every answer of the two conversions says what specs/Meaning.antt has it say. Main laws: `words_say`, `bytes_say`. Assumes nothing.
+use Rattle.refusal.specs.declared.Refusal.{Refusal}
+use Rattle.std.specs.Prelude.{Result}
 use mathlib.Core.Path.{◌≡◌, refl, sym, subst, ◌∙◌}
 use mathlib.Core.Bool.{true, false, ◌&&◌}
 use mathlib.Core.List.{List}
@@ -14,7 +16,6 @@ use Rattle.ports.specs.declared.size.Size.{Size}
 use Rattle.ports.specs.Block.{tile_count, allowed}
 use Rattle.ports.specs.Lengths.{columns, bits_length, bytes_length}
 use Rattle.ports.proofs.BlockLaws.{allowed_exact, allowed_true}
-use Rattle.refusal.specs.declared.Answer.{Answer}
 use Rattle.refusal.specs.Grounds.{answer_number}
 use Rattle.refusal.specs.Memory.{output}
 use Rattle.refusal.proofs.GroundsLaws.{unless_cases}
@@ -44,7 +45,7 @@ module _ (S : Size) (bytes words : ℕ) where
   both_long_true l = and_equal bytes (bytes_length S) l.bytes_long (eq-eqb words (bits_length S) l.words_long)
 
 module _ (S : Size) (bytes before : List ℕ) where
-  abbrev WordsMean : Answer → Type 0
+  abbrev WordsMean : Result (Unit {0}) Refusal → Type 0
   WordsMean r = WordsSay S bytes before (output (answer_number r) before (words_of (tile_count S) bytes)) r
 
   words_mean : WordsMean (words_answer S (length bytes) (length before))
@@ -56,12 +57,12 @@ module _ (S : Size) (bytes before : List ℕ) where
       (λ e. let long = both_long S (length bytes) (length before) s e in
       (long, words_length (tile_count S) bytes ∙ sym long.words_long, words_same (tile_count S) bytes)))
 
-  pub words_say : (r : Answer) → r ≡ words_answer S (length bytes) (length before) → (after : List ℕ)
+  pub words_say : (r : Result (Unit {0}) Refusal) → r ≡ words_answer S (length bytes) (length before) → (after : List ℕ)
       → after ≡ output (answer_number r) before (words_of (tile_count S) bytes) → WordsSay S bytes before after r
   words_say r e after q = subst (λ (x : List ℕ). WordsSay S bytes before x r) (sym q) (subst WordsMean (sym e) words_mean)
 
 module _ (S : Size) (words before : List ℕ) where
-  abbrev BytesMean : Answer → Type 0
+  abbrev BytesMean : Result (Unit {0}) Refusal → Type 0
   BytesMean r = BytesSay S words before (output (answer_number r) before (bytes_of (tile_count S) words)) r
 
   first_within : eqb (first_stray words) (length words) ≡ false → first_stray words < length words
@@ -87,6 +88,6 @@ module _ (S : Size) (words before : List ℕ) where
         bytes_fit (tile_count S) words,
       ))))
 
-  pub bytes_say : (r : Answer) → r ≡ bytes_answer S words (length before) → (after : List ℕ)
+  pub bytes_say : (r : Result (Unit {0}) Refusal) → r ≡ bytes_answer S words (length before) → (after : List ℕ)
       → after ≡ output (answer_number r) before (bytes_of (tile_count S) words) → BytesSay S words before after r
   bytes_say r e after q = subst (λ (x : List ℕ). BytesSay S words before x r) (sym q) (subst BytesMean (sym e) bytes_mean)

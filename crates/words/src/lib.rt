@@ -15,51 +15,51 @@ ghost use Rattle.words.specs.Meaning.{WordsSay, BytesSay};
 
 use ports::lengths::{bits_length, bytes_length};
 use ports::size::{Size, is_allowed, tile_count};
-use refusal::{Answer, Refusal};
+use refusal::Refusal;
 
 pub mod forms;
 pub mod stray;
 
 // The bytes of a block as words. Grounds 1, 2, in this order (`words_answer`).
 // Rules out: bytes taken in another order; a row that starts at a byte's first bit; words written on a no.
-pub fn words_of_bytes(s: Size, bytes: &[u8], words: &mut [u64]) -> Answer
+pub fn words_of_bytes(s: Size, bytes: &[u8], words: &mut [u64]) -> Result<(), Refusal>
     ensures answer { result ≡ words_answer s (length bytes.now) (length words.old) }
     ensures words { words.new ≡ output (answer_number result) words.old (words_of (tile_count s) bytes.now) }
     ensures says { WordsSay s bytes.now words.old words.new result }
 {
     if !is_allowed(s) {
-        return Answer::Refused(Refusal::WrongSize);
+        return Err(Refusal::WrongSize);
     }
     if bytes.len() != bytes_length(s) {
-        return Answer::Refused(Refusal::WrongLength);
+        return Err(Refusal::WrongLength);
     }
     if words.len() != bits_length(s) {
-        return Answer::Refused(Refusal::WrongLength);
+        return Err(Refusal::WrongLength);
     }
     forms::to_words(tile_count(s), bytes, words);
-    Answer::Done
+    Ok(())
 }
 
 // The words of a block as bytes. Grounds 1, 2, 4, in this order (`bytes_answer`): bytes have no place for a bit past a row's columns.
 // Rules out: a byte cut off at a row's end; bits past a row's columns let into a byte, or dropped; bytes written on a no.
-pub fn bytes_of_words(s: Size, words: &[u64], bytes: &mut [u8]) -> Answer
+pub fn bytes_of_words(s: Size, words: &[u64], bytes: &mut [u8]) -> Result<(), Refusal>
     ensures answer { result ≡ bytes_answer s words.now (length bytes.old) }
     ensures bytes { bytes.new ≡ output (answer_number result) bytes.old (bytes_of (tile_count s) words.now) }
     ensures says { BytesSay s words.now bytes.old bytes.new result }
 {
     if !is_allowed(s) {
-        return Answer::Refused(Refusal::WrongSize);
+        return Err(Refusal::WrongSize);
     }
     if bytes.len() != bytes_length(s) {
-        return Answer::Refused(Refusal::WrongLength);
+        return Err(Refusal::WrongLength);
     }
     if words.len() != bits_length(s) {
-        return Answer::Refused(Refusal::WrongLength);
+        return Err(Refusal::WrongLength);
     }
     let i = stray::first_stray(words);
     if i < words.len() {
-        return Answer::Refused(Refusal::Undecodable(stray::stray_place(i)));
+        return Err(Refusal::Undecodable(stray::stray_place(i)));
     }
     forms::to_bytes(tile_count(s), words, bytes);
-    Answer::Done
+    Ok(())
 }

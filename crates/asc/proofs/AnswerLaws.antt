@@ -1,4 +1,6 @@
 -- The answer and the bits of `read` that specs/Answers.antt computes are those that specs/Meaning.antt means. Main law: `read_told`. Assumes nothing.
+use Rattle.refusal.specs.declared.Refusal.{Refusal}
+use Rattle.std.specs.Prelude.{Result}
 use Prim.Native.Nat.{ℕ, ◌*◌}
 use mathlib.Core.Path.{◌≡◌, refl, sym, ap, ◌∙◌}
 use mathlib.Core.List.{List, []}
@@ -7,7 +9,6 @@ use borrow.Author.Tests.{eqb-true, eqb-false}
 use lib.Dec.{eqb}
 use lib.ListN.{length}
 use Rattle.ports.specs.Lengths.{tile_numbers}
-use Rattle.refusal.specs.declared.Answer.{Answer}
 use Rattle.refusal.specs.Grounds.{answer_number}
 use Rattle.refusal.specs.Memory.{output}
 use Rattle.refusal.proofs.GroundsLaws.{unless_cases}
@@ -36,12 +37,12 @@ module _ (a : Area) (s before : List ℕ) where
       outcome_answer_lem (record { right_size = size; right_length = eqb-true (length before) (tile_numbers * tiles_of a) e }) (outcome_of a s)
       (outcome_says a (sized_of a size) s s [] 0 (begun a) [] refl nothing (λ k l. absurd (omega arith)))))
     where
-      P : Answer → Type 0
+      P : Result (Unit {0}) Refusal → Type 0
       P r = AscSays a s before (output (answer_number r) before (outcome_bits a (outcome_of a s))) r
 
   -- and so an answer that says so is the one that is computed
-  pub read_told : (after : List ℕ) (r : Answer) → AscSays a s before after r
+  pub read_told : (after : List ℕ) (r : Result (Unit {0}) Refusal) → AscSays a s before after r
       → (r ≡ read_answer a s (length before)) × ((after ≡ output (answer_number r) before (bits_read a s)) × AscSays a s before after r)
   read_told after r says =
       let e = asc_exact a s before after _ r (read_answer a s (length before)) says answer_says in
-      (e.0, (e.1 ∙ ap (λ (q : Answer). output (answer_number q) before (bits_read a s)) (sym e.0), says))
+      (e.0, (e.1 ∙ ap (λ (q : Result (Unit {0}) Refusal). output (answer_number q) before (bits_read a s)) (sym e.0), says))

@@ -1,4 +1,5 @@
 -- What an answer of `read` says fits one answer, and one content of the bits, only. Main law: `asc_exact`. Assumes nothing.
+use Rattle.std.specs.Prelude.{Result, Ok, Err}
 use Prim.Native.Nat.{ℕ, ◌<◌, ◌≤◌}
 use mathlib.Core.Path.{◌≡◌, refl, sym, ap, ◌∙◌, subst}
 use mathlib.Core.Bool.{false}
@@ -9,8 +10,6 @@ use lib.ListN.{length, length-append}
 use Rattle.lists.proofs.CaseLaws.{lt_or_le, clash}
 use Rattle.refusal.specs.declared.Refusal.{Refusal}
 use Rattle.refusal.specs.declared.Refusal.TheVariants.{AscLine}
-use Rattle.refusal.specs.declared.Answer.{Answer}
-use Rattle.refusal.specs.declared.Answer.TheVariants.{Done, Refused}
 use Rattle.asc.specs.Area.{Area, tiles_of, sized}
 use Rattle.asc.specs.Stages.{Stage, Turn, Begins, Whole}
 use Rattle.asc.specs.Content.{rows_packed}
@@ -94,9 +93,9 @@ module _ (a : Area) (s : List ℕ) (bits : ℕ) where
   yes_or_no lent u (by_length e h) = absurd (h lent.right_length)
   yes_or_no lent u (by_line l z) = stuck_or_all a (sized_of a lent.right_size) s z.says u.all_says
 
-pub asc_exact : (a : Area) (s before : List ℕ) (u v : List ℕ) (q r : Answer) → AscSays a s before u q → AscSays a s before v r → (q ≡ r) × (u ≡ v)
-asc_exact a s before u v Done Done x y =
+pub asc_exact : (a : Area) (s before : List ℕ) (u v : List ℕ) (q r : Result (Unit {0}) Refusal) → AscSays a s before u q → AscSays a s before v r → (q ≡ r) × (u ≡ v)
+asc_exact a s before u v (Ok _) (Ok _) x y =
     (refl, x.1.bits_are ∙ ap (λ (c : List ℕ). rows_packed c (tiles_of a)) (all_same a (sized_of a x.0.right_size) s x.1.all_says y.1.all_says) ∙ sym y.1.bits_are)
-asc_exact a s before u v Done (Refused r) x y = yes_or_no a s (length before) x.0 x.1 y.1
-asc_exact a s before u v (Refused q) Done x y = yes_or_no a s (length before) y.0 y.1 x.1
-asc_exact a s before u v (Refused q) (Refused r) x y = (ap Refused (no_same a s (length before) x.1 y.1), x.0 ∙ sym y.0)
+asc_exact a s before u v (Ok _) (Err r) x y = yes_or_no a s (length before) x.0 x.1 y.1
+asc_exact a s before u v (Err q) (Ok _) x y = yes_or_no a s (length before) y.0 y.1 x.1
+asc_exact a s before u v (Err q) (Err r) x y = (ap Err (no_same a s (length before) x.1 y.1), x.0 ∙ sym y.0)

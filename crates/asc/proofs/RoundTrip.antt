@@ -1,4 +1,6 @@
 -- "A written file read back at its corner and size gives the same block." Main laws: `asc_back`, `read_written`, `write_read`. Assumes nothing.
+use Rattle.refusal.specs.declared.Refusal.{Refusal}
+use Rattle.std.specs.Prelude.{Result, Ok}
 use Prim.Native.Nat.{ℕ, zero, suc, ◌+◌, ◌-◌, ◌*◌, ◌/◌, ◌%◌, ◌<◌, ◌≤◌}
 use mathlib.Core.Path.{◌≡◌, refl, sym, ap, ◌∙◌, subst, subst₂}
 use mathlib.Core.Bool.{true, false}
@@ -14,8 +16,6 @@ use Rattle.lists.specs.Tables.{zeros}
 use Rattle.lists.specs.Parts.{joined}
 use Rattle.lists.proofs.CaseLaws.{lt_or_le, eq_or_ne}
 use Rattle.lists.proofs.TableLaws.{tabulate_is, zeros_length, zeros_at}
-use Rattle.refusal.specs.declared.Answer.{Answer}
-use Rattle.refusal.specs.declared.Answer.TheVariants.{Done}
 use Rattle.texts.specs.Pieces.{placed}
 use Rattle.texts.proofs.PlacedLaws.{placed_length, placed_before, placed_inside}
 use Rattle.asc.specs.Area.{Area, tiles_of, sized}
@@ -145,7 +145,7 @@ module _ (a : Area) (bits : List ℕ) where
 -- the block's bits, and a yes, are what reading the written file says
 module _ (a : Area) (bits before : List ℕ) (size : sized a ≡ true) (long : length bits ≡ tile_numbers * tiles_of a) (fits : FitsIn columns bits)
     (room : length before ≡ tile_numbers * tiles_of a) where
-  pub written_says : AscSays a (written a bits) before bits Done
+  pub written_says : AscSays a (written a bits) before bits (Ok tt)
   unfolding written rows_packed packed
   written_says =
       let r = read_tiles a bits (sized_of a size) (tiles_of a) (omega arith) in (
@@ -159,16 +159,16 @@ module _ (a : Area) (bits before : List ℕ) (size : sized a ≡ true) (long : l
       )
 
   -- and no other answer fits
-  pub asc_back : (r : Answer) (after : List ℕ) → AscSays a (written a bits) before after r → (r ≡ Done) × (after ≡ bits)
-  asc_back r after says = asc_exact a (written a bits) before after bits r Done says written_says
+  pub asc_back : (r : Result (Unit {0}) Refusal) (after : List ℕ) → AscSays a (written a bits) before after r → (r ≡ (Ok tt)) × (after ≡ bits)
+  asc_back r after says = asc_exact a (written a bits) before after bits r (Ok tt) says written_says
 
   -- the same as equations
-  pub read_written : (read_answer a (written a bits) (length before) ≡ Done) × (bits_read a (written a bits) ≡ bits)
-  read_written = let e = read_told a (written a bits) before bits Done written_says in (sym e.0, sym e.1.0)
+  pub read_written : (read_answer a (written a bits) (length before) ≡ (Ok tt)) × (bits_read a (written a bits) ≡ bits)
+  read_written = let e = read_told a (written a bits) before bits (Ok tt) written_says in (sym e.0, sym e.1.0)
 
 -- Demand 2 over this route: where `write` says yes, `read` of what it wrote, at the same corner and size, says yes and gives the same bits.
-pub write_read : (a : Area) (bits text before : List ℕ) → write_answer a bits (length text) ≡ Done → length before ≡ length bits → (r : Answer) (after : List ℕ)
-    → AscSays a (written a bits) before after r → (r ≡ Done) × (after ≡ bits)
+pub write_read : (a : Area) (bits text before : List ℕ) → write_answer a bits (length text) ≡ (Ok tt) → length before ≡ length bits → (r : Result (Unit {0}) Refusal) (after : List ℕ)
+    → AscSays a (written a bits) before after r → (r ≡ (Ok tt)) × (after ≡ bits)
 write_read a bits text before w room r after says =
     let p = write_passed a bits text w in
     let lent = p.0 in

@@ -1,5 +1,6 @@
 -- The answer of `write` that specs/Answers.antt computes is the one that specs/WriteMeaning.antt means, and no other fits. Main laws: `write_says`, `write_exact`,
 -- `write_told`; `write_passed`: what a yes leaves, and `write_yes`: that it leaves nothing else. Assumes nothing.
+use Rattle.std.specs.Prelude.{Result, Ok, Err}
 use Prim.Native.Nat.{ℕ, ◌*◌, ◌<◌, ◌≤◌}
 use mathlib.Core.Path.{◌≡◌, refl, sym, ap, ◌∙◌, subst}
 use mathlib.Core.Bool.{◌&&◌}
@@ -13,8 +14,6 @@ use Rattle.lists.proofs.SearchLaws.{first_le}
 use Rattle.ports.specs.Lengths.{columns, tile_numbers}
 use Rattle.refusal.specs.declared.Refusal.{Refusal}
 use Rattle.refusal.specs.declared.Refusal.TheVariants.{Undecodable}
-use Rattle.refusal.specs.declared.Answer.{Answer}
-use Rattle.refusal.specs.declared.Answer.TheVariants.{Done, Refused}
 use Rattle.refusal.specs.Grounds.{answer_number}
 use Rattle.refusal.specs.Memory.{output}
 use Rattle.refusal.proofs.GroundsLaws.{unless_cases}
@@ -49,16 +48,16 @@ module _ (a : Area) (bits before : List ℕ) where
       (λ f. let h = eqb-false (first_stray bits) (length bits) f in let m = first_le (past_columns bits) 0 (length bits) in (refl, by_stray lent (first_stray_exact bits (omega arith))))
       (λ f. (lent, no_stray_fits bits (eqb-true (first_stray bits) (length bits) f), refl))))
     where
-      P : Answer → Type 0
+      P : Result (Unit {0}) Refusal → Type 0
       P r = WriteSays a bits before (output (answer_number r) before file) r
 
   -- the last test, as the code makes it: i is the first stray row
   module _ (lent : WriteLent a (length bits) (length before)) (i : ℕ) (e : i ≡ first_stray bits) where
-    pub write_stray : (place : ℕ) → i < length bits → place ≡ stray_place i → WriteSays a bits before before (Refused (Undecodable place))
+    pub write_stray : (place : ℕ) → i < length bits → place ≡ stray_place i → WriteSays a bits before before (Err (Undecodable place))
     write_stray place l p =
         (refl, by_stray lent (subst (LowestStray bits) (sym (p ∙ ap stray_place e)) (first_stray_exact bits (subst (λ (k : ℕ). k < length bits) e l))))
 
-    pub write_done : (after : List ℕ) → length bits ≤ i → after ≡ file → WriteSays a bits before after Done
+    pub write_done : (after : List ℕ) → length bits ≤ i → after ≡ file → WriteSays a bits before after (Ok tt)
     write_done after l w = (lent, no_stray_fits bits (let m = first_le (past_columns bits) 0 (length bits) in omega arith), w)
 
   -- two noes are one, and a yes leaves none
@@ -79,26 +78,26 @@ module _ (a : Area) (bits before : List ℕ) where
   yes_or_no lent fits (by_stray l z) = absurd (fits_no_stray bits fits _ z.here)
 
   -- one answer, and one text, only
-  pub write_exact : (u v : List ℕ) (q r : Answer) → WriteSays a bits before u q → WriteSays a bits before v r → (q ≡ r) × (u ≡ v)
-  write_exact u v Done Done x y = (refl, x.2 ∙ sym y.2)
-  write_exact u v Done (Refused r) x y = yes_or_no x.0 x.1 y.1
-  write_exact u v (Refused q) Done x y = yes_or_no y.0 y.1 x.1
-  write_exact u v (Refused q) (Refused r) x y = (ap Refused (no_same x.1 y.1), x.0 ∙ sym y.0)
+  pub write_exact : (u v : List ℕ) (q r : Result (Unit {0}) Refusal) → WriteSays a bits before u q → WriteSays a bits before v r → (q ≡ r) × (u ≡ v)
+  write_exact u v (Ok _) (Ok _) x y = (refl, x.2 ∙ sym y.2)
+  write_exact u v (Ok _) (Err r) x y = yes_or_no x.0 x.1 y.1
+  write_exact u v (Err q) (Ok _) x y = yes_or_no y.0 y.1 x.1
+  write_exact u v (Err q) (Err r) x y = (ap Err (no_same x.1 y.1), x.0 ∙ sym y.0)
 
   -- and so an answer that says so is the one that is computed
-  pub write_told : (after : List ℕ) (r : Answer) → WriteSays a bits before after r
+  pub write_told : (after : List ℕ) (r : Result (Unit {0}) Refusal) → WriteSays a bits before after r
       → (r ≡ write_answer a bits (length before)) × ((after ≡ output (answer_number r) before file) × WriteSays a bits before after r)
   write_told after r says =
       let e = write_exact after _ r (write_answer a bits (length before)) says write_says in
-      (e.0, (e.1 ∙ ap (λ (q : Answer). output (answer_number q) before file) (sym e.0), says))
+      (e.0, (e.1 ∙ ap (λ (q : Result (Unit {0}) Refusal). output (answer_number q) before file) (sym e.0), says))
 
   -- a yes of `write` says that size and lengths are right, and that no bit is stray
-  pub write_passed : write_answer a bits (length before) ≡ Done → WriteLent a (length bits) (length before) × FitsIn columns bits
+  pub write_passed : write_answer a bits (length before) ≡ (Ok tt) → WriteLent a (length bits) (length before) × FitsIn columns bits
   write_passed done =
-      let says : WriteSays a bits before (output 0 before file) Done =
-      subst (λ (r : Answer). WriteSays a bits before (output (answer_number r) before file) r) done write_says in
+      let says : WriteSays a bits before (output 0 before file) (Ok tt) =
+      subst (λ (r : Result (Unit {0}) Refusal). WriteSays a bits before (output (answer_number r) before file) r) done write_says in
       (says.0, says.1)
 
   -- and that is all it asks for
-  pub write_yes : WriteLent a (length bits) (length before) → FitsIn columns bits → write_answer a bits (length before) ≡ Done
-  write_yes lent fits = sym (write_told file Done (lent, fits, refl)).0
+  pub write_yes : WriteLent a (length bits) (length before) → FitsIn columns bits → write_answer a bits (length before) ≡ (Ok tt)
+  write_yes lent fits = sym (write_told file (Ok tt) (lent, fits, refl)).0

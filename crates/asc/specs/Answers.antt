@@ -1,14 +1,11 @@
 -- What `read`, `write` and `text_length` answer, computed. `read_told` (proofs/AnswerLaws.antt): of `read` it is what specs/Meaning.antt says. `write_told`
 -- (proofs/WriteAnswerLaws.antt): of `write` it is what specs/WriteMeaning.antt says.
-use Rattle.std.specs.Prelude.{ℕ, suc, ◌*◌, cond, ◌&&◌, List, [], ◌∷◌, ◌++◌, eqb, length}
+use Rattle.refusal.specs.declared.Refusal.{Refusal}
+use Rattle.std.specs.Prelude.{ℕ, suc, ◌*◌, cond, ◌&&◌, List, [], ◌∷◌, ◌++◌, eqb, length, Result, Ok, Err}
 use Rattle.ports.specs.Lengths.{tile_numbers}
 use Rattle.refusal.specs.declared.Refusal.TheVariants.{WrongSize, WrongLength, Undecodable, AscLine}
-use Rattle.refusal.specs.declared.Answer.{Answer}
-use Rattle.refusal.specs.declared.Answer.TheVariants.{Done, Refused}
 use Rattle.refusal.specs.Grounds.{unless, number_of, place_of}
 use Rattle.words.specs.Stray.{first_stray, stray_place}
-use Rattle.asc.specs.declared.TextLength.{TextLength}
-use Rattle.asc.specs.declared.TextLength.TheVariants as text-length
 use Rattle.asc.specs.Area.{Area, tiles_of, sized}
 use Rattle.asc.specs.Stages.{Stage, begun}
 use Rattle.asc.specs.Next.{Next, goes, fault, next_of, is_whole}
@@ -42,17 +39,17 @@ outcome a st n line (b ∷ rest) =
 abbrev pub outcome_of : Area → List ℕ → Outcome
 outcome_of a s = outcome a (begun a) 0 [] s
 
-abbrev pub outcome_answer : Outcome → Answer
-outcome_answer (complete content) = Done
-outcome_answer (stuck_after n) = Refused (AscLine (line_number n))
+abbrev pub outcome_answer : Outcome → Result (Unit {0}) Refusal
+outcome_answer (complete content) = (Ok tt)
+outcome_answer (stuck_after n) = Err (AscLine (line_number n))
 
 abbrev pub outcome_bits : Area → Outcome → List ℕ
 outcome_bits a (complete content) = rows_packed content (tiles_of a)
 outcome_bits a (stuck_after n) = []
 
 -- `bits` is the length of the lent bits
-unfoldable pub read_answer : Area → List ℕ → ℕ → Answer
-read_answer a s bits = unless (sized a) (Refused WrongSize) (unless (eqb bits (tile_numbers * tiles_of a)) (Refused WrongLength) (outcome_answer (outcome_of a s)))
+unfoldable pub read_answer : Area → List ℕ → ℕ → Result (Unit {0}) Refusal
+read_answer a s bits = unless (sized a) (Err WrongSize) (unless (eqb bits (tile_numbers * tiles_of a)) (Err WrongLength) (outcome_answer (outcome_of a s)))
 
 -- the bits that a yes writes
 unfoldable pub bits_read : Area → List ℕ → List ℕ
@@ -60,20 +57,11 @@ bits_read a s = outcome_bits a (outcome_of a s)
 
 -- ---- writing: grounds 1, 2, 4, in this order; `text` is the length of the room
 
-unfoldable pub write_answer : Area → List ℕ → ℕ → Answer
+unfoldable pub write_answer : Area → List ℕ → ℕ → Result (Unit {0}) Refusal
 write_answer a bits text =
-    unless (sized a) (Refused WrongSize)
-    (unless (eqb (length bits) (tile_numbers * tiles_of a) && eqb text (text_length a)) (Refused WrongLength)
-    (unless (eqb (first_stray bits) (length bits)) (Refused (Undecodable (stray_place (first_stray bits)))) Done))
+    unless (sized a) (Err WrongSize)
+    (unless (eqb (length bits) (tile_numbers * tiles_of a) && eqb text (text_length a)) (Err WrongLength)
+    (unless (eqb (first_stray bits) (length bits)) (Err (Undecodable (stray_place (first_stray bits)))) (Ok tt)))
 
-unfoldable pub length_answer : Area → TextLength
-length_answer a = unless (sized a) (text-length.Refused WrongSize) (text-length.Bytes (text_length a))
-
--- the paper's number of an answer, 0 for a yes, and what comes with it
-abbrev pub length_number : TextLength → ℕ
-length_number (text-length.Bytes n) = 0
-length_number (text-length.Refused refusal) = number_of refusal
-
-abbrev pub length_value : TextLength → ℕ
-length_value (text-length.Bytes n) = n
-length_value (text-length.Refused refusal) = place_of refusal
+unfoldable pub length_answer : Area → Result ℕ Refusal
+length_answer a = unless (sized a) (Err WrongSize) (Ok (text_length a))

@@ -1,10 +1,8 @@
 -- What each answer of `read` says, in the paper's words. `asc_exact` (proofs/ExactLaws.antt): it fits one answer only.
-use Rattle.std.specs.Prelude.{ℕ, suc, ◌*◌, min, ◌≡◌, true, false, ◌≢◌, List, [], ◌∷◌, ◌++◌, length}
+use Rattle.std.specs.Prelude.{ℕ, suc, ◌*◌, min, ◌≡◌, true, false, ◌≢◌, List, [], ◌∷◌, ◌++◌, length, Result, Ok, Err}
 use Rattle.ports.specs.Lengths.{tile_numbers}
 use Rattle.refusal.specs.declared.Refusal.{Refusal}
 use Rattle.refusal.specs.declared.Refusal.TheVariants.{WrongSize, WrongLength, AscLine}
-use Rattle.refusal.specs.declared.Answer.{Answer}
-use Rattle.refusal.specs.declared.Answer.TheVariants.{Done, Refused}
 use Rattle.texts.specs.Lines.{Plain}
 use Rattle.asc.specs.declared.scan.Scanned.{Scanned}
 use Rattle.asc.specs.declared.scan.Scanned.TheVariants.{AllThere, StuckAt}
@@ -71,6 +69,6 @@ pub data ReadNo (a : Area) (s : List ℕ) (bits : ℕ) : Refusal → Type 0 wher
   by_line : {place : ℕ} → Lent a bits → LineSays a s place → ReadNo a s bits (AscLine place)
 
 -- What an answer of `read` says of the text s, `before` and `after` being the lent bits: "On a refusal the outputs keep their old contents".
-abbrev pub AscSays : Area → List ℕ → List ℕ → List ℕ → Answer → Type 0
-AscSays a s before after Done = Lent a (length before) × YesSays a s after
-AscSays a s before after (Refused refusal) = (after ≡ before) × ReadNo a s (length before) refusal
+abbrev pub AscSays : Area → List ℕ → List ℕ → List ℕ → Result (Unit {0}) Refusal → Type 0
+AscSays a s before after (Ok _) = Lent a (length before) × YesSays a s after
+AscSays a s before after (Err refusal) = (after ≡ before) × ReadNo a s (length before) refusal

@@ -1,11 +1,9 @@
 -- What each answer of `write` says. Document 02, W7: "4 for a set bit in columns 54 to 63, at fault as column 53 of its row; W1's writer gives that one too, after 1
 -- and 2". It has no table, so there is no other fault. `write_exact` (proofs/WriteAnswerLaws.antt): it fits one answer only.
-use Rattle.std.specs.Prelude.{ℕ, ◌*◌, ◌≡◌, true, false, List, length}
+use Rattle.std.specs.Prelude.{ℕ, ◌*◌, ◌≡◌, true, false, List, length, Result, Ok, Err}
 use Rattle.ports.specs.Lengths.{columns, tile_numbers}
 use Rattle.refusal.specs.declared.Refusal.{Refusal}
 use Rattle.refusal.specs.declared.Refusal.TheVariants.{WrongSize, WrongLength, Undecodable}
-use Rattle.refusal.specs.declared.Answer.{Answer}
-use Rattle.refusal.specs.declared.Answer.TheVariants.{Done, Refused}
 use Rattle.words.specs.Packed.{FitsIn}
 use Rattle.words.specs.Stray.{LowestStray}
 use Rattle.asc.specs.Area.{Area, tiles_of, sized}
@@ -24,6 +22,6 @@ pub data WriteNo (a : Area) (bits : List ℕ) (text : ℕ) : Refusal → Type 0 
   by_stray : {place : ℕ} → WriteLent a (length bits) text → LowestStray bits place → WriteNo a bits text (Undecodable place)
 
 -- What an answer of `write` says of the bits, `before` and `after` being the room for the text. A yes: "columns 54 to 63 zero", and the file.
-abbrev pub WriteSays : Area → List ℕ → List ℕ → List ℕ → Answer → Type 0
-WriteSays a bits before after Done = WriteLent a (length bits) (length before) × FitsIn columns bits × (after ≡ written a bits)
-WriteSays a bits before after (Refused refusal) = (after ≡ before) × WriteNo a bits (length before) refusal
+abbrev pub WriteSays : Area → List ℕ → List ℕ → List ℕ → Result (Unit {0}) Refusal → Type 0
+WriteSays a bits before after (Ok _) = WriteLent a (length bits) (length before) × FitsIn columns bits × (after ≡ written a bits)
+WriteSays a bits before after (Err refusal) = (after ≡ before) × WriteNo a bits (length before) refusal

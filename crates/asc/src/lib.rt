@@ -20,7 +20,7 @@ use crate::area::is_sized;
 use crate::scan::Scanned;
 use ports::lengths::{POSITIONS, TILE_NUMBERS};
 use ports::size::Size;
-use refusal::{Answer, Refusal};
+use refusal::Refusal;
 use words::stray::{first_stray, stray_place};
 
 mod area;
@@ -31,13 +31,6 @@ mod scan;
 mod text;
 mod turn;
 mod writing;
-
-// How long the file of a block is, or why there is none.
-#[derive(Clone, Copy)]
-pub enum TextLength {
-    Bytes(u32),
-    Refused(Refusal),
-}
 
 // One more than so many lines, cut at 2^32 - 1.
 fn line_number(n: usize) -> u32
@@ -59,24 +52,24 @@ fn read_into(
     bits: &mut [u64],
     given: &mut [u8],
     content: &mut [u8],
-) -> Answer
+) -> Result<(), Refusal>
     requires { (sized (area w h x y) ≡ true) × (length bits.old ≡ tile_numbers * tiles_of (area w h x y)) ×
         (length given.old ≡ tiles_of (area w h x y)) × (length content.old ≡ positions * tiles_of (area w h x y)) }
     ensures { AscSays (area w h x y) text.now bits.old bits.new result }
 {
     let scanned = scan::scan(w, h, x, y, text, given, content);
     match scanned {
-        Scanned::StuckAt(n) => Answer::Refused(Refusal::AscLine(line_number(n))),
+        Scanned::StuckAt(n) => Err(Refusal::AscLine(line_number(n))),
         Scanned::AllThere => {
             bits::pack(content, bits);
-            Answer::Done
+            Ok(())
         }
     }
 }
 
 // Reads the bits of the block with its south-west corner at x, y from a file of any length. Grounds 1, 2, 13, in this order (`read_answer`).
 // Rules out: refusing every file; bits written on a no; a second device, a tile given twice, a tile left out; a last line without its line feed.
-pub fn read(s: Size, x: u32, y: u32, text: &[u8], bits: &mut [u64]) -> Answer
+pub fn read(s: Size, x: u32, y: u32, text: &[u8], bits: &mut [u64]) -> Result<(), Refusal>
     ensures answer { result ≡ read_answer (area_at s x y) text.now (length bits.old) }
     ensures bits { bits.new ≡ output (answer_number result) bits.old (bits_read (area_at s x y) text.now) }
     ensures says { AscSays (area_at s x y) text.now bits.old bits.new result }
@@ -84,11 +77,11 @@ pub fn read(s: Size, x: u32, y: u32, text: &[u8], bits: &mut [u64]) -> Answer
     let w = s.w;
     let h = s.h;
     if !is_sized(w, h, x, y) {
-        return Answer::Refused(Refusal::WrongSize);
+        return Err(Refusal::WrongSize);
     }
     let n = (h * w) as usize;
     if bits.len() != TILE_NUMBERS * n {
-        return Answer::Refused(Refusal::WrongLength);
+        return Err(Refusal::WrongLength);
     }
     let mut given = room::given_room();
     let mut content = room::content_room();
@@ -106,20 +99,20 @@ pub fn read(s: Size, x: u32, y: u32, text: &[u8], bits: &mut [u64]) -> Answer
 }
 
 // How long the file of a block is. Ground 1 (`length_answer`).
-pub fn text_length(s: Size, x: u32, y: u32) -> TextLength
+pub fn text_length(s: Size, x: u32, y: u32) -> Result<u32, Refusal>
     ensures { result ≡ length_answer (area_at s x y) }
 {
     let w = s.w;
     let h = s.h;
     if !is_sized(w, h, x, y) {
-        return TextLength::Refused(Refusal::WrongSize);
+        return Err(Refusal::WrongSize);
     }
-    TextLength::Bytes(writing::file_length(w, h, x, y) as u32)
+    Ok(writing::file_length(w, h, x, y) as u32)
 }
 
 // Writes a block as a file, .device first, tiles by index. Grounds 1, 2, 4, in this order (`write_answer`); 4 for a bit past a row's columns only.
 // Rules out: a room that is longer than the file; a file written on a no; a stray bit left out of the file in silence.
-pub fn write(s: Size, x: u32, y: u32, bits: &[u64], text: &mut [u8]) -> Answer
+pub fn write(s: Size, x: u32, y: u32, bits: &[u64], text: &mut [u8]) -> Result<(), Refusal>
     ensures answer { result ≡ write_answer (area_at s x y) bits.now (length text.old) }
     ensures text { text.new ≡ output (answer_number result) text.old (written (area_at s x y) bits.now) }
     ensures says { WriteSays (area_at s x y) bits.now text.old text.new result }
@@ -127,19 +120,19 @@ pub fn write(s: Size, x: u32, y: u32, bits: &[u64], text: &mut [u8]) -> Answer
     let w = s.w;
     let h = s.h;
     if !is_sized(w, h, x, y) {
-        return Answer::Refused(Refusal::WrongSize);
+        return Err(Refusal::WrongSize);
     }
     let n = (h * w) as usize;
     if bits.len() != TILE_NUMBERS * n {
-        return Answer::Refused(Refusal::WrongLength);
+        return Err(Refusal::WrongLength);
     }
     if text.len() != writing::file_length(w, h, x, y) {
-        return Answer::Refused(Refusal::WrongLength);
+        return Err(Refusal::WrongLength);
     }
     let stray = first_stray(bits);
     if stray < bits.len() {
-        return Answer::Refused(Refusal::Undecodable(stray_place(stray)));
+        return Err(Refusal::Undecodable(stray_place(stray)));
     }
     writing::put_file(w, h, x, y, bits, text);
-    Answer::Done
+    Ok(())
 }

@@ -1,5 +1,8 @@
 -- The answers of following a driver, ground by ground, each where the grounds before it have passed; and the work room after any answer.
 -- Main laws: `port_driven`, `settings_port`, `follow_settings`; `follow_room`. Assumes nothing.
+use Rattle.refusal.specs.Grounds.{answer_number}
+use Rattle.refusal.specs.declared.Refusal.{Refusal}
+use Rattle.std.specs.Prelude.{Result, Ok, Err}
 use Prim.Native.Nat.{ℕ, ◌<◌, ◌≤◌}
 use mathlib.Core.Path.{◌≡◌, refl, sym, ap, ◌∙◌}
 use mathlib.Core.Logic.{◌≢◌}
@@ -20,41 +23,39 @@ use Rattle.routing.specs.TableCheck.{faulty_part, part_count, table_ok}
 use Rattle.config.specs.Blocks.{bitless_tile}
 use Rattle.equations.specs.Sources.{contended_wire, sources_of}
 use Rattle.drivers.specs.Following.{driver_of}
-use Rattle.block.specs.declared.Followed.{Followed}
-use Rattle.block.specs.declared.Followed.TheVariants.{Driven, Refused}
 use Rattle.block.specs.Building.{none}
-use Rattle.block.specs.Drivers.{followed_number, port_answer, settings_answer, follow_answer}
+use Rattle.block.specs.Drivers.{port_answer, settings_answer, follow_answer}
 use Rattle.refusal.proofs.GroundsLaws.{unless_cases}
 
 -- ---- grounds 5 and 20
 
 module _ (B : Block) (t st : List ℕ) (tile port : ℕ) where
-  pub port_contended : (w : ℕ) → w ≡ contended_wire B t st → w < ports B → Refused (Contention w) ≡ port_answer B t st tile port
+  pub port_contended : (w : ℕ) → w ≡ contended_wire B t st → w < ports B → Err (Contention w) ≡ port_answer B t st tile port
   unfolding port_answer
   port_contended w e l = rw (← e, lt-leb (ports B) w l)
 
   module _ (free : ports B ≤ contended_wire B t st) where
-    pub port_no_tile : tiles B ≤ tile → Refused (OutOfRange tile) ≡ port_answer B t st tile port
+    pub port_no_tile : tiles B ≤ tile → Err (OutOfRange tile) ≡ port_answer B t st tile port
     unfolding port_answer
     port_no_tile l = rw (le-leb (ports B) (contended_wire B t st) free, le-ltb tile (tiles B) l)
 
     module _ (within : tile < tiles B) where
-      pub port_no_port : ports_per_tile ≤ port → Refused (OutOfRange port) ≡ port_answer B t st tile port
+      pub port_no_port : ports_per_tile ≤ port → Err (OutOfRange port) ≡ port_answer B t st tile port
       unfolding port_answer
       port_no_port l = rw (le-leb (ports B) (contended_wire B t st) free, lt-ltb tile (tiles B) within, le-ltb port ports_per_tile l)
 
-      pub port_driven : port < ports_per_tile → Driven (driver_of B (sources_of B t st) (wire_of B (port_of tile port))) ≡ port_answer B t st tile port
+      pub port_driven : port < ports_per_tile → Ok (driver_of B (sources_of B t st) (wire_of B (port_of tile port))) ≡ port_answer B t st tile port
       unfolding port_answer
       port_driven l = rw (le-leb (ports B) (contended_wire B t st) free, lt-ltb tile (tiles B) within, lt-ltb port ports_per_tile l)
 
   -- ---- grounds 3 and 9
 
-  pub settings_table : (p : ℕ) → p ≡ faulty_part logic_tile t → p ≢ part_count logic_tile t → Refused (Table p) ≡ settings_answer B t st tile port
+  pub settings_table : (p : ℕ) → p ≡ faulty_part logic_tile t → p ≢ part_count logic_tile t → Err (Table p) ≡ settings_answer B t st tile port
   unfolding settings_answer
   settings_table p e n = rw (← e, ne_eqb p (part_count logic_tile t) n)
 
   module _ (pass : table_ok logic_tile t ≡ true) where
-    pub settings_bitless : (T : ℕ) → T ≡ bitless_tile t st (tiles B) → T < tiles B → Refused (NoSuchSettings T) ≡ settings_answer B t st tile port
+    pub settings_bitless : (T : ℕ) → T ≡ bitless_tile t st (tiles B) → T < tiles B → Err (NoSuchSettings T) ≡ settings_answer B t st tile port
     unfolding settings_answer
     settings_bitless T e l = rw (pass, ← e, lt-leb (tiles B) T l)
 
@@ -65,12 +66,12 @@ module _ (B : Block) (t st : List ℕ) (tile port : ℕ) where
 -- ---- grounds 1 and 2
 
 module _ (B : Block) (t st : List ℕ) (tile port : ℕ) (lengths : Bool) where
-  pub follow_size : sized B ≡ false → Refused WrongSize ≡ follow_answer B t st tile port lengths
+  pub follow_size : sized B ≡ false → Err WrongSize ≡ follow_answer B t st tile port lengths
   unfolding follow_answer
   follow_size e = rw e
 
   module _ (size : sized B ≡ true) where
-    pub follow_length : lengths ≡ false → Refused WrongLength ≡ follow_answer B t st tile port lengths
+    pub follow_length : lengths ≡ false → Err WrongLength ≡ follow_answer B t st tile port lengths
     unfolding follow_answer
     follow_length e = rw (size, e)
 
@@ -80,8 +81,8 @@ module _ (B : Block) (t st : List ℕ) (tile port : ℕ) (lengths : Bool) where
 
 -- ---- the work room
 
-abbrev Zeroed : Followed → Type 0
-Zeroed r = (old : List ℕ) → zeros (length old) ≡ work_room (followed_number r) old
+abbrev Zeroed : Result Driver Refusal → Type 0
+Zeroed r = (old : List ℕ) → zeros (length old) ≡ work_room (answer_number r) old
 
 -- all grounds but 1 and 2, and a yes, leave it zeroed
 pub follow_room : (B : Block) (t st : List ℕ) (tile port : ℕ) → Zeroed (settings_answer B t st tile port)
@@ -93,7 +94,7 @@ follow_room B t st tile port =
     (λ e. unless_cases Zeroed (ltb tile (tiles B)) _ _ (λ e old. refl) (λ e. unless_cases Zeroed (ltb port ports_per_tile) _ _ (λ e old. refl) (λ e old. refl)))))
 
 -- a slice of it, whose old contents were cleared after the answer
-pub follow_cleared : (B : Block) (t st : List ℕ) (tile port : ℕ) (r : Followed) → r ≡ settings_answer B t st tile port → (old last cleared : List ℕ)
-    → length last ≡ length old → cleared ≡ zeros (length last) → cleared ≡ work_room (followed_number r) old
+pub follow_cleared : (B : Block) (t st : List ℕ) (tile port : ℕ) (r : Result Driver Refusal) → r ≡ settings_answer B t st tile port → (old last cleared : List ℕ)
+    → length last ≡ length old → cleared ≡ zeros (length last) → cleared ≡ work_room (answer_number r) old
 follow_cleared B t st tile port r e old last cleared long is =
-    is ∙ ap zeros long ∙ follow_room B t st tile port old ∙ ap (λ (a : Followed). work_room (followed_number a) old) (sym e)
+    is ∙ ap zeros long ∙ follow_room B t st tile port old ∙ ap (λ (a : Result Driver Refusal). work_room (answer_number a) old) (sym e)

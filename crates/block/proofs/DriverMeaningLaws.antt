@@ -1,4 +1,6 @@
 -- Every answer of following says what specs/DriverMeaning.antt has. Main law: `follow_says`. Assumes nothing.
+use Rattle.refusal.specs.declared.Refusal.{Refusal}
+use Rattle.std.specs.Prelude.{Result}
 use Prim.Native.Nat.{ℕ}
 use mathlib.Core.Path.{◌≡◌, refl, sym, subst}
 use mathlib.Core.Logic.{◌↔◌, inl, inr}
@@ -22,7 +24,6 @@ use Rattle.equations.specs.Routed.{Routed}
 use Rattle.equations.specs.Sources.{contended_wire}
 use Rattle.equations.proofs.SourceLaws.{contended_exact}
 use Rattle.drivers.proofs.FollowingLaws.{driven_exact}
-use Rattle.block.specs.declared.Followed.{Followed}
 use Rattle.block.specs.Lengths.{follow_lent, follow_exact, FollowLong}
 use Rattle.block.specs.declared.lengths.FollowLent.{FollowLent}
 use Rattle.block.specs.Building.{none}
@@ -37,7 +38,7 @@ module _ (B : Block) (t st : List ℕ) (tile port : ℕ) (wires sources marks : 
   abbrev lent : FollowLent
   lent = follow_lent t st wires sources marks
 
-  abbrev Says : Followed → Type 0
+  abbrev Says : Result Driver Refusal → Type 0
   Says = FollowSays B t st tile port lent
 
   -- grounds 5 and 20, and where following ends
@@ -89,5 +90,5 @@ module _ (B : Block) (t st : List ℕ) (tile port : ℕ) (wires sources marks : 
       long = follow_long_exact B lent
 
   -- the same of what `follow` promises to answer
-  pub follow_says : (r : Followed) → r ≡ follow_answer B t st tile port (follow_exact B lent) → Says r
+  pub follow_says : (r : Result Driver Refusal) → r ≡ follow_answer B t st tile port (follow_exact B lent) → Says r
   follow_says r e = subst Says (sym e) follow_means

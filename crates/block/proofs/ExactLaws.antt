@@ -1,4 +1,5 @@
 -- What an answer of `build` and of `follow` says fits one answer only. Main laws: `list_exact` (grounds 5 to 8), `build_exact_lem`, `follow_exact_lem`. Assumes nothing.
+use Rattle.std.specs.Prelude.{Result, Ok, Err}
 use Prim.Native.Nat.{ℕ, ◌*◌, ◌<◌, ◌≤◌}
 use mathlib.Core.Path.{◌≡◌, sym, ap, ◌∙◌}
 use mathlib.Core.Logic.{inl, inr, ⊎_elim}
@@ -34,10 +35,6 @@ use Rattle.drivers.specs.CarryReads.{carry_read_wire}
 use Rattle.drivers.proofs.CarryReadLaws.{carry_read_exact, carry_read_none_exact}
 use Rattle.drivers.proofs.ClockLaws.{clocked_exact, clocked_none_exact}
 use Rattle.drivers.proofs.FollowingLaws.{driven_exact, driven_unique}
-use Rattle.block.specs.declared.Built.{Built}
-use Rattle.block.specs.declared.Built.TheVariants.{Listed, Refused}
-use Rattle.block.specs.declared.Followed.{Followed}
-use Rattle.block.specs.declared.Followed.TheVariants as followed
 use Rattle.block.specs.declared.lengths.BuildLent.{BuildLent}
 use Rattle.block.specs.declared.lengths.FollowLent.{FollowLent}
 use Rattle.block.specs.Lengths.{build_exact, BuildLong, follow_lent, follow_exact, FollowLong}
@@ -76,15 +73,15 @@ module _ (B : Block) (t st : List ℕ) (ok : Routed B t st) where
         (λ l. l) (lt_or_le (loop_wire (graph B t st) (ports B)) (ports B))
 
   -- an answer that says so is the one that is computed
-  list_told : (r : Built) → ListSays B t st r → r ≡ list_answer B t st
-  list_told (Listed rows) (e, accepted) =
+  list_told : (r : Result ℕ Refusal) → ListSays B t st r → r ≡ list_answer B t st
+  list_told (Ok rows) (e, accepted) =
       let free = accepted.no_contention in
       let straight = accepted.no_loop in
       list_listed B t st (free_place free) (unread_place free accepted.no_carry) (straight_place free straight) (tiles B)
       (sym ((clocked_none_exact B t st ok free straight).0 accepted.no_clock)) (omega arith) rows e
-  list_told (Refused refusal) says = told says
+  list_told (Err refusal) says = told says
     where
-      told : {r : Refusal} → ListNo B t st r → Refused r ≡ list_answer B t st
+      told : {r : Refusal} → ListNo B t st r → Err r ≡ list_answer B t st
       told (contention w low) = let e = (contended_exact B t st ok w).0 low in list_contended B t st w (sym e.1) e.0
       told (disabled_carry w free low) =
           let e = (carry_read_exact B t st ok free w).0 low in list_carry B t st (free_place free) w (sym e.1) e.0
@@ -95,13 +92,13 @@ module _ (B : Block) (t st : List ℕ) (ok : Routed B t st) where
           let e = (clocked_exact B t st ok free straight T).0 low in
           list_clocked B t st (free_place free) (unread_place free unread) (straight_place free straight) T (sym e.1) e.0
 
-  pub list_exact : (r q : Built) → ListSays B t st r → ListSays B t st q → r ≡ q
+  pub list_exact : (r q : Result ℕ Refusal) → ListSays B t st r → ListSays B t st q → r ≡ q
   list_exact r q x y = list_told r x ∙ sym (list_told q y)
 
 -- ---- building
 
 module _ (B : Block) (t bits : List ℕ) (lent : BuildLent) where
-  abbrev built : Built
+  abbrev built : Result ℕ Refusal
   built = build_answer B t (tiles_of bits) (build_exact B lent)
 
   -- grounds 1 and 2 are not given
@@ -109,14 +106,14 @@ module _ (B : Block) (t bits : List ℕ) (lent : BuildLent) where
   lent_built size long = build_bits B t bits (build_exact B lent) (sized_true B size) ((build_long_exact B lent).1 long)
 
   -- nor 3 and 4
-  read_built : Readable B t bits lent → (r : Built) → ListSays B t (decoded t (tiles_of bits) (tiles B)) r → r ≡ built
+  read_built : Readable B t bits lent → (r : Result ℕ Refusal) → ListSays B t (decoded t (tiles_of bits) (tiles B)) r → r ≡ built
   read_built read r says =
       let clean : logic_tile.positions * tiles B ≤ fault_place t (tiles_of bits) (tiles B) =
       let e = decodable_no_fault t bits read.rules (tiles B) read.tiles_read_lem.decodable in omega (arith, e) in
       list_told B t (decoded t (tiles_of bits) (tiles B)) (routed_of_read B t bits read.size read.rules clean) r says
       ∙ bits_list B t bits (rules_pass t read.rules) clean ∙ lent_built read.size read.lengths
 
-  no_built : {refusal : Refusal} → BuildNo B t bits lent refusal → Refused refusal ≡ built
+  no_built : {refusal : Refusal} → BuildNo B t bits lent refusal → Err refusal ≡ built
   no_built (wrong_size none) = build_size B t bits (build_exact B lent) (test_false (sized B) (sized_exact B).0 none)
   no_built (wrong_length size none) =
       build_length B t bits (build_exact B lent) (sized_true B size) (test_false (build_exact B lent) (build_long_exact B lent).0 none)
@@ -126,14 +123,14 @@ module _ (B : Block) (t bits : List ℕ) (lent : BuildLent) where
   no_built (undecodable place size long rules low) =
       let e = (fault_place_exact t bits rules (tiles B) place).0 low in
       bits_undecodable B t bits (rules_pass t rules) place e.0 e.1 ∙ lent_built size long
-  no_built (unlisted refusal read says) = read_built read (Refused refusal) says
+  no_built (unlisted refusal read says) = read_built read (Err refusal) says
 
-  says_built : (r : Built) → BuildSays B t bits lent r → r ≡ built
-  says_built (Listed rows) x = read_built x.0 (Listed rows) (x.1, x.2)
-  says_built (Refused refusal) says = no_built says
+  says_built : (r : Result ℕ Refusal) → BuildSays B t bits lent r → r ≡ built
+  says_built (Ok rows) x = read_built x.0 (Ok rows) (x.1, x.2)
+  says_built (Err refusal) says = no_built says
 
   -- one answer only
-  pub build_exact_lem : (r q : Built) → BuildSays B t bits lent r → BuildSays B t bits lent q → r ≡ q
+  pub build_exact_lem : (r q : Result ℕ Refusal) → BuildSays B t bits lent r → BuildSays B t bits lent q → r ≡ q
   build_exact_lem r q x y = says_built r x ∙ sym (says_built q y)
 
 -- ---- following
@@ -142,7 +139,7 @@ module _ (B : Block) (t st : List ℕ) (tile port : ℕ) (wires sources marks : 
   abbrev room : FollowLent
   room = follow_lent t st wires sources marks
 
-  abbrev told : Followed
+  abbrev told : Result Driver Refusal
   told = follow_answer B t st tile port (follow_exact B room)
 
   -- grounds 1 and 2 are not given
@@ -160,12 +157,12 @@ module _ (B : Block) (t st : List ℕ) (tile port : ℕ) (wires sources marks : 
     port_told : port_answer B t st tile port ≡ told
     port_told = settings_port B t st tile port (rules_pass t can.rules) clean ∙ lent_told can.size can.lengths
 
-    out_told : (number : ℕ) → NoContention B t st → OutOfBlock B tile port number → followed.Refused (OutOfRange number) ≡ port_answer B t st tile port
-    out_told number free (inl (over, e)) = ap (λ (n : ℕ). followed.Refused (OutOfRange n)) e ∙ port_no_tile B t st tile port (free_place B t st routed free) over
+    out_told : (number : ℕ) → NoContention B t st → OutOfBlock B tile port number → Err (OutOfRange number) ≡ port_answer B t st tile port
+    out_told number free (inl (over, e)) = ap (λ (n : ℕ). Err (OutOfRange n)) e ∙ port_no_tile B t st tile port (free_place B t st routed free) over
     out_told number free (inr (l, over, e)) =
-        ap (λ (n : ℕ). followed.Refused (OutOfRange n)) e ∙ port_no_port B t st tile port (free_place B t st routed free) l over
+        ap (λ (n : ℕ). Err (OutOfRange n)) e ∙ port_no_port B t st tile port (free_place B t st routed free) l over
 
-  no_followed : {refusal : Refusal} → FollowNo B t st tile port room refusal → followed.Refused refusal ≡ told
+  no_followed : {refusal : Refusal} → FollowNo B t st tile port room refusal → Err refusal ≡ told
   no_followed (following.wrong_size none) = follow_size B t st tile port (follow_exact B room) (test_false (sized B) (sized_exact B).0 none)
   no_followed (following.wrong_length size none) =
       follow_length B t st tile port (follow_exact B room) (sized_true B size) (test_false (follow_exact B room) (follow_long_exact B room).0 none)
@@ -179,16 +176,16 @@ module _ (B : Block) (t st : List ℕ) (tile port : ℕ) (wires sources marks : 
       let e = (contended_exact B t st (routed can) x).0 low in port_contended B t st tile port x (sym e.1) e.0 ∙ port_told can
   no_followed (following.out_of_range number can free out) = out_told can number free out ∙ port_told can
 
-  says_followed : (r : Followed) → FollowSays B t st tile port room r → r ≡ told
-  says_followed (followed.Driven driver) (can, to) =
+  says_followed : (r : Result Driver Refusal) → FollowSays B t st tile port room r → r ≡ told
+  says_followed (Ok driver) (can, to) =
       let free = to.no_contention in
       let l = port_of_lt B tile port to.tile_within to.port_within in
-      ap followed.Driven (driven_unique B t st (routed can) free to.driven
+      ap Ok (driven_unique B t st (routed can) free to.driven
       (driven_exact B t st (routed can) free (wire B tile port) (wire_within B _ l) (wire_idempotent B _ l)))
       ∙ port_driven B t st tile port (free_place B t st (routed can) free) to.tile_within to.port_within ∙ port_told can
-  says_followed (followed.Refused refusal) says = no_followed says
+  says_followed (Err refusal) says = no_followed says
 
   -- one answer only
-  pub follow_exact_lem : (r q : Followed) → FollowSays B t st tile port (follow_lent t st wires sources marks) r
+  pub follow_exact_lem : (r q : Result Driver Refusal) → FollowSays B t st tile port (follow_lent t st wires sources marks) r
       → FollowSays B t st tile port (follow_lent t st wires sources marks) q → r ≡ q
   follow_exact_lem r q x y = says_followed r x ∙ sym (says_followed q y)

@@ -1,5 +1,6 @@
 -- What `build` answers and writes ("building [checks] 1 to 8 [..] in these orders").
-use Rattle.std.specs.Prelude.{ℕ, ◌*◌, Bool, List, leb}
+use Rattle.refusal.specs.declared.Refusal.{Refusal}
+use Rattle.std.specs.Prelude.{ℕ, ◌*◌, Bool, List, leb, Result, Ok, Err}
 use Rattle.refusal.specs.Grounds.{unless, number_of, place_of}
 use Rattle.refusal.specs.declared.Refusal.TheVariants.{WrongSize, WrongLength, Table, Undecodable, Contention, DisabledCarry, Loop, CellClock}
 use Rattle.ports.specs.declared.size.Block.{Block}
@@ -16,38 +17,27 @@ use Rattle.equations.specs.WireRows.{wire_rows}
 use Rattle.equations.specs.Sources.{contended_wire, sources_of}
 use Rattle.drivers.specs.CarryReads.{carry_read_wire}
 use Rattle.drivers.specs.Clocks.{clocked_tile}
-use Rattle.block.specs.declared.Built.{Built}
-use Rattle.block.specs.declared.Built.TheVariants.{Listed, Refused}
-
--- the paper's number of an answer, 0 for a yes, and what comes with it: "The answer has the row count"
-abbrev pub built_number : Built → ℕ
-built_number (Listed rows) = 0
-built_number (Refused refusal) = number_of refusal
-
-abbrev pub built_value : Built → ℕ
-built_value (Listed rows) = rows
-built_value (Refused refusal) = place_of refusal
 
 -- a check whose search ran over n places and stopped at `place`: it passes where there is no such place
 abbrev pub none : ℕ → ℕ → Bool
 none n place = leb n place
 
 -- grounds 5 to 8, of settings that were read; "the row count, which is the number of wires"
-unfoldable pub list_answer : Block → List ℕ → List ℕ → Built
+unfoldable pub list_answer : Block → List ℕ → List ℕ → Result ℕ Refusal
 list_answer B t st =
-    unless (none (ports B) (contended_wire B t st)) (Refused (Contention (contended_wire B t st)))
-    (unless (none (ports B) (carry_read_wire B t st)) (Refused (DisabledCarry (carry_read_wire B t st)))
-    (unless (none (ports B) (loop_wire (graph_of (wire_rows B t st)) (ports B))) (Refused (Loop (loop_wire (graph_of (wire_rows B t st)) (ports B))))
-    (unless (none (tiles B) (clocked_tile B st (sources_of B t st))) (Refused (CellClock (clocked_tile B st (sources_of B t st))))
-    (Listed (wires B)))))
+    unless (none (ports B) (contended_wire B t st)) (Err (Contention (contended_wire B t st)))
+    (unless (none (ports B) (carry_read_wire B t st)) (Err (DisabledCarry (carry_read_wire B t st)))
+    (unless (none (ports B) (loop_wire (graph_of (wire_rows B t st)) (ports B))) (Err (Loop (loop_wire (graph_of (wire_rows B t st)) (ports B))))
+    (unless (none (tiles B) (clocked_tile B st (sources_of B t st))) (Err (CellClock (clocked_tile B st (sources_of B t st))))
+    (Ok (wires B)))))
 
 -- grounds 3 to 8
-unfoldable pub bits_answer : Block → List ℕ → (ℕ → TileBits) → Built
+unfoldable pub bits_answer : Block → List ℕ → (ℕ → TileBits) → Result ℕ Refusal
 bits_answer B t tile =
-    unless (table_ok logic_tile t) (Refused (Table (faulty_part logic_tile t)))
-    (unless (none (logic_tile.positions * tiles B) (fault_place t tile (tiles B))) (Refused (Undecodable (fault_place t tile (tiles B))))
+    unless (table_ok logic_tile t) (Err (Table (faulty_part logic_tile t)))
+    (unless (none (logic_tile.positions * tiles B) (fault_place t tile (tiles B))) (Err (Undecodable (fault_place t tile (tiles B))))
     (list_answer B t (decoded t tile (tiles B))))
 
 -- grounds 1 to 8; `lengths` is whether every lent length is the exact one
-unfoldable pub build_answer : Block → List ℕ → (ℕ → TileBits) → Bool → Built
-build_answer B t tile lengths = unless (sized B) (Refused WrongSize) (unless lengths (Refused WrongLength) (bits_answer B t tile))
+unfoldable pub build_answer : Block → List ℕ → (ℕ → TileBits) → Bool → Result ℕ Refusal
+build_answer B t tile lengths = unless (sized B) (Err WrongSize) (unless lengths (Err WrongLength) (bits_answer B t tile))

@@ -1,5 +1,5 @@
 -- What the answers of `follow` say, in the paper's words. proofs/DriverMeaningLaws.antt shows it of every answer.
-use Rattle.std.specs.Prelude.{ℕ, ◌<◌, ◌≤◌, ◌≡◌, ◌⊎◌, List}
+use Rattle.std.specs.Prelude.{ℕ, ◌<◌, ◌≤◌, ◌≡◌, ◌⊎◌, List, Result, Ok, Err}
 use Rattle.refusal.specs.declared.Refusal.{Refusal}
 use Rattle.refusal.specs.declared.Refusal.TheVariants.{WrongSize, WrongLength, Table, Contention, NoSuchSettings, OutOfRange}
 use Rattle.ports.specs.declared.size.Block.{Block}
@@ -14,8 +14,6 @@ use Rattle.equations.specs.Switches.{NoContention, LowestContention}
 use Rattle.equations.specs.Equations.{wire}
 use Rattle.drivers.specs.declared.follow.Driver.{Driver}
 use Rattle.drivers.specs.Following.{DrivenBy}
-use Rattle.block.specs.declared.Followed.{Followed}
-use Rattle.block.specs.declared.Followed.TheVariants.{Driven, Refused}
 use Rattle.block.specs.declared.lengths.FollowLent.{FollowLent}
 use Rattle.block.specs.Lengths.{FollowLong}
 
@@ -49,6 +47,6 @@ module _ (B : Block) (t st : List ℕ) (tile port : ℕ) (lent : FollowLent) whe
     out_of_range : (number : ℕ) → Followable → NoContention B t st → OutOfBlock B tile port number → FollowNo (OutOfRange number)
 
   -- what an answer of following says
-  abbrev pub FollowSays : Followed → Type 0
-  FollowSays (Driven driver) = Followable × FollowedTo B t st tile port driver
-  FollowSays (Refused refusal) = FollowNo refusal
+  abbrev pub FollowSays : Result Driver Refusal → Type 0
+  FollowSays (Ok driver) = Followable × FollowedTo B t st tile port driver
+  FollowSays (Err refusal) = FollowNo refusal

@@ -6,7 +6,6 @@ ghost use Rattle.routing.specs.LogicTile.{logic_tile};
 ghost use Rattle.equations.specs.Routed.{Routed};
 ghost use Rattle.block.specs.Drivers.{port_answer, settings_answer};
 
-use crate::Followed;
 use ports::lengths::PORTS_PER_TILE;
 use ports::size::Block;
 use refusal::Refusal;
@@ -21,7 +20,7 @@ fn follow_port(
     wires: &mut [u16],
     sources: &mut [u16],
     marks: &mut [u16],
-) -> Followed
+) -> Result<Driver, Refusal>
     requires { Routed b table.now st.now × (length wires.old ≡ ports b) × (length sources.old ≡ ports b) ×
         (length marks.old ≡ ports b) }
     ensures { result ≡ port_answer b table.now st.now tile port }
@@ -31,17 +30,17 @@ fn follow_port(
     wiring::fill_wires(b, wires);
     let contended = drivers::sources::find_sources(b, table, st, wires, sources);
     if contended < ports {
-        return Followed::Refused(Refusal::Contention(contended as u32));
+        return Err(Refusal::Contention(contended as u32));
     }
     if n <= tile {
-        return Followed::Refused(Refusal::OutOfRange(tile));
+        return Err(Refusal::OutOfRange(tile));
     }
     if PORTS_PER_TILE <= port {
-        return Followed::Refused(Refusal::OutOfRange(port));
+        return Err(Refusal::OutOfRange(port));
     }
     let at = (PORTS_PER_TILE * tile + port) as usize;
     let wire = wires[at];
-    Followed::Driven(drivers::follow::driver_of(b, sources, wire as usize, marks))
+    Ok(drivers::follow::driver_of(b, sources, wire as usize, marks))
 }
 
 // Grounds 3, 9, 5 and 20, and where following ends.
@@ -54,7 +53,7 @@ pub fn follow_settings(
     wires: &mut [u16],
     sources: &mut [u16],
     marks: &mut [u16],
-) -> Followed
+) -> Result<Driver, Refusal>
     requires sized { Sized b × (length table.now ≡ table_length) × (length st.now ≡ settings_length * tiles b) }
     requires wires_len { (length wires.old ≡ ports b) × (length sources.old ≡ ports b) × (length marks.old ≡ ports b) }
     ensures { result ≡ settings_answer b table.now st.now tile port }
@@ -63,11 +62,11 @@ pub fn follow_settings(
     let part = routing::rules::faulty_part(table);
     let parts = 2 + routing::table::group_count(table);
     if part != parts {
-        return Followed::Refused(Refusal::Table(part as u32));
+        return Err(Refusal::Table(part as u32));
     }
     let bitless = config::blocks::bitless_tile(table, st, n);
     if bitless < n {
-        return Followed::Refused(Refusal::NoSuchSettings(bitless as u32));
+        return Err(Refusal::NoSuchSettings(bitless as u32));
     }
     follow_port(b, table, st, tile, port, wires, sources, marks)
 }

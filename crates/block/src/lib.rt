@@ -4,14 +4,15 @@
 // orders, specs/Meaning.antt and specs/DriverMeaning.antt what each answer says in the paper's words.
 #![tactic(auto)]
 
+ghost use Rattle.refusal.specs.Grounds.{answer_number};
 ghost use Rattle.std.specs.Prelude.{◌≡◌, length};
 ghost use Rattle.refusal.specs.Memory.{output, work_room};
 ghost use Rattle.ports.specs.Block.{tiles};
 ghost use Rattle.config.specs.Blocks.{decoded, tiles_of};
 ghost use Rattle.equations.specs.Settling.{block_list};
 ghost use Rattle.block.specs.Lengths.{room_lent, build_lent, build_exact, follow_lent, follow_exact};
-ghost use Rattle.block.specs.Building.{built_number, build_answer};
-ghost use Rattle.block.specs.Drivers.{followed_number, follow_answer};
+ghost use Rattle.block.specs.Building.{build_answer};
+ghost use Rattle.block.specs.Drivers.{follow_answer};
 ghost use Rattle.block.specs.Meaning.{BuildSays};
 ghost use Rattle.block.specs.DriverMeaning.{FollowSays};
 
@@ -23,20 +24,6 @@ use refusal::Refusal;
 mod driver;
 pub mod lengths;
 mod list;
-
-// So many rows, or why there is no list.
-#[derive(Clone, Copy)]
-pub enum Built {
-    Listed(u32),
-    Refused(Refusal),
-}
-
-// Where following ends, or why that is not said.
-#[derive(Clone, Copy)]
-pub enum Followed {
-    Driven(Driver),
-    Refused(Refusal),
-}
 
 // The list of a block's rows, in order, from its bits. Grounds 1 to 8, in this order (`build_answer`). The work room is what follows
 // the list: settings, wires, sources, rows, marks and queue.
@@ -52,26 +39,26 @@ pub fn build(
     rows: &mut [u16],
     marks: &mut [u16],
     queue: &mut [u16],
-) -> Built
+) -> Result<u32, Refusal>
     ensures answer { result ≡ build_answer b table.now (tiles_of bits.now)
         (build_exact b (build_lent table.now bits.now settings.old
         (room_lent list.old wires.old sources.old rows.old marks.old
         queue.old))) }
-    ensures list { list.new ≡ output (built_number result) list.old
+    ensures list { list.new ≡ output (answer_number result) list.old
         (block_list b table.now (decoded table.now (tiles_of bits.now) (tiles b))) }
-    ensures settings { settings.new ≡ work_room (built_number result) settings.old }
-    ensures wires { wires.new ≡ work_room (built_number result) wires.old }
-    ensures sources { sources.new ≡ work_room (built_number result) sources.old }
-    ensures rows { rows.new ≡ work_room (built_number result) rows.old }
-    ensures marks { marks.new ≡ work_room (built_number result) marks.old }
-    ensures queue { queue.new ≡ work_room (built_number result) queue.old }
+    ensures settings { settings.new ≡ work_room (answer_number result) settings.old }
+    ensures wires { wires.new ≡ work_room (answer_number result) wires.old }
+    ensures sources { sources.new ≡ work_room (answer_number result) sources.old }
+    ensures rows { rows.new ≡ work_room (answer_number result) rows.old }
+    ensures marks { marks.new ≡ work_room (answer_number result) marks.old }
+    ensures queue { queue.new ≡ work_room (answer_number result) queue.old }
     ensures says { BuildSays b table.now bits.now
         (build_lent table.now bits.now settings.old
         (room_lent list.old wires.old sources.old rows.old marks.old
         queue.old)) result }
 {
     if !ports::size::is_sized(b) {
-        return Built::Refused(Refusal::WrongSize);
+        return Err(Refusal::WrongSize);
     }
     let room = RoomLent {
         list: list.len(),
@@ -88,7 +75,7 @@ pub fn build(
         room: room,
     };
     if !is_build_exact(b, lent) {
-        return Built::Refused(Refusal::WrongLength);
+        return Err(Refusal::WrongLength);
     }
     let r = list::list_bits(
         b, table, bits, list, settings, wires, sources, rows, marks, queue,
@@ -114,19 +101,19 @@ pub fn follow(
     wires: &mut [u16],
     sources: &mut [u16],
     marks: &mut [u16],
-) -> Followed
+) -> Result<Driver, Refusal>
     ensures answer { result ≡ follow_answer b table.now settings.now tile port
         (follow_exact b (follow_lent table.now settings.now wires.old sources.old
         marks.old)) }
-    ensures wires { wires.new ≡ work_room (followed_number result) wires.old }
-    ensures sources { sources.new ≡ work_room (followed_number result) sources.old }
-    ensures marks { marks.new ≡ work_room (followed_number result) marks.old }
+    ensures wires { wires.new ≡ work_room (answer_number result) wires.old }
+    ensures sources { sources.new ≡ work_room (answer_number result) sources.old }
+    ensures marks { marks.new ≡ work_room (answer_number result) marks.old }
     ensures says { FollowSays b table.now settings.now tile port
         (follow_lent table.now settings.now wires.old sources.old marks.old)
         result }
 {
     if !ports::size::is_sized(b) {
-        return Followed::Refused(Refusal::WrongSize);
+        return Err(Refusal::WrongSize);
     }
     let lent = FollowLent {
         table: table.len(),
@@ -136,7 +123,7 @@ pub fn follow(
         marks: marks.len(),
     };
     if !is_follow_exact(b, lent) {
-        return Followed::Refused(Refusal::WrongLength);
+        return Err(Refusal::WrongLength);
     }
     let r = driver::follow_settings(b, table, settings, tile, port, wires, sources, marks);
     lists::clear(wires);

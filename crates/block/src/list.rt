@@ -1,4 +1,5 @@
 // The checks of building once the lengths are exact, in their order, and the list, which is written after every check.
+ghost use Rattle.refusal.specs.Grounds.{answer_number};
 ghost use Rattle.std.specs.Prelude.{◌≡◌, ◌*◌, ◌≤◌, length};
 ghost use Rattle.refusal.specs.Memory.{output};
 ghost use Rattle.ports.specs.Block.{Sized, tiles};
@@ -12,9 +13,8 @@ ghost use Rattle.equations.specs.WireRows.{wire_rows};
 ghost use Rattle.equations.specs.Settling.{block_list};
 ghost use Rattle.drivers.specs.CarryReads.{carry_read_wire};
 ghost use Rattle.block.specs.Lengths.{room_lent, build_lent, RoomLong, BuildLong};
-ghost use Rattle.block.specs.Building.{built_number, list_answer, bits_answer};
+ghost use Rattle.block.specs.Building.{list_answer, bits_answer};
 
-use crate::Built;
 use ports::lengths::POSITIONS;
 use ports::size::Block;
 use refusal::Refusal;
@@ -32,26 +32,26 @@ fn list_rows(
     list: &mut [u16],
     marks: &mut [u16],
     queue: &mut [u16],
-) -> Built
+) -> Result<u32, Refusal>
     requires routed { Routed b table.now st.now × (ports b ≤ contended_wire b table.now st.now) ×
         (ports b ≤ carry_read_wire b table.now st.now) }
     requires wires_value { (wires.now ≡ wires_of b) × (sources.old ≡ sources_of b table.now st.now) × (rows.now ≡ wire_rows b table.now st.now) }
     requires room_long { RoomLong b (room_lent list.old wires.now sources.old rows.now marks.old queue.old) }
     ensures answer { result ≡ list_answer b table.now st.now }
-    ensures list { list.new ≡ output (built_number result) list.old (block_list b table.now st.now) }
+    ensures list { list.new ≡ output (answer_number result) list.old (block_list b table.now st.now) }
 {
     let n = wires.len();
     let tiles = (b.h * b.w) as usize;
     let clocked = drivers::clocks::clocked_tile(b, st, wires, sources, marks);
     let s = scheduling::schedule::schedule(rows, marks, queue, sources);
     match s {
-        Scheduled::Loop(wire) => Built::Refused(Refusal::Loop(wire as u32)),
+        Scheduled::Loop(wire) => Err(Refusal::Loop(wire as u32)),
         Scheduled::Listed(count) => {
             if clocked < tiles {
-                return Built::Refused(Refusal::CellClock(clocked as u32));
+                return Err(Refusal::CellClock(clocked as u32));
             }
             scheduling::schedule::write_list(rows, queue, count, n, list);
-            Built::Listed(count as u32)
+            Ok(count as u32)
         }
     }
 }
@@ -67,18 +67,18 @@ fn list_sources(
     rows: &mut [u16],
     marks: &mut [u16],
     queue: &mut [u16],
-) -> Built
+) -> Result<u32, Refusal>
     requires routed { Routed b table.now st.now × (ports b ≤ contended_wire b table.now st.now) }
     requires wires_value { (wires.now ≡ wires_of b) × (sources.old ≡ sources_of b table.now st.now) }
     requires room_long { RoomLong b (room_lent list.old wires.now sources.old rows.old marks.old queue.old) }
     ensures answer { result ≡ list_answer b table.now st.now }
-    ensures list { list.new ≡ output (built_number result) list.old (block_list b table.now st.now) }
+    ensures list { list.new ≡ output (answer_number result) list.old (block_list b table.now st.now) }
 {
     let n = wires.len();
     equations::rows::write_rows(b, st, wires, sources, rows);
     let carry = drivers::carry::carry_read_wire(b, table, st, rows);
     if carry < n {
-        return Built::Refused(Refusal::DisabledCarry(carry as u32));
+        return Err(Refusal::DisabledCarry(carry as u32));
     }
     list_rows(b, table, st, wires, sources, rows, list, marks, queue)
 }
@@ -94,17 +94,17 @@ pub fn list_settings(
     rows: &mut [u16],
     marks: &mut [u16],
     queue: &mut [u16],
-) -> Built
+) -> Result<u32, Refusal>
     requires routed { Routed b table.now st.now }
     requires room_long { RoomLong b (room_lent list.old wires.old sources.old rows.old marks.old queue.old) }
     ensures answer { result ≡ list_answer b table.now st.now }
-    ensures list { list.new ≡ output (built_number result) list.old (block_list b table.now st.now) }
+    ensures list { list.new ≡ output (answer_number result) list.old (block_list b table.now st.now) }
 {
     let n = wires.len();
     wiring::fill_wires(b, wires);
     let contended = drivers::sources::find_sources(b, table, st, wires, sources);
     if contended < n {
-        return Built::Refused(Refusal::Contention(contended as u32));
+        return Err(Refusal::Contention(contended as u32));
     }
     list_sources(b, table, st, wires, sources, list, rows, marks, queue)
 }
@@ -121,12 +121,12 @@ pub fn list_bits(
     rows: &mut [u16],
     marks: &mut [u16],
     queue: &mut [u16],
-) -> Built
+) -> Result<u32, Refusal>
     requires sized { Sized b }
     requires build_long { BuildLong b (build_lent table.now bits.now settings.old
         (room_lent list.old wires.old sources.old rows.old marks.old queue.old)) }
     ensures answer { result ≡ bits_answer b table.now (tiles_of bits.now) }
-    ensures list { list.new ≡ output (built_number result) list.old
+    ensures list { list.new ≡ output (answer_number result) list.old
         (block_list b table.now (decoded table.now (tiles_of bits.now) (tiles b))) }
 {
     let n = (b.h * b.w) as usize;
@@ -134,11 +134,11 @@ pub fn list_bits(
     let part = routing::rules::check_table(table, &mut own);
     let parts = 2 + routing::table::group_count(table);
     if part != parts {
-        return Built::Refused(Refusal::Table(part as u32));
+        return Err(Refusal::Table(part as u32));
     }
     let place = config::blocks::read_block(table, &own, bits, settings, n);
     if place < POSITIONS * n {
-        return Built::Refused(Refusal::Undecodable(place as u32));
+        return Err(Refusal::Undecodable(place as u32));
     }
     list_settings(b, table, settings, list, wires, sources, rows, marks, queue)
 }

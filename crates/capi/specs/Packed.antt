@@ -1,23 +1,12 @@
 -- An answer as one 64-bit number: the ground's number times 2 ^ 32 plus its place, or the value of a yes, whose number is 0.
-use Rattle.std.specs.Prelude.{ℕ, zero, suc, ◌+◌, ◌*◌, ◌/◌, ◌%◌, ◌^◌}
-use Rattle.refusal.specs.declared.Answer.{Answer}
-use Rattle.refusal.specs.declared.Answer.TheVariants as answer
-use Rattle.refusal.specs.Grounds.{number_of, place_of, answer_number, answer_value}
+use Rattle.refusal.specs.declared.Refusal.{Refusal}
+use Rattle.std.specs.Prelude.{ℕ, zero, suc, ◌+◌, ◌*◌, ◌/◌, ◌%◌, ◌^◌, Result, Ok, Err}
+use Rattle.refusal.specs.Grounds.{number_of, place_of, answer_number, answer_value, number_value}
 use Rattle.ports.specs.Lengths.{tile_numbers}
-use Rattle.compare.specs.declared.Compared.{Compared}
-use Rattle.compare.specs.Entry.{compared_number, compared_value}
 use Rattle.compare.specs.declared.part.Side.{Side}
 use Rattle.compare.specs.declared.part.Side.TheVariants.{First, Second}
 use Rattle.drivers.specs.declared.follow.Driver.{Driver}
-use Rattle.block.specs.declared.Built.{Built}
-use Rattle.block.specs.declared.Followed.{Followed}
-use Rattle.block.specs.declared.Followed.TheVariants.{Driven, Refused}
-use Rattle.block.specs.Building.{built_number, built_value}
-use Rattle.block.specs.Drivers.{followed_number, followed_value, driver_kind, driver_wire}
-use Rattle.contention.specs.declared.ContentionList.{ContentionList}
-use Rattle.contention.specs.Entry.{contentions_number, contentions_value}
-use Rattle.card.specs.declared.Carded.{Carded}
-use Rattle.card.specs.Entry.{carded_number, carded_value}
+use Rattle.block.specs.Drivers.{followed_value, driver_kind, driver_wire}
 
 -- number and value as one
 abbrev pub packed : ℕ → ℕ → ℕ
@@ -32,40 +21,40 @@ abbrev pub value_in : ℕ → ℕ
 value_in answer = answer % 2 ^ 32
 
 -- an answer without a value
-abbrev pub packed_answer : Answer → ℕ
+abbrev pub packed_answer : Result (Unit {0}) Refusal → ℕ
 packed_answer answer = packed (answer_number answer) (answer_value answer)
 
 -- the value of building is the row count
-abbrev pub packed_built : Built → ℕ
-packed_built answer = packed (built_number answer) (built_value answer)
+abbrev pub packed_number : Result ℕ Refusal → ℕ
+packed_number answer = packed (answer_number answer) (number_value answer)
 
 -- the value of the listing of contentions is the number of rows
-abbrev pub packed_contentions : ContentionList → ℕ
-packed_contentions answer = packed (contentions_number answer) (contentions_value answer)
+abbrev pub packed_number : Result ℕ Refusal → ℕ
+packed_number answer = packed (answer_number answer) (number_value answer)
 
 -- the value of a shelf card is how many numbers it has
-abbrev pub packed_carded : Carded → ℕ
-packed_carded answer = packed (carded_number answer) (carded_value answer)
+abbrev pub packed_number : Result ℕ Refusal → ℕ
+packed_number answer = packed (answer_number answer) (number_value answer)
 
 -- the value of following is 65,536 times 1 open, 2 zero, 3 one, 4 cell, 5 ring, plus the wire
 abbrev pub driver_code : Driver → ℕ
 driver_code driver = driver_kind driver * 2 ^ 16 + driver_wire driver
 
-abbrev pub followed_code : Followed → ℕ
-followed_code (Driven driver) = driver_code driver
-followed_code (Refused refusal) = followed_value (Refused refusal)
+abbrev pub followed_code : Result Driver Refusal → ℕ
+followed_code (Ok driver) = driver_code driver
+followed_code (Err refusal) = followed_value (Err refusal)
 
-abbrev pub packed_followed : Followed → ℕ
-packed_followed answer = packed (followed_number answer) (followed_code answer)
+abbrev pub packed_followed : Result Driver Refusal → ℕ
+packed_followed answer = packed (answer_number answer) (followed_code answer)
 
 -- the value of comparing is the number of rows
-abbrev pub packed_compared : Compared → ℕ
-packed_compared answer = packed (compared_number answer) (compared_value answer)
+abbrev pub packed_number : Result ℕ Refusal → ℕ
+packed_number answer = packed (answer_number answer) (number_value answer)
 
 -- the value of asking for a tile is the index of the tile's first number in its block
-abbrev pub packed_part : Answer → ℕ → ℕ
-packed_part answer.Done tile = packed 0 (tile_numbers * tile)
-packed_part (answer.Refused refusal) tile = packed (number_of refusal) (place_of refusal)
+abbrev pub packed_part : Result (Unit {0}) Refusal → ℕ → ℕ
+packed_part (Ok _) tile = packed 0 (tile_numbers * tile)
+packed_part (Err refusal) tile = packed (number_of refusal) (place_of refusal)
 
 -- which of two blocks a number asks for: "0 the first, any other the second"
 abbrev pub side_of : ℕ → Side

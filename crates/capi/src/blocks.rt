@@ -1,14 +1,13 @@
 // Reading, writing and counting the bits of a block.
 ghost use Rattle.std.specs.Prelude.{◌≡◌, length};
-ghost use Rattle.refusal.specs.Grounds.{answer_number, answer_value};
+ghost use Rattle.refusal.specs.Grounds.{answer_number, answer_value, number_value};
 ghost use Rattle.refusal.specs.Memory.{output};
 ghost use Rattle.ports.specs.Block.{size, tile_count};
 ghost use Rattle.config.specs.Blocks.{decoded, encoded, tiles_of};
-ghost use Rattle.config.specs.Entry.{read_answer, write_answer, bit_count_answer, bit_count_number, bit_count_value};
+ghost use Rattle.config.specs.Entry.{read_answer, write_answer, bit_count_answer};
 ghost use Rattle.capi.specs.Packed.{packed, ground_in};
 
 use crate::pack;
-use config::BitCount;
 use ports::size::Size;
 
 // Reads a block's bits to its settings. Grounds 1, 2, 3, 4.
@@ -37,11 +36,11 @@ pub fn ice40_write(w: u32, h: u32, table: &[u16], settings: &[u16], bits: &mut [
 
 // How many of a tile's bits are set. Grounds 1, 2, 20.
 pub fn ice40_bit_count(w: u32, h: u32, bits: &[u64], tile: u32) -> u64
-    ensures { result ≡ packed (bit_count_number (bit_count_answer (size w h) bits.now tile))
-        (bit_count_value (bit_count_answer (size w h) bits.now tile)) }
+    ensures { result ≡ packed (answer_number (bit_count_answer (size w h) bits.now tile))
+        (number_value (bit_count_answer (size w h) bits.now tile)) }
 {
     match config::bit_count(Size { w, h }, bits, tile) {
-        BitCount::Set(n) => pack::pack(0, n),
-        BitCount::Refused(r) => pack::pack_no(r),
+        Ok(n) => pack::pack(0, n),
+        Err(r) => pack::pack_no(r),
     }
 }

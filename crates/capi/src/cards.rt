@@ -1,13 +1,13 @@
 // The shelf card of a block (document 02, W14).
+ghost use Rattle.refusal.specs.Grounds.{answer_number};
 ghost use Rattle.std.specs.Prelude.{◌≡◌, length};
 ghost use Rattle.refusal.specs.Memory.{output, work_room};
 ghost use Rattle.ports.specs.Block.{block};
 ghost use Rattle.block.specs.Lengths.{room_lent, build_lent, build_exact};
-ghost use Rattle.card.specs.Entry.{carded_number, card_answer, card_after};
-ghost use Rattle.capi.specs.Packed.{ground_in, packed_carded};
+ghost use Rattle.card.specs.Entry.{card_answer, card_after};
+ghost use Rattle.capi.specs.Packed.{ground_in, packed_number};
 
 use crate::pack;
-use card::Carded;
 use ports::size::Block;
 
 // W, H, cells in use, flip-flops, leaving wires after their count, and the open wires that these or a flip-flop depend on after theirs, from a block's
@@ -27,7 +27,7 @@ pub fn ice40_card(
     marks: &mut [u16],
     queue: &mut [u16],
 ) -> u64
-    ensures answer { result ≡ packed_carded (card_answer (block w h east) table.now bits.now
+    ensures answer { result ≡ packed_number (card_answer (block w h east) table.now bits.now
         (build_exact (block w h east) (build_lent table.now bits.now settings.old
         (room_lent list.old wires.old sources.old rows.old marks.old
         queue.old))) (length card.old)) }
@@ -57,11 +57,11 @@ pub fn ice40_card(
     pack_carded(a)
 }
 
-fn pack_carded(answer: Carded) -> u64
-    ensures { (result ≡ packed_carded answer) × (ground_in result ≡ carded_number answer) }
+fn pack_carded(answer: Result<u32, Refusal>) -> u64
+    ensures { (result ≡ packed_number answer) × (ground_in result ≡ answer_number answer) }
 {
     match answer {
-        Carded::Numbers(n) => pack::pack(0, n),
-        Carded::Refused(refusal) => pack::pack_no(refusal),
+        Ok(n) => pack::pack(0, n),
+        Err(refusal) => pack::pack_no(refusal),
     }
 }

@@ -1,20 +1,20 @@
 // Building a block's list, following a driver, and a step.
+ghost use Rattle.refusal.specs.Grounds.{answer_number};
 ghost use Rattle.std.specs.Prelude.{◌≡◌};
 ghost use Rattle.refusal.specs.Memory.{output, work_room};
 ghost use Rattle.ports.specs.Block.{block, tiles};
 ghost use Rattle.config.specs.Blocks.{decoded, tiles_of};
 ghost use Rattle.equations.specs.Settling.{block_list};
 ghost use Rattle.block.specs.Lengths.{room_lent, build_lent, build_exact, follow_lent, follow_exact};
-ghost use Rattle.block.specs.Building.{built_number, build_answer};
-ghost use Rattle.block.specs.Drivers.{followed_number, follow_answer};
+ghost use Rattle.block.specs.Building.{build_answer};
+ghost use Rattle.block.specs.Drivers.{follow_answer};
 ghost use Rattle.stepper.specs.Settling.{settled_by, port_values};
 ghost use Rattle.stepper.specs.Clocking.{next_states};
 ghost use Rattle.sim.specs.Lengths.{inputs_lent, step_room_lent, step_lent, step_exact};
 ghost use Rattle.sim.specs.Stepping.{step_answer};
-ghost use Rattle.capi.specs.Packed.{ground_in, packed_answer, packed_built, driver_code, packed_followed};
+ghost use Rattle.capi.specs.Packed.{ground_in, packed_answer, packed_number, driver_code, packed_followed};
 
 use crate::pack;
-use block::{Built, Followed};
 use drivers::follow::Driver;
 use ports::size::Block;
 
@@ -33,7 +33,7 @@ pub fn ice40_build(
     marks: &mut [u16],
     queue: &mut [u16],
 ) -> u64
-    ensures answer { result ≡ packed_built (build_answer (block w h east) table.now (tiles_of bits.now)
+    ensures answer { result ≡ packed_number (build_answer (block w h east) table.now (tiles_of bits.now)
         (build_exact (block w h east) (build_lent table.now bits.now settings.old
         (room_lent list.old wires.old sources.old rows.old marks.old
         queue.old)))) }
@@ -152,21 +152,21 @@ pub fn ice40_step(
     pack::pack_answer(a)
 }
 
-fn pack_built(answer: Built) -> u64
-    ensures { (result ≡ packed_built answer) × (ground_in result ≡ built_number answer) }
+fn pack_built(answer: Result<u32, Refusal>) -> u64
+    ensures { (result ≡ packed_number answer) × (ground_in result ≡ answer_number answer) }
 {
     match answer {
-        Built::Listed(rows) => pack::pack(0, rows),
-        Built::Refused(refusal) => pack::pack_no(refusal),
+        Ok(rows) => pack::pack(0, rows),
+        Err(refusal) => pack::pack_no(refusal),
     }
 }
 
-fn pack_followed(answer: Followed) -> u64
-    ensures { (result ≡ packed_followed answer) × (ground_in result ≡ followed_number answer) }
+fn pack_followed(answer: Result<Driver, Refusal>) -> u64
+    ensures { (result ≡ packed_followed answer) × (ground_in result ≡ answer_number answer) }
 {
     match answer {
-        Followed::Driven(driver) => pack::pack(0, driver_code(driver)),
-        Followed::Refused(refusal) => pack::pack_no(refusal),
+        Ok(driver) => pack::pack(0, driver_code(driver)),
+        Err(refusal) => pack::pack_no(refusal),
     }
 }
 

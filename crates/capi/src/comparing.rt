@@ -1,18 +1,17 @@
 // Two blocks of one size compared, and one tile's bits out of either (document 02, W4). Calls on two blocks take w and h of each.
+ghost use Rattle.refusal.specs.Grounds.{answer_number};
 ghost use Rattle.std.specs.Prelude.{◌≡◌, length, take, drop};
 ghost use Rattle.refusal.specs.Memory.{output, work_room};
 ghost use Rattle.ports.specs.Block.{size};
 ghost use Rattle.ports.specs.Lengths.{tile_numbers};
 ghost use Rattle.config.specs.Blocks.{tiles_of};
 ghost use Rattle.compare.specs.Lengths.{compare_lent, compare_exact};
-ghost use Rattle.compare.specs.Entry.{compared_number, compare_answer, compared_list, part_answer, part_of, chosen};
-ghost use Rattle.capi.specs.Packed.{ground_in, value_in, packed_compared, packed_part, side_of};
+ghost use Rattle.compare.specs.Entry.{compare_answer, compared_list, part_answer, part_of, chosen};
+ghost use Rattle.capi.specs.Packed.{ground_in, value_in, packed_number, packed_part, side_of};
 
 use crate::pack;
-use compare::Compared;
 use ports::lengths::TILE_NUMBERS;
 use ports::size::Size;
-use refusal::Answer;
 
 // Every difference between two blocks, as rows of five numbers: tile, kind, index, old and new setting. Grounds 1, 14, 2, 3, 4, 15; the value is
 // the number of rows. The output is list, of any length; before and after are work room.
@@ -28,7 +27,7 @@ pub fn ice40_compare(
     before: &mut [u16],
     after: &mut [u16],
 ) -> u64
-    ensures answer { result ≡ packed_compared (compare_answer (size w1 h1) (size w2 h2) table.now (tiles_of first.now)
+    ensures answer { result ≡ packed_number (compare_answer (size w1 h1) (size w2 h2) table.now (tiles_of first.now)
         (tiles_of second.now) (compare_exact (size w1 h1) (compare_lent table.now first.now
         second.now before.old after.old)) (length list.old)) }
     ensures list { list.new ≡ output (ground_in result) list.old
@@ -50,12 +49,12 @@ pub fn ice40_compare(
     pack_compared(a)
 }
 
-fn pack_compared(answer: Compared) -> u64
-    ensures { (result ≡ packed_compared answer) × (ground_in result ≡ compared_number answer) }
+fn pack_compared(answer: Result<u32, Refusal>) -> u64
+    ensures { (result ≡ packed_number answer) × (ground_in result ≡ answer_number answer) }
 {
     match answer {
-        Compared::Rows(rows) => pack::pack(0, rows),
-        Compared::Refused(refusal) => pack::pack_no(refusal),
+        Ok(rows) => pack::pack(0, rows),
+        Err(refusal) => pack::pack_no(refusal),
     }
 }
 
@@ -85,7 +84,7 @@ pub fn ice40_tile_part(
         tile,
     );
     match a {
-        Answer::Done => pack::pack(0, TILE_NUMBERS as u32 * tile),
-        Answer::Refused(refusal) => pack::pack_no(refusal),
+        Ok(()) => pack::pack(0, TILE_NUMBERS as u32 * tile),
+        Err(refusal) => pack::pack_no(refusal),
     }
 }

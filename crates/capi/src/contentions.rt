@@ -1,13 +1,13 @@
 // Every contention of a block (document 02, W6).
+ghost use Rattle.refusal.specs.Grounds.{answer_number};
 ghost use Rattle.std.specs.Prelude.{◌≡◌, length};
 ghost use Rattle.refusal.specs.Memory.{output, work_room};
 ghost use Rattle.ports.specs.Block.{block};
 ghost use Rattle.contention.specs.Lengths.{contention_lent, contention_exact};
-ghost use Rattle.contention.specs.Entry.{contentions_number, contentions_answer, contentions_list};
-ghost use Rattle.capi.specs.Packed.{ground_in, packed_contentions};
+ghost use Rattle.contention.specs.Entry.{contentions_answer, contentions_list};
+ghost use Rattle.capi.specs.Packed.{ground_in, packed_number};
 
 use crate::pack;
-use contention::ContentionList;
 use ports::size::Block;
 
 // A row of wire, tile and group for each enabled switch on a wire with two or more, from a block's bits. Grounds 1 to 4, then 15; the value is the
@@ -24,7 +24,7 @@ pub fn ice40_contentions(
     heads: &mut [u16],
     nexts: &mut [u16],
 ) -> u64
-    ensures answer { result ≡ packed_contentions (contentions_answer (block w h east) table.now bits.now
+    ensures answer { result ≡ packed_number (contentions_answer (block w h east) table.now bits.now
         (contention_exact (block w h east) (contention_lent table.now bits.now settings.old
         wires.old heads.old nexts.old)) (length list.old)) }
     ensures list { list.new ≡ output (ground_in result) list.old
@@ -47,11 +47,11 @@ pub fn ice40_contentions(
     pack_contentions(a)
 }
 
-fn pack_contentions(answer: ContentionList) -> u64
-    ensures { (result ≡ packed_contentions answer) × (ground_in result ≡ contentions_number answer) }
+fn pack_contentions(answer: Result<u32, Refusal>) -> u64
+    ensures { (result ≡ packed_number answer) × (ground_in result ≡ answer_number answer) }
 {
     match answer {
-        ContentionList::Rows(rows) => pack::pack(0, rows),
-        ContentionList::Refused(refusal) => pack::pack_no(refusal),
+        Ok(rows) => pack::pack(0, rows),
+        Err(refusal) => pack::pack_no(refusal),
     }
 }

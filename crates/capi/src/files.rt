@@ -1,14 +1,14 @@
 // Reading and writing a block as an IceStorm ASCII file (document 02, W1).
+ghost use Rattle.refusal.specs.Grounds.{answer_number, number_value};
 ghost use Rattle.std.specs.Prelude.{◌≡◌, length};
 ghost use Rattle.refusal.specs.Memory.{output};
 ghost use Rattle.ports.specs.Block.{size};
 ghost use Rattle.asc.specs.Area.{area_at};
 ghost use Rattle.asc.specs.Content.{written};
-ghost use Rattle.asc.specs.Answers.{read_answer, bits_read, write_answer, length_answer, length_number, length_value};
+ghost use Rattle.asc.specs.Answers.{read_answer, bits_read, write_answer, length_answer};
 ghost use Rattle.capi.specs.Packed.{packed, packed_answer, ground_in};
 
 use crate::pack;
-use asc::TextLength;
 use ports::size::Size;
 
 // Reads the bits of the block whose south-west tile stands at x, y of the chip from a file. Grounds 1, 2, 13.
@@ -22,11 +22,11 @@ pub fn ice40_asc_read(w: u32, h: u32, x: u32, y: u32, text: &[u8], bits: &mut [u
 
 // How many bytes the file of such a block has. Ground 1.
 pub fn ice40_asc_length(w: u32, h: u32, x: u32, y: u32) -> u64
-    ensures { result ≡ packed (length_number (length_answer (area_at (size w h) x y))) (length_value (length_answer (area_at (size w h) x y))) }
+    ensures { result ≡ packed (answer_number (length_answer (area_at (size w h) x y))) (number_value (length_answer (area_at (size w h) x y))) }
 {
     match asc::text_length(Size { w, h }, x, y) {
-        TextLength::Bytes(n) => pack::pack(0, n),
-        TextLength::Refused(r) => pack::pack_no(r),
+        Ok(n) => pack::pack(0, n),
+        Err(r) => pack::pack_no(r),
     }
 }
 

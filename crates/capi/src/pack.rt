@@ -3,7 +3,7 @@ ghost use Rattle.std.specs.Prelude.{◌≡◌, ◌<◌};
 ghost use Rattle.refusal.specs.Grounds.{number_of, place_of, answer_number, answer_value};
 ghost use Rattle.capi.specs.Packed.{packed, ground_in};
 
-use refusal::{Answer, Refusal};
+use refusal::Refusal;
 
 pub fn pack(number: u8, value: u32) -> u64
     ensures { (result ≡ packed number value) × (ground_in result ≡ number) }
@@ -17,11 +17,11 @@ pub fn pack_no(refusal: Refusal) -> u64
     pack(refusal::number(refusal), refusal::place(refusal))
 }
 
-pub fn pack_answer(answer: Answer) -> u64
+pub fn pack_answer(answer: Result<(), Refusal>) -> u64
     ensures { (result ≡ packed (answer_number answer) (answer_value answer)) × (ground_in result ≡ answer_number answer) }
 {
     match answer {
-        Answer::Done => pack(0, 0),
-        Answer::Refused(refusal) => pack_no(refusal),
+        Ok(()) => pack(0, 0),
+        Err(refusal) => pack_no(refusal),
     }
 }

@@ -1,10 +1,10 @@
 // Reading, writing and counting the bits of a block.
 ghost use Rattle.std.specs.Prelude.{◌≡◌, length};
-ghost use Rattle.refusal.specs.Grounds.{answer_number, answer_value};
+ghost use Rattle.refusal.specs.Grounds.{answer_number, answer_value, number_value};
 ghost use Rattle.refusal.specs.Memory.{output};
 ghost use Rattle.ports.specs.Block.{size, tile_count};
 ghost use Rattle.config.specs.Blocks.{decoded, encoded, tiles_of};
-ghost use Rattle.config.specs.Entry.{read_answer, write_answer, bit_count_answer, bit_count_number, bit_count_value};
+ghost use Rattle.config.specs.Entry.{read_answer, write_answer, bit_count_answer};
 ghost use Rattle.capi.specs.Packed.{packed, ground_in};
 
 // Reads a block's bits to its settings. Grounds 1, 2, 3, 4.
@@ -46,8 +46,8 @@ pub extern "C" fn ice40_write(
 // How many of a tile's bits are set. Grounds 1, 2, 20.
 #[unsafe(no_mangle)]
 pub extern "C" fn ice40_bit_count(w: u32, h: u32, bits: &[u64], tile: u32) -> u64
-    ensures { result ≡ packed (bit_count_number (bit_count_answer (size w h) bits.now tile))
-        (bit_count_value (bit_count_answer (size w h) bits.now tile)) }
+    ensures { result ≡ packed (answer_number (bit_count_answer (size w h) bits.now tile))
+        (number_value (bit_count_answer (size w h) bits.now tile)) }
 {
     capi::blocks::ice40_bit_count(w, h, bits, tile)
 }

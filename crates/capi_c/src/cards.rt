@@ -3,8 +3,8 @@ ghost use Rattle.std.specs.Prelude.{◌≡◌, length};
 ghost use Rattle.refusal.specs.Memory.{output, work_room};
 ghost use Rattle.ports.specs.Block.{block};
 ghost use Rattle.block.specs.Lengths.{room_lent, build_lent, build_exact};
-ghost use Rattle.card.specs.Entry.{carded_number, card_answer, card_after};
-ghost use Rattle.capi.specs.Packed.{ground_in, packed_carded};
+ghost use Rattle.card.specs.Entry.{card_answer, card_after};
+ghost use Rattle.capi.specs.Packed.{ground_in, packed_number};
 
 // W, H, cells in use, flip-flops, leaving wires after their count, and the open wires that these or a flip-flop depend on after theirs, from a block's
 // bits. Grounds 1 to 8, then 15; the value is how many numbers the card has. The output is card, of any length; the rest is work room.
@@ -24,7 +24,7 @@ pub extern "C" fn ice40_card(
     marks: &mut [u16],
     queue: &mut [u16],
 ) -> u64
-    ensures answer { result ≡ packed_carded (card_answer (block w h east) table.now bits.now
+    ensures answer { result ≡ packed_number (card_answer (block w h east) table.now bits.now
         (build_exact (block w h east) (build_lent table.now bits.now settings.old
         (room_lent list.old wires.old sources.old rows.old marks.old
         queue.old))) (length card.old)) }

@@ -5,13 +5,13 @@ ghost use Rattle.ports.specs.Block.{block, tiles};
 ghost use Rattle.config.specs.Blocks.{decoded, tiles_of};
 ghost use Rattle.equations.specs.Settling.{block_list};
 ghost use Rattle.block.specs.Lengths.{room_lent, build_lent, build_exact, follow_lent, follow_exact};
-ghost use Rattle.block.specs.Building.{built_number, build_answer};
-ghost use Rattle.block.specs.Drivers.{followed_number, follow_answer};
+ghost use Rattle.block.specs.Building.{build_answer};
+ghost use Rattle.block.specs.Drivers.{follow_answer};
 ghost use Rattle.stepper.specs.Settling.{settled_by, port_values};
 ghost use Rattle.stepper.specs.Clocking.{next_states};
 ghost use Rattle.sim.specs.Lengths.{inputs_lent, step_room_lent, step_lent, step_exact};
 ghost use Rattle.sim.specs.Stepping.{step_answer};
-ghost use Rattle.capi.specs.Packed.{ground_in, packed_answer, packed_built, driver_code, packed_followed};
+ghost use Rattle.capi.specs.Packed.{ground_in, packed_answer, packed_number, driver_code, packed_followed};
 
 // The list of a block's rows in order, from its bits. Grounds 1 to 8; the value is the row count. The output is list; the rest is work room.
 #[unsafe(no_mangle)]
@@ -29,7 +29,7 @@ pub extern "C" fn ice40_build(
     marks: &mut [u16],
     queue: &mut [u16],
 ) -> u64
-    ensures answer { result ≡ packed_built (build_answer (block w h east) table.now (tiles_of bits.now)
+    ensures answer { result ≡ packed_number (build_answer (block w h east) table.now (tiles_of bits.now)
         (build_exact (block w h east) (build_lent table.now bits.now settings.old
         (room_lent list.old wires.old sources.old rows.old marks.old
         queue.old)))) }

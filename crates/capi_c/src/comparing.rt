@@ -5,8 +5,8 @@ ghost use Rattle.ports.specs.Block.{size};
 ghost use Rattle.ports.specs.Lengths.{tile_numbers};
 ghost use Rattle.config.specs.Blocks.{tiles_of};
 ghost use Rattle.compare.specs.Lengths.{compare_lent, compare_exact};
-ghost use Rattle.compare.specs.Entry.{compared_number, compare_answer, compared_list, part_answer, part_of, chosen};
-ghost use Rattle.capi.specs.Packed.{ground_in, value_in, packed_compared, packed_part, side_of};
+ghost use Rattle.compare.specs.Entry.{compare_answer, compared_list, part_answer, part_of, chosen};
+ghost use Rattle.capi.specs.Packed.{ground_in, value_in, packed_number, packed_part, side_of};
 
 // Every difference between two blocks, as rows of five numbers: tile, kind, index, old and new setting. Grounds 1, 14, 2, 3, 4, 15; the value is
 // the number of rows. The output is list, of any length; before and after are work room.
@@ -23,7 +23,7 @@ pub extern "C" fn ice40_compare(
     before: &mut [u16],
     after: &mut [u16],
 ) -> u64
-    ensures answer { result ≡ packed_compared (compare_answer (size w1 h1) (size w2 h2) table.now (tiles_of first.now)
+    ensures answer { result ≡ packed_number (compare_answer (size w1 h1) (size w2 h2) table.now (tiles_of first.now)
         (tiles_of second.now) (compare_exact (size w1 h1) (compare_lent table.now first.now
         second.now before.old after.old)) (length list.old)) }
     ensures list { list.new ≡ output (ground_in result) list.old

@@ -3,8 +3,8 @@ ghost use Rattle.std.specs.Prelude.{◌≡◌, length};
 ghost use Rattle.refusal.specs.Memory.{output, work_room};
 ghost use Rattle.ports.specs.Block.{block};
 ghost use Rattle.contention.specs.Lengths.{contention_lent, contention_exact};
-ghost use Rattle.contention.specs.Entry.{contentions_number, contentions_answer, contentions_list};
-ghost use Rattle.capi.specs.Packed.{ground_in, packed_contentions};
+ghost use Rattle.contention.specs.Entry.{contentions_answer, contentions_list};
+ghost use Rattle.capi.specs.Packed.{ground_in, packed_number};
 
 // A row of wire, tile and group for each enabled switch on a wire with two or more, from a block's bits. Grounds 1 to 4, then 15; the value is the
 // number of rows. The output is list, of any length; the rest is work room.
@@ -21,7 +21,7 @@ pub extern "C" fn ice40_contentions(
     heads: &mut [u16],
     nexts: &mut [u16],
 ) -> u64
-    ensures answer { result ≡ packed_contentions (contentions_answer (block w h east) table.now bits.now
+    ensures answer { result ≡ packed_number (contentions_answer (block w h east) table.now bits.now
         (contention_exact (block w h east) (contention_lent table.now bits.now settings.old
         wires.old heads.old nexts.old)) (length list.old)) }
     ensures list { list.new ≡ output (ground_in result) list.old

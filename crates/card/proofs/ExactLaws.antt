@@ -1,4 +1,5 @@
 -- What an answer of `shelf_card` says fits one answer and one card only. Main laws: `card_exact`, `numbers_unique`. Assumes nothing.
+use Rattle.std.specs.Prelude.{Result, Ok, Err}
 use Prim.Native.Nat.{ℕ, suc, zero, min, ◌+◌, ◌-◌, ◌≤◌, ◌<◌}
 use mathlib.Core.Path.{◌≡◌, refl, sym, ap, subst, ◌∙◌}
 use mathlib.Core.Logic.{⊎_elim}
@@ -16,8 +17,6 @@ use Rattle.card.specs.Card.{Wire, Card, card_length}
 use Rattle.refusal.specs.declared.Refusal.{Refusal}
 use Rattle.fabric.specs.Count.{wires}
 use Rattle.config.specs.Blocks.{tiles_of}
-use Rattle.block.specs.declared.Built.{Built}
-use Rattle.block.specs.declared.Built.TheVariants as built
 use Rattle.block.specs.declared.lengths.RoomLent.{RoomLent}
 use Rattle.block.specs.declared.lengths.BuildLent.{BuildLent}
 use Rattle.block.specs.Lengths.{build_lent, build_exact}
@@ -25,8 +24,6 @@ use Rattle.block.specs.Building.{build_answer}
 use Rattle.block.specs.Meaning.{Readable, Accepted, BuildSays}
 use Rattle.block.proofs.MeaningLaws.{build_says}
 use Rattle.block.proofs.ExactLaws.{build_exact_lem}
-use Rattle.card.specs.declared.Carded.{Carded}
-use Rattle.card.specs.declared.Carded.TheVariants.{Numbers, Refused}
 use Rattle.card.specs.Entry.{numbers_answer, settings_of, card_answer}
 use Rattle.card.specs.Meaning.{CardNo, unbuilt, too_short, CardSays}
 use Rattle.card.proofs.EntryLaws.{numbers_short, numbers_yes, bits_no, bits_yes}
@@ -101,11 +98,11 @@ module _ (B : Block) (t bits settings : List ℕ) (room : RoomLent) where
   abbrev st : List ℕ
   st = settings_of B t bits
 
-  abbrev told : ℕ → Carded
+  abbrev told : ℕ → Result ℕ Refusal
   told card = card_answer B t bits (build_exact B lent) card
 
   -- a no, or a yes, of building is its answer
-  built_as : (r : Built) → BuildSays B t bits lent r → r ≡ build_answer B t (tiles_of bits) (build_exact B lent)
+  built_as : (r : Result ℕ Refusal) → BuildSays B t bits lent r → r ≡ build_answer B t (tiles_of bits) (build_exact B lent)
   built_as r s = build_exact_lem B t bits lent r _ s (build_says B t bits settings room _ refl)
 
   module _ (R : Readable B t bits lent) (A : Accepted B t st) where
@@ -113,25 +110,25 @@ module _ (B : Block) (t bits settings : List ℕ) (room : RoomLent) where
     count_is full numbers C = numbers_unique B t st C (accepted_card B t st (accepted_routed B t bits lent R) A (card_length B t st) (omega arith))
 
     yes_told : (card : ℕ) → numbers_answer (card_length B t st) card ≡ told card
-    yes_told card = bits_yes B t bits (build_exact B lent) card (built.Listed (wires B)) (built_as (built.Listed (wires B)) (R, refl, A)) (wires B) refl
+    yes_told card = bits_yes B t bits (build_exact B lent) card (Ok (wires B)) (built_as (Ok (wires B)) (R, refl, A)) (wires B) refl
 
-  no_told : (card : ℕ) (refusal : Refusal) → CardNo B t bits lent card refusal → Refused refusal ≡ told card
-  no_told card refusal (unbuilt r n) = bits_no B t bits (build_exact B lent) card (built.Refused r) (built_as (built.Refused r) n) r refl
+  no_told : (card : ℕ) (refusal : Refusal) → CardNo B t bits lent card refusal → Err refusal ≡ told card
+  no_told card refusal (unbuilt r n) = bits_no B t bits (build_exact B lent) card (Err r) (built_as (Err r) n) r refl
   no_told card refusal (too_short numbers full R A C short) =
       numbers_short numbers (card_length B t st) card (count_is R A full numbers C) short ∙ yes_told R A card
 
-  says_told : (before after : List ℕ) (r : Carded) → CardSays B t bits lent before after r → r ≡ told (length before)
-  says_told before after (Numbers n) (long, y) =
+  says_told : (before after : List ℕ) (r : Result ℕ Refusal) → CardSays B t bits lent before after r → r ≡ told (length before)
+  says_told before after (Ok n) (long, y) =
       let f = y.card.room in
       numbers_yes n (card_length B t st) (length before) (count_is y.read y.accepted after n y.card) (omega arith)
       ∙ yes_told y.read y.accepted (length before)
-  says_told before after (Refused refusal) says = no_told (length before) refusal says.1
+  says_told before after (Err refusal) says = no_told (length before) refusal says.1
 
-  pub card_exact : (before a b : List ℕ) (r q : Carded) → CardSays B t bits lent before a r → CardSays B t bits lent before b q → (r ≡ q) × (a ≡ b)
+  pub card_exact : (before a b : List ℕ) (r q : Result ℕ Refusal) → CardSays B t bits lent before a r → CardSays B t bits lent before b q → (r ≡ q) × (a ≡ b)
   card_exact before a b r q x y =
       let e : r ≡ q = says_told before a r x ∙ sym (says_told before b q y) in
       (e, same r x (subst (CardSays B t bits lent before b) (sym e) y))
     where
-      same : (r : Carded) → CardSays B t bits lent before a r → CardSays B t bits lent before b r → a ≡ b
-      same (Numbers n) x y = card_unique B t st x.1.card y.1.card (x.0 ∙ sym y.0)
-      same (Refused refusal) x y = x.0 ∙ sym y.0
+      same : (r : Result ℕ Refusal) → CardSays B t bits lent before a r → CardSays B t bits lent before b r → a ≡ b
+      same (Ok n) x y = card_unique B t st x.1.card y.1.card (x.0 ∙ sym y.0)
+      same (Err refusal) x y = x.0 ∙ sym y.0

@@ -1,5 +1,8 @@
 -- What the code hands on, from the list that building wrote to the card. Main laws: `rows_touchable`; `leaving_made`, `feeding_made`, `answer_made`, `card_made`.
 -- Assumes nothing.
+use Rattle.refusal.specs.Grounds.{answer_number}
+use Rattle.refusal.specs.declared.Refusal.{Refusal}
+use Rattle.std.specs.Prelude.{Result, Ok}
 use Prim.Native.Nat.{ℕ, ◌*◌, ◌<◌}
 use mathlib.Core.Path.{◌≡◌, ap, ap₂, subst, ◌∙◌}
 use mathlib.Core.List.{List}
@@ -19,15 +22,11 @@ use Rattle.equations.specs.Sources.{sources_of}
 use Rattle.equations.specs.Settling.{block_list}
 use Rattle.equations.proofs.LoopLaws.{loop_exact}
 use Rattle.equations.proofs.SettlingLaws.{block_fits}
-use Rattle.block.specs.declared.Built.{Built}
-use Rattle.block.specs.declared.Built.TheVariants.{Listed}
-use Rattle.block.specs.Building.{built_number}
 use Rattle.block.specs.Meaning.{Accepted}
-use Rattle.card.specs.declared.Carded.{Carded}
 use Rattle.card.specs.Cells.{used_cell, flop_cell}
 use Rattle.card.specs.Marks.{exit_marks, driven_marks, leaving_marks, flop_marks, reach, open_marks, feeding_marks, RowsTouchable}
 use Rattle.card.specs.Card.{numbers_of, needed, card_numbers, card_length}
-use Rattle.card.specs.Entry.{carded_number, numbers_answer}
+use Rattle.card.specs.Entry.{numbers_answer}
 
 module _ (B : Block) (t st : List ℕ) where
   -- the rows of an accepted block name wires of the block
@@ -54,19 +53,19 @@ module _ (B : Block) (t st : List ℕ) where
   feeding_made sources list start fed count e f g h k = k ∙ rw (e, f, g, h)
 
   module _ (left fed : List ℕ) (e : left ≡ leaving_marks B t st) (f : fed ≡ feeding_marks B t st) where
-    pub answer_made : (n : ℕ) (r : Carded) → r ≡ numbers_answer (needed left fed) n → r ≡ numbers_answer (card_length B t st) n
+    pub answer_made : (n : ℕ) (r : Result ℕ Refusal) → r ≡ numbers_answer (needed left fed) n → r ≡ numbers_answer (card_length B t st) n
     answer_made n r g = g ∙ ap₂ (λ (x y : List ℕ). numbers_answer (needed x y) n) e f
 
-    pub card_made : (n : ℕ) (r : Carded) (old after : List ℕ)
-        → after ≡ output (carded_number r) old
+    pub card_made : (n : ℕ) (r : Result ℕ Refusal) (old after : List ℕ)
+        → after ≡ output (answer_number r) old
         (zero_filled n (numbers_of B (count_below (used_cell st) (8 * tiles B)) (count_below (flop_cell st) (8 * tiles B)) left fed))
-        → after ≡ output (carded_number r) old (zero_filled n (card_numbers B t st))
+        → after ≡ output (answer_number r) old (zero_filled n (card_numbers B t st))
     card_made n r old after g =
         g
         ∙ ap₂
         (λ (x y : List ℕ).
-        output (carded_number r) old (zero_filled n (numbers_of B (count_below (used_cell st) (8 * tiles B)) (count_below (flop_cell st) (8 * tiles B)) x y))) e f
+        output (answer_number r) old (zero_filled n (numbers_of B (count_below (used_cell st) (8 * tiles B)) (count_below (flop_cell st) (8 * tiles B)) x y))) e f
 
 -- an output of building after a yes
-pub listed_output : (r : Built) (rows : ℕ) (old new after : List ℕ) → r ≡ Listed rows → after ≡ output (built_number r) old new → after ≡ new
-listed_output r rows old new after e f = f ∙ ap (λ (a : Built). output (built_number a) old new) e
+pub listed_output : (r : Result ℕ Refusal) (rows : ℕ) (old new after : List ℕ) → r ≡ Ok rows → after ≡ output (answer_number r) old new → after ≡ new
+listed_output r rows old new after e f = f ∙ ap (λ (a : Result ℕ Refusal). output (answer_number a) old new) e

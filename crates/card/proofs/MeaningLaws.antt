@@ -1,4 +1,7 @@
 -- Every answer of `shelf_card` says what specs/Meaning.antt has. Main laws: `card_say`; `accepted_routed`, `accepted_card`. Assumes nothing.
+use Rattle.refusal.specs.Grounds.{answer_number}
+use Rattle.refusal.specs.declared.Refusal.{Refusal}
+use Rattle.std.specs.Prelude.{Result, Ok, Err}
 use Prim.Native.Nat.{ℕ, ◌*◌, ◌≤◌}
 use mathlib.Core.Path.{◌≡◌, refl, sym, subst}
 use mathlib.Core.List.{List}
@@ -18,8 +21,6 @@ use Rattle.routing.specs.LogicTile.{logic_tile}
 use Rattle.config.specs.Blocks.{fault_place, tiles_of}
 use Rattle.config.proofs.FaultPlaceLaws.{decodable_no_fault}
 use Rattle.equations.specs.Routed.{Routed}
-use Rattle.block.specs.declared.Built.{Built}
-use Rattle.block.specs.declared.Built.TheVariants as built
 use Rattle.block.specs.declared.lengths.RoomLent.{RoomLent}
 use Rattle.block.specs.declared.lengths.BuildLent.{BuildLent}
 use Rattle.block.specs.Lengths.{build_lent, build_exact}
@@ -27,11 +28,10 @@ use Rattle.block.specs.Building.{build_answer}
 use Rattle.block.specs.Meaning.{Readable, Accepted, BuildSays}
 use Rattle.block.proofs.RoutedLaws.{routed_of_read}
 use Rattle.block.proofs.MeaningLaws.{build_says}
-use Rattle.card.specs.declared.Carded.{Carded}
 use Rattle.card.specs.Cells.{used_cell, flop_cell}
 use Rattle.card.specs.Marks.{leaving_marks, feeding_marks}
 use Rattle.card.specs.Card.{Card, card_numbers, card_length}
-use Rattle.card.specs.Entry.{carded_number, numbers_answer, after_build, settings_of, card_answer, card_after}
+use Rattle.card.specs.Entry.{numbers_answer, after_build, settings_of, card_answer, card_after}
 use Rattle.card.specs.Meaning.{unbuilt, too_short, CardSays}
 use Rattle.card.proofs.LeavingLaws.{leaving_exact}
 use Rattle.card.proofs.FeedingLaws.{feeding_exact}
@@ -60,8 +60,8 @@ module _ (B : Block) (t bits settings : List ℕ) (room : RoomLent) (old : List 
   abbrev st : List ℕ
   st = settings_of B t bits
 
-  abbrev Says : Carded → Type 0
-  Says r = CardSays B t bits lent old (output (carded_number r) old (card_after B t bits (length old))) r
+  abbrev Says : Result ℕ Refusal → Type 0
+  Says r = CardSays B t bits lent old (output (answer_number r) old (card_after B t bits (length old))) r
 
   numbers_say : Readable B t bits lent → Accepted B t st → Says (numbers_answer (card_length B t st) (length old))
   unfolding numbers_answer
@@ -83,13 +83,13 @@ module _ (B : Block) (t bits settings : List ℕ) (room : RoomLent) (old : List 
   unfolding card_answer
   card_mean = go (build_answer B t (tiles_of bits) (build_exact B lent)) refl
     where
-      go : (a : Built) → a ≡ build_answer B t (tiles_of bits) (build_exact B lent) → Says (after_build a (numbers_answer (card_length B t st) (length old)))
-      go (built.Listed rows) e =
-          let said : BuildSays B t bits lent (built.Listed rows) = build_says B t bits settings room (built.Listed rows) e in
+      go : (a : Result ℕ Refusal) → a ≡ build_answer B t (tiles_of bits) (build_exact B lent) → Says (after_build a (numbers_answer (card_length B t st) (length old)))
+      go (Ok rows) e =
+          let said : BuildSays B t bits lent (Ok rows) = build_says B t bits settings room (Ok rows) e in
           numbers_say said.0 said.2
-      go (built.Refused refusal) e = (output_refused old _ refusal, unbuilt refusal (build_says B t bits settings room (built.Refused refusal) e))
+      go (Err refusal) e = (output_refused old _ refusal, unbuilt refusal (build_says B t bits settings room (Err refusal) e))
 
   -- the same of what `shelf_card` promises of its answer and of the lent card
-  pub card_say : (after : List ℕ) (r : Carded) → r ≡ card_answer B t bits (build_exact B lent) (length old)
-      → after ≡ output (carded_number r) old (card_after B t bits (length old)) → CardSays B t bits (build_lent t bits settings room) old after r
+  pub card_say : (after : List ℕ) (r : Result ℕ Refusal) → r ≡ card_answer B t bits (build_exact B lent) (length old)
+      → after ≡ output (answer_number r) old (card_after B t bits (length old)) → CardSays B t bits (build_lent t bits settings room) old after r
   card_say after r e q = subst (λ (x : List ℕ). CardSays B t bits lent old x r) (sym q) (subst Says (sym e) card_mean)

@@ -1,13 +1,11 @@
 -- What each answer of `shelf_card` says, in the paper's words. proofs/MeaningLaws.antt shows it of every answer, so a reader has to believe only this and
 -- the definitions that it names, and not how the card is computed.
-use Rattle.std.specs.Prelude.{ℕ, ◌<◌, ◌≡◌, List, length}
+use Rattle.std.specs.Prelude.{ℕ, ◌<◌, ◌≡◌, List, length, Result, Ok, Err}
 use Rattle.refusal.specs.declared.Refusal.{Refusal}
 use Rattle.refusal.specs.declared.Refusal.TheVariants.{ListTooShort}
 use Rattle.ports.specs.declared.size.Block.{Block}
 use Rattle.block.specs.declared.lengths.BuildLent.{BuildLent}
 use Rattle.block.specs.Meaning.{Readable, Accepted, BuildNo}
-use Rattle.card.specs.declared.Carded.{Carded}
-use Rattle.card.specs.declared.Carded.TheVariants.{Numbers, Refused}
 use Rattle.card.specs.Card.{Card}
 use Rattle.card.specs.Entry.{settings_of}
 
@@ -26,6 +24,6 @@ module _ (B : Block) (t bits : List ℕ) (lent : BuildLent) where
     pub card : Card B t (settings_of B t bits) after numbers
 
   -- `before` and `after` are the lent card, which keeps its length; "On a refusal the outputs keep their old contents"
-  abbrev pub CardSays : (before after : List ℕ) → Carded → Type 0
-  CardSays before after (Numbers n) = (length after ≡ length before) × Carries after n
-  CardSays before after (Refused refusal) = (after ≡ before) × CardNo (length before) refusal
+  abbrev pub CardSays : (before after : List ℕ) → Result ℕ Refusal → Type 0
+  CardSays before after (Ok n) = (length after ≡ length before) × Carries after n
+  CardSays before after (Err refusal) = (after ≡ before) × CardNo (length before) refusal

@@ -6,10 +6,11 @@
 // wires stand on the card, specs/Entry.antt has the grounds in their order, specs/Meaning.antt what each answer says in the paper's words.
 #![tactic(auto)]
 
+ghost use Rattle.refusal.specs.Grounds.{answer_number};
 ghost use Rattle.std.specs.Prelude.{◌≡◌, length};
 ghost use Rattle.refusal.specs.Memory.{output, work_room};
 ghost use Rattle.block.specs.Lengths.{room_lent, build_lent, build_exact};
-ghost use Rattle.card.specs.Entry.{carded_number, card_answer, card_after};
+ghost use Rattle.card.specs.Entry.{card_answer, card_after};
 ghost use Rattle.card.specs.Meaning.{CardSays};
 
 use block::lengths::{BuildLent, RoomLent, is_build_exact};
@@ -22,13 +23,6 @@ mod leaving;
 mod listing;
 mod make;
 mod marks;
-
-// So many numbers, or why there is no card.
-#[derive(Clone, Copy)]
-pub enum Carded {
-    Numbers(u32),
-    Refused(Refusal),
-}
 
 // The card of a block, from its bits. Grounds 1 to 8, those of building, then 15 with the numbers needed, in this order (`card_answer`). The card may have
 // any length. The work room is what follows it: list, settings, wires, sources, rows, marks and queue, of the lengths that building asks for.
@@ -46,27 +40,27 @@ pub fn shelf_card(
     rows: &mut [u16],
     marks: &mut [u16],
     queue: &mut [u16],
-) -> Carded
+) -> Result<u32, Refusal>
     ensures answer { result ≡ card_answer b table.now bits.now
         (build_exact b (build_lent table.now bits.now settings.old
         (room_lent list.old wires.old sources.old rows.old marks.old
         queue.old))) (length card.old) }
-    ensures card { card.new ≡ output (carded_number result) card.old
+    ensures card { card.new ≡ output (answer_number result) card.old
         (card_after b table.now bits.now (length card.old)) }
-    ensures list { list.new ≡ work_room (carded_number result) list.old }
-    ensures settings { settings.new ≡ work_room (carded_number result) settings.old }
-    ensures wires { wires.new ≡ work_room (carded_number result) wires.old }
-    ensures sources { sources.new ≡ work_room (carded_number result) sources.old }
-    ensures rows { rows.new ≡ work_room (carded_number result) rows.old }
-    ensures marks { marks.new ≡ work_room (carded_number result) marks.old }
-    ensures queue { queue.new ≡ work_room (carded_number result) queue.old }
+    ensures list { list.new ≡ work_room (answer_number result) list.old }
+    ensures settings { settings.new ≡ work_room (answer_number result) settings.old }
+    ensures wires { wires.new ≡ work_room (answer_number result) wires.old }
+    ensures sources { sources.new ≡ work_room (answer_number result) sources.old }
+    ensures rows { rows.new ≡ work_room (answer_number result) rows.old }
+    ensures marks { marks.new ≡ work_room (answer_number result) marks.old }
+    ensures queue { queue.new ≡ work_room (answer_number result) queue.old }
     ensures says { CardSays b table.now bits.now
         (build_lent table.now bits.now settings.old
         (room_lent list.old wires.old sources.old rows.old marks.old
         queue.old)) card.old card.new result }
 {
     if !ports::size::is_sized(b) {
-        return Carded::Refused(Refusal::WrongSize);
+        return Err(Refusal::WrongSize);
     }
     let room = RoomLent {
         list: list.len(),
@@ -83,7 +77,7 @@ pub fn shelf_card(
         room: room,
     };
     if !is_build_exact(b, lent) {
-        return Carded::Refused(Refusal::WrongLength);
+        return Err(Refusal::WrongLength);
     }
     let r = make::card_bits(
         b, table, bits, card, list, settings, wires, sources, rows, marks, queue,

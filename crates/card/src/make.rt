@@ -1,4 +1,5 @@
 // The checks once the lengths are exact, in their order, and the card, which is written after every check.
+ghost use Rattle.refusal.specs.Grounds.{answer_number};
 ghost use Rattle.std.specs.Prelude.{◌≡◌, true, ◌*◌, ◌<◌, length};
 ghost use Rattle.lists.specs.Search.{count_below};
 ghost use Rattle.lists.specs.Listing.{zero_filled};
@@ -12,24 +13,22 @@ ghost use Rattle.block.specs.Lengths.{room_lent, build_lent, BuildLong};
 ghost use Rattle.block.specs.Meaning.{Accepted};
 ghost use Rattle.card.specs.Cells.{used_cell, flop_cell};
 ghost use Rattle.card.specs.Card.{numbers_of, needed, card_numbers, card_length};
-ghost use Rattle.card.specs.Entry.{carded_number, numbers_answer, card_answer, card_after};
+ghost use Rattle.card.specs.Entry.{numbers_answer, card_answer, card_after};
 
-use crate::Carded;
 use crate::cells::{count_flops, count_used};
 use crate::feeding::mark_feeding;
 use crate::leaving::mark_leaving;
 use crate::listing::write_card;
 use crate::marks::count_marks;
-use block::Built;
 use ports::size::Block;
 use refusal::Refusal;
 
 // Ground 15 of a block whose wires are marked, and the card.
-fn put_card(b: Block, st: &[u16], left: &[u16], fed: &[u16], card: &mut [u16]) -> Carded
+fn put_card(b: Block, st: &[u16], left: &[u16], fed: &[u16], card: &mut [u16]) -> Result<u32, Refusal>
     requires { Sized b × (length st.now ≡ settings_length * tiles b) × (length left.now ≡ ports b) ×
         (length fed.now ≡ ports b) }
     ensures answer { result ≡ numbers_answer (needed left.now fed.now) (length card.old) }
-    ensures card { card.new ≡ output (carded_number result) card.old (zero_filled (length card.old)
+    ensures card { card.new ≡ output (answer_number result) card.old (zero_filled (length card.old)
         (numbers_of b (count_below (used_cell st.now) (8 * tiles b)) (count_below (flop_cell st.now) (8 * tiles b))
         left.now fed.now)) }
 {
@@ -38,12 +37,12 @@ fn put_card(b: Block, st: &[u16], left: &[u16], fed: &[u16], card: &mut [u16]) -
     let feeding = count_marks(fed);
     let numbers = 6 + leaving + feeding;
     if card.len() < numbers {
-        return Carded::Refused(Refusal::ListTooShort(numbers as u32));
+        return Err(Refusal::ListTooShort(numbers as u32));
     }
     let cells = count_used(st, tiles);
     let flops = count_flops(st, tiles);
     write_card(b, cells, flops, leaving, feeding, left, fed, card);
-    Carded::Numbers(numbers as u32)
+    Ok(numbers as u32)
 }
 
 // The card of settings that building accepted, from their list of so many rows.
@@ -58,11 +57,11 @@ fn card_settings(
     sources: &mut [u16],
     marks: &mut [u16],
     queue: &mut [u16],
-) -> Carded
+) -> Result<u32, Refusal>
     requires routed { Routed b table.now st.now × Accepted b table.now st.now × (list.now ≡ block_list b table.now st.now) × (count ≡ wireTotal b) }
     requires wires_len { (length wires.old ≡ ports b) × (length sources.old ≡ ports b) × (length marks.old ≡ ports b) × (length queue.old ≡ ports b) }
     ensures answer { result ≡ numbers_answer (card_length b table.now st.now) (length card.old) }
-    ensures card { card.new ≡ output (carded_number result) card.old
+    ensures card { card.new ≡ output (answer_number result) card.old
         (zero_filled (length card.old) (card_numbers b table.now st.now)) }
 {
     wiring::fill_wires(b, wires);
@@ -86,11 +85,11 @@ pub fn card_bits(
     rows: &mut [u16],
     marks: &mut [u16],
     queue: &mut [u16],
-) -> Carded
+) -> Result<u32, Refusal>
     requires { Sized b × BuildLong b (build_lent table.now bits.now settings.old
         (room_lent list.old wires.old sources.old rows.old marks.old queue.old)) }
     ensures answer { result ≡ card_answer b table.now bits.now true (length card.old) }
-    ensures card { card.new ≡ output (carded_number result) card.old
+    ensures card { card.new ≡ output (answer_number result) card.old
         (card_after b table.now bits.now (length card.old)) }
 {
     let n = (b.h * b.w) as usize;
@@ -98,8 +97,8 @@ pub fn card_bits(
         b, table, bits, list, settings, wires, sources, rows, marks, queue,
     );
     match built {
-        Built::Refused(refusal) => Carded::Refused(refusal),
-        Built::Listed(count) => {
+        Err(refusal) => Err(refusal),
+        Ok(count) => {
             config::blocks::decode_block(table, bits, settings, n);
             card_settings(
                 b,

@@ -44,26 +44,19 @@ impl Cell {
     }
 }
 
-// The bit that a lookup gives, or why there is none.
-#[derive(Clone, Copy)]
-pub enum Looked {
-    Bit(u8),
-    Refused(Refusal),
-}
-
 // The lookup of a table at inputs given as one number, in_0 with weight 1. Ground 20, for inputs above 15.
 // Rules out: the table read from its high end; inputs above 15 taken modulo 16.
-pub fn lookup(table: u16, inputs: u32) -> Looked
+pub fn lookup(table: u16, inputs: u32) -> Result<u8, Refusal>
     ensures { result ≡ looked_up table inputs }
 {
     if 15 < inputs {
-        return Looked::Refused(Refusal::OutOfRange(inputs));
+        return Err(Refusal::OutOfRange(inputs));
     }
     let in0 = input(inputs, 0);
     let in1 = input(inputs, 1);
     let in2 = input(inputs, 2);
     let in3 = input(inputs, 3);
-    Looked::Bit(lookup_bit(table, in0, in1, in2, in3))
+    Ok(lookup_bit(table, in0, in1, in2, in3))
 }
 
 // Input k of inputs that are given as one number.

@@ -5,7 +5,7 @@
 ghost use Rattle.std.specs.Prelude.{◌<◌};
 
 use cell::flip_flop::{Control, FlipFlop};
-use cell::logic::{Cell, Looked};
+use cell::logic::Cell;
 
 fn put(rt: &impl Print, c: u8) {
     let line = [c];
@@ -59,8 +59,8 @@ fn majority_of(n: u32) -> u8 {
 // Refused inputs show as a dash.
 fn looked_up(table: u16, inputs: u32) -> u8 {
     match cell::logic::lookup(table, inputs) {
-        Looked::Bit(b) => digit(b),
-        Looked::Refused(_) => b'-',
+        Ok(b) => digit(b),
+        Err(_) => b'-',
     }
 }
 

@@ -1,4 +1,5 @@
 -- Nothing is listed exactly if the bits are equal. Main law: `empty_exact`. Assumes nothing.
+use Rattle.std.specs.Prelude.{Ok}
 use Prim.Native.Nat.{ℕ, ◌+◌, ◌-◌, ◌*◌, ◌/◌, ◌%◌, ◌<◌, ◌≤◌}
 use mathlib.Core.Path.{◌≡◌, refl, sym, ap, subst, ◌∙◌}
 use mathlib.Core.Bool.{true, false, not}
@@ -12,7 +13,6 @@ use Rattle.lists.proofs.CaseLaws.{cases, lt_or_le}
 use Rattle.lists.proofs.CountLaws.{count_none}
 use Rattle.lists.proofs.PartLaws.{joined_ext}
 use Rattle.lists.proofs.RowLaws.{count_pass}
-use Rattle.refusal.specs.declared.Answer.TheVariants.{Done}
 use Rattle.ports.specs.declared.size.Size.{Size}
 use Rattle.ports.specs.Block.{tile_count}
 use Rattle.ports.specs.Lengths.{settings_length}
@@ -111,8 +111,8 @@ unfolding block_differs differ_at
 same_no_rows settings n = count_none (block_differs settings settings) (places_per_tile * n) (λ x l.
     let v = value_at (settings_at settings (x / places_per_tile)) (x % places_per_tile) in ap not (eq-eqb v v refl))
 
-module _ (S : Size) (table first second : List ℕ) (room : ℕ) (done : read_answer S table first room ≡ Done)
-    (done' : read_answer S table second room ≡ Done) where
+module _ (S : Size) (table first second : List ℕ) (room : ℕ) (done : read_answer S table first room ≡ (Ok tt))
+    (done' : read_answer S table second room ≡ (Ok tt)) where
   abbrev old : List ℕ
   old = decoded table (tiles_of first) (tile_count S)
 

@@ -1,5 +1,8 @@
 -- The answers of comparing, ground by ground, each where the grounds before it have passed, and the work room after any answer. Main laws:
 -- `rows_told`, `bits_rows`, `compare_bits`; `compare_cleared`. Assumes nothing.
+use Rattle.refusal.specs.Grounds.{answer_number}
+use Rattle.refusal.specs.declared.Refusal.{Refusal}
+use Rattle.std.specs.Prelude.{Result, Ok, Err}
 use Prim.Native.Nat.{ℕ, ◌*◌, ◌<◌, ◌≤◌}
 use mathlib.Core.Path.{◌≡◌, refl, sym, ap, ◌∙◌}
 use mathlib.Core.Logic.{◌≢◌}
@@ -20,18 +23,16 @@ use Rattle.config.specs.Blocks.{fault_place, decoded, tiles_of}
 use Rattle.compare.specs.Places.{row_length}
 use Rattle.compare.specs.Rows.{difference_count}
 use Rattle.compare.specs.Lengths.{same_size}
-use Rattle.compare.specs.Entry.{compared_number, rows_answer, bits_answer, compare_answer}
-use Rattle.compare.specs.declared.Compared.{Compared}
-use Rattle.compare.specs.declared.Compared.TheVariants.{Rows, Refused}
+use Rattle.compare.specs.Entry.{rows_answer, bits_answer, compare_answer}
 
 -- ---- ground 15 and the yes
 
 module _ (old new : List ℕ) (n list rows : ℕ) (e : rows ≡ difference_count old new n) where
-  pub rows_short : list < row_length * rows → Refused (ListTooShort rows) ≡ rows_answer old new n list
+  pub rows_short : list < row_length * rows → Err (ListTooShort rows) ≡ rows_answer old new n list
   unfolding rows_answer
   rows_short l = rw (← e, lt-leb (row_length * rows) list l)
 
-  pub rows_told : row_length * rows ≤ list → Rows rows ≡ rows_answer old new n list
+  pub rows_told : row_length * rows ≤ list → Ok rows ≡ rows_answer old new n list
   unfolding rows_answer
   rows_told l = rw (← e, le-leb (row_length * rows) list l)
 
@@ -39,19 +40,19 @@ module _ (old new : List ℕ) (n list rows : ℕ) (e : rows ≡ difference_count
 
 module _ (S : Size) (table first second : List ℕ) (list : ℕ) where
   pub bits_table : (p : ℕ) → p ≡ faulty_part logic_tile table → p ≢ part_count logic_tile table
-      → Refused (Table p) ≡ bits_answer S table (tiles_of first) (tiles_of second) list
+      → Err (Table p) ≡ bits_answer S table (tiles_of first) (tiles_of second) list
   unfolding bits_answer
   bits_table p e n = rw (← e, ne_eqb p (part_count logic_tile table) n)
 
   module _ (pass : table_ok logic_tile table ≡ true) where
     pub bits_first : (k : ℕ) → k ≡ fault_place table (tiles_of first) (tile_count S) → k < logic_tile.positions * tile_count S
-        → Refused (Undecodable k) ≡ bits_answer S table (tiles_of first) (tiles_of second) list
+        → Err (Undecodable k) ≡ bits_answer S table (tiles_of first) (tiles_of second) list
     unfolding bits_answer
     bits_first k e l = rw (pass, ← e, lt-leb (logic_tile.positions * tile_count S) k l)
 
     module _ (clean : logic_tile.positions * tile_count S ≤ fault_place table (tiles_of first) (tile_count S)) where
       pub bits_second : (k : ℕ) → k ≡ fault_place table (tiles_of second) (tile_count S) → k < logic_tile.positions * tile_count S
-          → Refused (Undecodable k) ≡ bits_answer S table (tiles_of first) (tiles_of second) list
+          → Err (Undecodable k) ≡ bits_answer S table (tiles_of first) (tiles_of second) list
       unfolding bits_answer
       bits_second k e l = rw (
         pass,
@@ -73,25 +74,25 @@ module _ (S : Size) (table first second : List ℕ) (list : ℕ) where
 -- ---- grounds 1, 14 and 2
 
 module _ (A B : Size) (table first second : List ℕ) (lengths : Bool) (list : ℕ) where
-  abbrev told : Compared
+  abbrev told : Result ℕ Refusal
   told = compare_answer A B table (tiles_of first) (tiles_of second) lengths list
 
-  pub compare_first_size : allowed A ≡ false → Refused WrongSize ≡ told
+  pub compare_first_size : allowed A ≡ false → Err WrongSize ≡ told
   unfolding compare_answer
   compare_first_size e = rw e
 
   module _ (a : allowed A ≡ true) where
-    pub compare_second_size : allowed B ≡ false → Refused WrongSize ≡ told
+    pub compare_second_size : allowed B ≡ false → Err WrongSize ≡ told
     unfolding compare_answer
     compare_second_size e = rw (a, e)
 
     module _ (b : allowed B ≡ true) where
-      pub compare_differ : same_size A B ≡ false → Refused SizesDiffer ≡ told
+      pub compare_differ : same_size A B ≡ false → Err SizesDiffer ≡ told
       unfolding compare_answer
       compare_differ e = rw (a, b, e)
 
       module _ (same : same_size A B ≡ true) where
-        pub compare_length : lengths ≡ false → Refused WrongLength ≡ told
+        pub compare_length : lengths ≡ false → Err WrongLength ≡ told
         unfolding compare_answer
         compare_length e = rw (a, b, same, e)
 
@@ -102,8 +103,8 @@ module _ (A B : Size) (table first second : List ℕ) (lengths : Bool) (list : �
 -- ---- the work room
 
 -- "the work room is zeroed, on a yes too, but untouched under 1 and 2"
-abbrev Zeroed : Compared → Type 0
-Zeroed r = (old : List ℕ) → zeros (length old) ≡ work_room (compared_number r) old
+abbrev Zeroed : Result ℕ Refusal → Type 0
+Zeroed r = (old : List ℕ) → zeros (length old) ≡ work_room (answer_number r) old
 
 -- grounds 3, 4, 15 and a yes leave it zeroed
 compare_room : (S : Size) (table first second : List ℕ) (list : ℕ) → Zeroed (bits_answer S table (tiles_of first) (tiles_of second) list)
@@ -121,7 +122,7 @@ compare_room S table first second list =
     new = decoded table (tiles_of second) (tile_count S)
 
 -- a slice of it, whose old contents were cleared after the answer
-pub compare_cleared : (S : Size) (table first second : List ℕ) (list : ℕ) (r : Compared) → r ≡ bits_answer S table (tiles_of first) (tiles_of second) list
-    → (old last cleared : List ℕ) → length last ≡ length old → cleared ≡ zeros (length last) → cleared ≡ work_room (compared_number r) old
+pub compare_cleared : (S : Size) (table first second : List ℕ) (list : ℕ) (r : Result ℕ Refusal) → r ≡ bits_answer S table (tiles_of first) (tiles_of second) list
+    → (old last cleared : List ℕ) → length last ≡ length old → cleared ≡ zeros (length last) → cleared ≡ work_room (answer_number r) old
 compare_cleared S table first second list r e old last cleared long is =
-    is ∙ ap zeros long ∙ compare_room S table first second list old ∙ ap (λ (a : Compared). work_room (compared_number a) old) (sym e)
+    is ∙ ap zeros long ∙ compare_room S table first second list old ∙ ap (λ (a : Result ℕ Refusal). work_room (answer_number a) old) (sym e)

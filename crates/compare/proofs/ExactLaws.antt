@@ -1,4 +1,5 @@
 -- What an answer of `compare` says fits one answer, and one content of the lent list, only. Main law: `compare_exact_lem`. Assumes nothing.
+use Rattle.std.specs.Prelude.{Result, Ok, Err}
 use Prim.Native.Nat.{ℕ, ◌*◌, ◌<◌, ◌≤◌}
 use mathlib.Core.Path.{◌≡◌, sym, subst, ◌∙◌}
 use mathlib.Core.Bool.{true}
@@ -28,8 +29,6 @@ use Rattle.compare.specs.Lengths.{same_size, compare_exact}
 use Rattle.compare.specs.declared.lengths.CompareLent.{CompareLent}
 use Rattle.compare.specs.Entry.{rows_answer, bits_answer, compare_answer}
 use Rattle.compare.specs.Meaning.{Alike, BothRead, ListsDifferences, CompareNo, wrong_first_size, wrong_second_size, sizes_differ, wrong_length, broken, first_undecodable, second_undecodable, too_short, Compares, CompareSays}
-use Rattle.compare.specs.declared.Compared.{Compared}
-use Rattle.compare.specs.declared.Compared.TheVariants.{Rows, Refused}
 use Rattle.compare.proofs.LengthLaws.{same_size_exact, compare_long_exact}
 use Rattle.compare.proofs.DifferenceLaws.{differences_listed}
 use Rattle.compare.proofs.EntryLaws.{rows_short, rows_told, bits_table, bits_first, bits_second, bits_rows, compare_first_size, compare_second_size, compare_differ, compare_length, compare_bits}
@@ -56,7 +55,7 @@ module _ (A B : Size) (table first second : List ℕ) (lent : CompareLent) where
   new = decoded table (tiles_of second) n
 
   -- the answer, `list` being the length lent
-  abbrev told : ℕ → Compared
+  abbrev told : ℕ → Result ℕ Refusal
   told list = compare_answer A B table (tiles_of first) (tiles_of second) (compare_exact A lent) list
 
   -- ---- grounds 1, 14 and 2 are not given
@@ -106,7 +105,7 @@ module _ (A B : Size) (table first second : List ℕ) (lent : CompareLent) where
 
   -- ---- an answer that says so is the one that is computed
 
-  no_told : (list : ℕ) {refusal : Refusal} → CompareNo A B table first second lent list refusal → Refused refusal ≡ told list
+  no_told : (list : ℕ) {refusal : Refusal} → CompareNo A B table first second lent list refusal → Err refusal ≡ told list
   no_told list (wrong_first_size none) =
       compare_first_size A B table first second (compare_exact A lent) list (test_false (allowed A) (allowed_exact A).0 none)
   no_told list (wrong_second_size a none) =
@@ -128,22 +127,22 @@ module _ (A B : Size) (table first second : List ℕ) (lent : CompareLent) where
       bits_second A table first second list (rules_pass rules) (clean rules first decodable) place e.0 e.1 ∙ alike_told alike list
   no_told list (too_short rows u v full read L short) = rows_short old new n list rows (count_is read L) short ∙ read_told read list
 
-  yes_told : {after : List ℕ} {rows : ℕ} (list : ℕ) → length after ≡ list → Compares A B table first second lent after rows → Rows rows ≡ told list
+  yes_told : {after : List ℕ} {rows : ℕ} (list : ℕ) → length after ≡ list → Compares A B table first second lent after rows → Ok rows ≡ told list
   yes_told list long y =
       rows_told old new n list _ (count_is y.both_read y.listed) (let l = y.listed.room in omega arith) ∙ read_told y.both_read list
 
-  says_told : (before after : List ℕ) (r : Compared) → CompareSays A B table first second lent before after r → r ≡ told (length before)
-  says_told before after (Rows rows) says = yes_told (length before) says.0 says.1
-  says_told before after (Refused refusal) says = no_told (length before) says.1
+  says_told : (before after : List ℕ) (r : Result ℕ Refusal) → CompareSays A B table first second lent before after r → r ≡ told (length before)
+  says_told before after (Ok rows) says = yes_told (length before) says.0 says.1
+  says_told before after (Err refusal) says = no_told (length before) says.1
 
   -- one answer, and one list, only
-  pub compare_exact_lem : (before a b : List ℕ) (r q : Compared) → CompareSays A B table first second lent before a r
+  pub compare_exact_lem : (before a b : List ℕ) (r q : Result ℕ Refusal) → CompareSays A B table first second lent before a r
       → CompareSays A B table first second lent before b q → (r ≡ q) × (a ≡ b)
   compare_exact_lem before a b r q x y =
       let e : r ≡ q = says_told before a r x ∙ sym (says_told before b q y) in
       (e, same r x (subst (CompareSays A B table first second lent before b) (sym e) y))
     where
-      same : (r : Compared) → CompareSays A B table first second lent before a r → CompareSays A B table first second lent before b r → a ≡ b
-      same (Rows rows) x y =
+      same : (r : Result ℕ Refusal) → CompareSays A B table first second lent before a r → CompareSays A B table first second lent before b r → a ≡ b
+      same (Ok rows) x y =
           listed_unique (listed_decoded x.1.both_read x.1.listed) (listed_decoded y.1.both_read y.1.listed) (omega arith) (x.0 ∙ sym y.0)
-      same (Refused refusal) x y = x.0 ∙ sym y.0
+      same (Err refusal) x y = x.0 ∙ sym y.0

@@ -1,4 +1,6 @@
 -- Every answer of `compare` says what specs/Meaning.antt has it say. Main law: `compare_says`. Assumes nothing.
+use Rattle.refusal.specs.Grounds.{answer_number}
+use Rattle.std.specs.Prelude.{Result, Ok, Err}
 use Prim.Native.Nat.{ℕ, ◌*◌, ◌≤◌}
 use mathlib.Core.Path.{◌≡◌, refl, sym, subst}
 use mathlib.Core.List.{List}
@@ -10,7 +12,6 @@ use Rattle.lists.proofs.CaseLaws.{clash}
 use Rattle.refusal.specs.Memory.{output}
 use Rattle.refusal.specs.declared.Refusal.{Refusal}
 use Rattle.refusal.specs.declared.Refusal.TheVariants.{ListTooShort}
-use Rattle.refusal.specs.declared.Answer.TheVariants.{Done}
 use Rattle.refusal.proofs.GroundsLaws.{unless_cases}
 use Rattle.refusal.proofs.MemoryLaws.{output_refused}
 use Rattle.ports.specs.declared.size.Size.{Size}
@@ -31,10 +32,8 @@ use Rattle.compare.specs.Places.{row_length}
 use Rattle.compare.specs.Rows.{difference_count}
 use Rattle.compare.specs.Lengths.{same_size, compare_lent, compare_exact}
 use Rattle.compare.specs.declared.lengths.CompareLent.{CompareLent}
-use Rattle.compare.specs.Entry.{compared_number, rows_answer, rows_list, bits_answer, compare_answer, compared_list}
+use Rattle.compare.specs.Entry.{rows_answer, rows_list, bits_answer, compare_answer, compared_list}
 use Rattle.compare.specs.Meaning.{Alike, BothRead, ListsDifferences, CompareNo, wrong_first_size, wrong_second_size, sizes_differ, wrong_length, broken, first_undecodable, second_undecodable, too_short, CompareSays}
-use Rattle.compare.specs.declared.Compared.{Compared}
-use Rattle.compare.specs.declared.Compared.TheVariants.{Refused}
 use Rattle.compare.proofs.LengthLaws.{same_size_exact, compare_long_exact}
 use Rattle.compare.proofs.DifferenceLaws.{differences_listed, differences_length}
 use Rattle.compare.proofs.EmptyLaws.{empty_exact}
@@ -48,10 +47,10 @@ module _ (A B : Size) (table first second before after : List ℕ) (list : List 
   filled = compared_list A table (tiles_of first) (tiles_of second) (length list)
 
   -- what an answer says, with the list that it leaves
-  abbrev Says : Compared → Type 0
-  Says r = CompareSays A B table first second lent list (output (compared_number r) list filled) r
+  abbrev Says : Result ℕ Refusal → Type 0
+  Says r = CompareSays A B table first second lent list (output (answer_number r) list filled) r
 
-  refused : (r : Refusal) → CompareNo A B table first second lent (length list) r → Says (Refused r)
+  refused : (r : Refusal) → CompareNo A B table first second lent (length list) r → Says (Err r)
   refused r told = (output_refused list filled r, told)
 
   -- ---- both blocks are read
@@ -78,7 +77,7 @@ module _ (A B : Size) (table first second before after : List ℕ) (list : List 
       listed m fits =
           differences_listed table (tiles_of first) (tiles_of second) old new (tile_count A) rules (reads first clean) (reads second clean') m fits
 
-      first_done : read_answer A table first (settings_total A) ≡ Done
+      first_done : read_answer A table first (settings_total A) ≡ (Ok tt)
       first_done = sym (read_done A table first (settings_total A) (record {
         size = alike.first_size;
         lengths = record { table_long = alike.lengths.table_long; bits_long = alike.lengths.first_long; settings_long = refl };
@@ -86,7 +85,7 @@ module _ (A B : Size) (table first second before after : List ℕ) (list : List 
       })
           (fault_place table (tiles_of first) (tile_count A)) refl clean)
 
-      second_done : read_answer A table second (settings_total A) ≡ Done
+      second_done : read_answer A table second (settings_total A) ≡ (Ok tt)
       second_done = sym (read_done A table second (settings_total A) (record {
         size = alike.first_size;
         lengths = record { table_long = alike.lengths.table_long; bits_long = alike.lengths.second_long; settings_long = refl };
@@ -141,6 +140,6 @@ module _ (A B : Size) (table first second before after : List ℕ) (list : List 
       (λ l. bits_mean (record { first_size = one; second_size = other; same_size = same; lengths = (compare_long_exact A lent).0 l })))))
 
   -- the same of what `compare` promises to answer, and of the list that it promises to leave
-  pub compare_says : (r : Compared) → r ≡ compare_answer A B table (tiles_of first) (tiles_of second) (compare_exact A lent) (length list)
-      → (next : List ℕ) → next ≡ output (compared_number r) list filled → CompareSays A B table first second lent list next r
+  pub compare_says : (r : Result ℕ Refusal) → r ≡ compare_answer A B table (tiles_of first) (tiles_of second) (compare_exact A lent) (length list)
+      → (next : List ℕ) → next ≡ output (answer_number r) list filled → CompareSays A B table first second lent list next r
   compare_says r e next q = subst (λ (x : List ℕ). CompareSays A B table first second lent list x r) (sym q) (subst Says (sym e) compare_means)

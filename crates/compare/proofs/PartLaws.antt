@@ -1,5 +1,6 @@
 -- Asking for a tile: one law for each way through `part_answer`, what a yes has passed, and the part that is handed back. Main laws: `part_done`,
 -- `part_passed`, `part_is`. Assumes nothing.
+use Rattle.std.specs.Prelude.{Result, Ok, Err}
 use Prim.Native.Nat.{ℕ, ◌+◌, ◌-◌, ◌*◌, ◌<◌, ◌≤◌}
 use mathlib.Core.Path.{◌≡◌, sym, ap, ◌∙◌}
 use mathlib.Core.Bool.{true, false}
@@ -12,8 +13,6 @@ use Rattle.lists.proofs.PartLaws.{part_size}
 use Rattle.refusal.specs.Grounds.{answer_number}
 use Rattle.refusal.specs.declared.Refusal.{Refusal}
 use Rattle.refusal.specs.declared.Refusal.TheVariants.{WrongSize, WrongLength, SizesDiffer, OutOfRange}
-use Rattle.refusal.specs.declared.Answer.{Answer}
-use Rattle.refusal.specs.declared.Answer.TheVariants.{Done, Refused}
 use Rattle.refusal.proofs.GroundsLaws.{unless_passed}
 use Rattle.ports.specs.declared.size.Size.{Size}
 use Rattle.ports.specs.Block.{Allowed, tile_count, allowed}
@@ -26,34 +25,34 @@ use Rattle.compare.specs.Entry.{part_answer, chosen, part_of}
 use Rattle.compare.proofs.LengthLaws.{part_long_exact}
 
 module _ (A B : Size) (first second tile : ℕ) where
-  abbrev told : Answer
+  abbrev told : Result (Unit {0}) Refusal
   told = part_answer A B first second tile
 
-  pub part_first_size : allowed A ≡ false → Refused WrongSize ≡ told
+  pub part_first_size : allowed A ≡ false → Err WrongSize ≡ told
   unfolding part_answer
   part_first_size e = rw e
 
   module _ (a : allowed A ≡ true) where
-    pub part_second_size : allowed B ≡ false → Refused WrongSize ≡ told
+    pub part_second_size : allowed B ≡ false → Err WrongSize ≡ told
     unfolding part_answer
     part_second_size e = rw (a, e)
 
     module _ (b : allowed B ≡ true) where
-      pub part_differ : same_size A B ≡ false → Refused SizesDiffer ≡ told
+      pub part_differ : same_size A B ≡ false → Err SizesDiffer ≡ told
       unfolding part_answer
       part_differ e = rw (a, b, e)
 
       module _ (same : same_size A B ≡ true) where
-        pub part_length : part_exact A first second ≡ false → Refused WrongLength ≡ told
+        pub part_length : part_exact A first second ≡ false → Err WrongLength ≡ told
         unfolding part_answer
         part_length e = rw (a, b, same, e)
 
         module _ (long : part_exact A first second ≡ true) where
-          pub part_past : tile_count A ≤ tile → Refused (OutOfRange tile) ≡ told
+          pub part_past : tile_count A ≤ tile → Err (OutOfRange tile) ≡ told
           unfolding part_answer
           part_past l = rw (a, b, same, long, le-ltb tile (tile_count A) l)
 
-          pub part_done : tile < tile_count A → Done ≡ told
+          pub part_done : tile < tile_count A → (Ok tt) ≡ told
           unfolding part_answer
           part_done l = rw (a, b, same, long, lt-ltb tile (tile_count A) l)
 
@@ -64,34 +63,34 @@ pub record PartPassed (A : Size) (first second tile : ℕ) : Type 0 where
   pub second_long : second ≡ bits_length A
   pub within : tile < tile_count A
 
-pub part_passed : (A B : Size) (first second tile : ℕ) → part_answer A B first second tile ≡ Done → PartPassed A first second tile
+pub part_passed : (A B : Size) (first second tile : ℕ) → part_answer A B first second tile ≡ (Ok tt) → PartPassed A first second tile
 unfolding part_answer
 part_passed A B first second tile e =
     let other : (n : ℕ) → (◌≡◌ {A = ℕ} (n + 1) 0 → ⊥) = λ n q. omega arith in
-    let (a, p) = unless_passed answer_number (allowed A) (Refused WrongSize) _ Done (other 0) e in
-    let (b, q) = unless_passed answer_number (allowed B) (Refused WrongSize) _ Done (other 0) p in
-    let (c, r) = unless_passed answer_number (same_size A B) (Refused SizesDiffer) _ Done (other 13) q in
-    let (d, s) = unless_passed answer_number (part_exact A first second) (Refused WrongLength) _ Done (other 1) r in
-    let (l, z) = unless_passed answer_number (ltb tile (tile_count A)) (Refused (OutOfRange tile)) _ Done (other 19) s in
+    let (a, p) = unless_passed answer_number (allowed A) (Err WrongSize) _ (Ok tt) (other 0) e in
+    let (b, q) = unless_passed answer_number (allowed B) (Err WrongSize) _ (Ok tt) (other 0) p in
+    let (c, r) = unless_passed answer_number (same_size A B) (Err SizesDiffer) _ (Ok tt) (other 13) q in
+    let (d, s) = unless_passed answer_number (part_exact A first second) (Err WrongLength) _ (Ok tt) (other 1) r in
+    let (l, z) = unless_passed answer_number (ltb tile (tile_count A)) (Err (OutOfRange tile)) _ (Ok tt) (other 19) s in
     let long = (part_long_exact A first second).0 d in
     record { size = (allowed_exact A).0 a; first_long = long.0; second_long = long.1; within = ltb-true tile (tile_count A) l }
 
 -- so the tile's numbers lie in each block
-pub first_fits : (A B : Size) (first second tile : ℕ) → part_answer A B first second tile ≡ Done → tile_numbers * tile + tile_numbers ≤ first
+pub first_fits : (A B : Size) (first second tile : ℕ) → part_answer A B first second tile ≡ (Ok tt) → tile_numbers * tile + tile_numbers ≤ first
 first_fits A B first second tile e = let passed = part_passed A B first second tile e in omega (arith, passed.first_long, passed.within)
 
-pub second_fits : (A B : Size) (first second tile : ℕ) → part_answer A B first second tile ≡ Done → tile_numbers * tile + tile_numbers ≤ second
+pub second_fits : (A B : Size) (first second tile : ℕ) → part_answer A B first second tile ≡ (Ok tt) → tile_numbers * tile + tile_numbers ≤ second
 second_fits A B first second tile e = let passed = part_passed A B first second tile e in omega (arith, passed.second_long, passed.within)
 
 -- ---- the part
 
-module _ (answer : Answer) (side : Side) (first second : List ℕ) (tile : ℕ) where
-  pub part_none : (told : Answer) (r : Refusal) → told ≡ Refused r → told ≡ answer → [] ≡ part_of answer side first second tile
-  part_none told r q e = ap (λ (x : Answer). part_of x side first second tile) (sym q ∙ e)
+module _ (answer : Result (Unit {0}) Refusal) (side : Side) (first second : List ℕ) (tile : ℕ) where
+  pub part_none : (told : Result (Unit {0}) Refusal) (r : Refusal) → told ≡ Err r → told ≡ answer → [] ≡ part_of answer side first second tile
+  part_none told r q e = ap (λ (x : Result (Unit {0}) Refusal). part_of x side first second tile) (sym q ∙ e)
 
   -- the part as the code takes it out of a block
-  pub part_is : (block : List ℕ) → answer ≡ Done → block ≡ chosen side first second
+  pub part_is : (block : List ℕ) → answer ≡ (Ok tt) → block ≡ chosen side first second
       → take (tile_numbers * tile + tile_numbers - tile_numbers * tile) (drop (tile_numbers * tile) block) ≡ part_of answer side first second tile
   part_is block e s =
       ap (λ (x : ℕ). take x (drop (tile_numbers * tile) block)) (part_size tile_numbers tile) ∙ ap (λ (x : List ℕ). bits_at x tile) s
-      ∙ ap (λ (x : Answer). part_of x side first second tile) (sym e)
+      ∙ ap (λ (x : Result (Unit {0}) Refusal). part_of x side first second tile) (sym e)

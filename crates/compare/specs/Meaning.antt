@@ -1,6 +1,6 @@
 -- What each answer of `compare` says, in the paper's words. proofs/MeaningLaws.antt shows it of every answer, so a reader has to believe only this and
 -- the definitions that it names, and not how the rows are computed.
-use Rattle.std.specs.Prelude.{ℕ, ◌*◌, ◌<◌, ◌≡◌, ◌↔◌, List, length}
+use Rattle.std.specs.Prelude.{ℕ, ◌*◌, ◌<◌, ◌≡◌, ◌↔◌, List, length, Result, Ok, Err}
 use Rattle.lists.specs.Listing.{Lists}
 use Rattle.refusal.specs.declared.Refusal.{Refusal}
 use Rattle.refusal.specs.declared.Refusal.TheVariants.{WrongSize, WrongLength, Table, Undecodable, SizesDiffer, ListTooShort}
@@ -15,8 +15,6 @@ use Rattle.compare.specs.Difference.{DiffersIn}
 use Rattle.compare.specs.Places.{row_length}
 use Rattle.compare.specs.Lengths.{SameSize, CompareLong}
 use Rattle.compare.specs.declared.lengths.CompareLent.{CompareLent}
-use Rattle.compare.specs.declared.Compared.{Compared}
-use Rattle.compare.specs.declared.Compared.TheVariants.{Rows, Refused}
 
 module _ (A B : Size) (table first second : List ℕ) (lent : CompareLent) where
   -- none of grounds 1, 14 and 2
@@ -64,6 +62,6 @@ module _ (A B : Size) (table first second : List ℕ) (lent : CompareLent) where
     pub empty : (rows ≡ 0) ↔ (first ≡ second)
 
   -- `before` and `after` are the lent list, which keeps its length; "On a refusal the outputs keep their old contents"
-  abbrev pub CompareSays : (before after : List ℕ) → Compared → Type 0
-  CompareSays before after (Rows rows) = (length after ≡ length before) × Compares after rows
-  CompareSays before after (Refused refusal) = (after ≡ before) × CompareNo (length before) refusal
+  abbrev pub CompareSays : (before after : List ℕ) → Result ℕ Refusal → Type 0
+  CompareSays before after (Ok rows) = (length after ≡ length before) × Compares after rows
+  CompareSays before after (Err refusal) = (after ≡ before) × CompareNo (length before) refusal

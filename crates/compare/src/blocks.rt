@@ -1,4 +1,5 @@
 // The differences of two blocks of one size, tile by tile, and the grounds that look at table and bits. The table is checked once for both.
+ghost use Rattle.refusal.specs.Grounds.{answer_number};
 ghost use Rattle.std.specs.Prelude.{◌≡◌, ◌*◌, ◌≤◌, length};
 ghost use Rattle.std.proofs.lemmas.List.Edits.{sets};
 ghost use Rattle.refusal.specs.Memory.{output};
@@ -8,9 +9,8 @@ ghost use Rattle.config.specs.Blocks.{tiles_of};
 ghost use Rattle.compare.specs.Places.{row_length};
 ghost use Rattle.compare.specs.Rows.{difference_count, differences};
 ghost use Rattle.compare.specs.Lengths.{compare_lent, CompareLong};
-ghost use Rattle.compare.specs.Entry.{compared_number, rows_answer, rows_list, bits_answer, compared_list};
+ghost use Rattle.compare.specs.Entry.{rows_answer, rows_list, bits_answer, compared_list};
 
-use crate::Compared;
 use crate::numbers::ROW_LENGTH;
 use crate::tiles::{count_tile, list_tile};
 use ports::lengths::{POSITIONS, SETTINGS_LENGTH};
@@ -52,20 +52,20 @@ fn list_block(before: &[u16], after: &[u16], n: usize, list: &mut [u32]) -> usiz
 }
 
 // Ground 15 of settings that were read, and the list, whose rest is zeroed.
-fn list_settings(before: &[u16], after: &[u16], n: usize, list: &mut [u32]) -> Compared
+fn list_settings(before: &[u16], after: &[u16], n: usize, list: &mut [u32]) -> Result<u32, Refusal>
     requires { (n ≤ 64) × (length before.now ≡ settings_length * n) × (length after.now ≡ settings_length * n) }
     ensures answer { result ≡ rows_answer before.now after.now n (length list.old) }
-    ensures list { list.new ≡ output (compared_number result) list.old
+    ensures list { list.new ≡ output (answer_number result) list.old
         (rows_list before.now after.now n (length list.old)) }
 {
     let len = list.len();
     let rows = count_block(before, after, n);
     if len < ROW_LENGTH * rows {
-        return Compared::Refused(Refusal::ListTooShort(rows as u32));
+        return Err(Refusal::ListTooShort(rows as u32));
     }
     let end = list_block(before, after, n, list);
     lists::clear_numbers(&mut list[end..len]);
-    Compared::Rows(rows as u32)
+    Ok(rows as u32)
 }
 
 // Grounds 3, 4 and 15 of two blocks whose sizes and lengths are exact, and the list.
@@ -77,12 +77,12 @@ pub fn compare_bits(
     list: &mut [u32],
     before: &mut [u16],
     after: &mut [u16],
-) -> Compared
+) -> Result<u32, Refusal>
     requires allowed { Allowed s }
     requires compare_long { CompareLong s (compare_lent table.now first.now second.now before.old after.old) }
     ensures answer { result ≡ bits_answer s table.now (tiles_of first.now) (tiles_of second.now)
         (length list.old) }
-    ensures list { list.new ≡ output (compared_number result) list.old
+    ensures list { list.new ≡ output (answer_number result) list.old
         (compared_list s table.now (tiles_of first.now) (tiles_of second.now) (length list.old)) }
 {
     let n = (s.h * s.w) as usize;
@@ -90,15 +90,15 @@ pub fn compare_bits(
     let part = routing::rules::check_table(table, &mut own);
     let parts = 2 + routing::table::group_count(table);
     if part != parts {
-        return Compared::Refused(Refusal::Table(part as u32));
+        return Err(Refusal::Table(part as u32));
     }
     let one = config::blocks::read_block(table, &own, first, before, n);
     if one < POSITIONS * n {
-        return Compared::Refused(Refusal::Undecodable(one as u32));
+        return Err(Refusal::Undecodable(one as u32));
     }
     let other = config::blocks::read_block(table, &own, second, after, n);
     if other < POSITIONS * n {
-        return Compared::Refused(Refusal::Undecodable(other as u32));
+        return Err(Refusal::Undecodable(other as u32));
     }
     list_settings(before, after, n, list)
 }

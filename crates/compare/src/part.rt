@@ -5,7 +5,7 @@ ghost use Rattle.compare.specs.Entry.{part_answer, part_of};
 use crate::lengths::{is_part_exact, is_same_size};
 use ports::lengths::TILE_NUMBERS;
 use ports::size::{Size, is_allowed, tile_count};
-use refusal::{Answer, Refusal};
+use refusal::Refusal;
 
 // Which of two lent blocks.
 #[derive(Clone, Copy)]
@@ -15,25 +15,25 @@ pub enum Side {
 }
 
 // Whether there is such a part, from the lengths alone. Grounds 1, 14, 2, 20, in this order (`part_answer`).
-pub fn part_answer(a: Size, b: Size, first: usize, second: usize, tile: u32) -> Answer
+pub fn part_answer(a: Size, b: Size, first: usize, second: usize, tile: u32) -> Result<(), Refusal>
     ensures { result ≡ part_answer a b first second tile }
 {
     if !is_allowed(a) {
-        return Answer::Refused(Refusal::WrongSize);
+        return Err(Refusal::WrongSize);
     }
     if !is_allowed(b) {
-        return Answer::Refused(Refusal::WrongSize);
+        return Err(Refusal::WrongSize);
     }
     if !is_same_size(a, b) {
-        return Answer::Refused(Refusal::SizesDiffer);
+        return Err(Refusal::SizesDiffer);
     }
     if !is_part_exact(a, first, second) {
-        return Answer::Refused(Refusal::WrongLength);
+        return Err(Refusal::WrongLength);
     }
     if tile_count(a) <= tile as usize {
-        return Answer::Refused(Refusal::OutOfRange(tile));
+        return Err(Refusal::OutOfRange(tile));
     }
-    Answer::Done
+    Ok(())
 }
 
 // The tile's sixteen numbers as a part of the block asked for, whether they can be decoded or not; empty on a no, whose ground is `part_answer`'s.
@@ -51,7 +51,7 @@ pub fn tile_part<'a>(
         first.now second.now tile }
 {
     let answer = part_answer(a, b, first.len(), second.len(), tile);
-    let Answer::Done = answer else {
+    let Ok(()) = answer else {
         return &first[0..0];
     };
     let from = TILE_NUMBERS * (tile as usize);

@@ -1,5 +1,6 @@
 -- The grounds in their orders: one law for each way through `read_answer` and `write_answer`. Main laws: `read_done`, `write_done`;
 -- `lengths_exact`: the test of the lengths and the facts. Assumes nothing.
+use Rattle.std.specs.Prelude.{Ok, Err}
 use mathlib.Core.Path.{◌≡◌}
 use mathlib.Core.Logic.{◌≢◌, ◌↔◌}
 use mathlib.Core.Bool.{true, false}
@@ -9,7 +10,6 @@ use borrow.Author.Tests.{eq-eqb, ne_eqb, le-leb, lt-leb, eqb-true}
 use lib.ListN.{length}
 use Rattle.lists.proofs.CaseLaws.{equal_and, and_equal}
 use Rattle.refusal.specs.declared.Refusal.TheVariants.{WrongSize, WrongLength, Table, Undecodable, NoSuchSettings}
-use Rattle.refusal.specs.declared.Answer.TheVariants.{Done, Refused}
 use Rattle.ports.specs.declared.size.Size.{Size}
 use Rattle.ports.specs.Block.{Allowed, tile_count, allowed}
 use Rattle.ports.proofs.BlockLaws.{allowed_true}
@@ -44,23 +44,23 @@ table_true S table bits settings C = (table_exact logic_tile table C.lengths.tab
 -- ---- reading, ground by ground
 
 module _ (S : Size) (table bits : List ℕ) (settings : ℕ) where
-  pub read_size : allowed S ≡ false → Refused WrongSize ≡ read_answer S table bits settings
+  pub read_size : allowed S ≡ false → Err WrongSize ≡ read_answer S table bits settings
   unfolding read_answer
   read_size e = rw e
 
   module _ (s : Allowed S) where
-    pub read_length : lengths_ok S (length table) (length bits) settings ≡ false → Refused WrongLength ≡ read_answer S table bits settings
+    pub read_length : lengths_ok S (length table) (length bits) settings ≡ false → Err WrongLength ≡ read_answer S table bits settings
     unfolding read_answer
     read_length e = rw (allowed_true S s, e)
 
     pub read_table : ExactLengths S (length table) (length bits) settings
-        → (p : ℕ) → p ≡ faulty_part logic_tile table → p ≢ part_count logic_tile table → Refused (Table p) ≡ read_answer S table bits settings
+        → (p : ℕ) → p ≡ faulty_part logic_tile table → p ≢ part_count logic_tile table → Err (Table p) ≡ read_answer S table bits settings
     unfolding read_answer
     read_table l p e n =
         rw (allowed_true S s, lengths_true S (length table) (length bits) settings l, ← e, ne_eqb p (part_count logic_tile table) n)
 
   module _ (C : Checked S table (length bits) settings) (k : ℕ) (e : k ≡ fault_place table (tiles_of bits) (tile_count S)) where
-    pub read_undecodable : k < logic_tile.positions * tile_count S → Refused (Undecodable k) ≡ read_answer S table bits settings
+    pub read_undecodable : k < logic_tile.positions * tile_count S → Err (Undecodable k) ≡ read_answer S table bits settings
     unfolding read_answer
     read_undecodable l =
         rw (
@@ -71,7 +71,7 @@ module _ (S : Size) (table bits : List ℕ) (settings : ℕ) where
           lt-leb (logic_tile.positions * tile_count S) k l,
         )
 
-    pub read_done : logic_tile.positions * tile_count S ≤ k → Done ≡ read_answer S table bits settings
+    pub read_done : logic_tile.positions * tile_count S ≤ k → (Ok tt) ≡ read_answer S table bits settings
     unfolding read_answer
     read_done l =
         rw (
@@ -85,23 +85,23 @@ module _ (S : Size) (table bits : List ℕ) (settings : ℕ) where
 -- ---- writing, ground by ground
 
 module _ (S : Size) (table settings : List ℕ) (bits : ℕ) where
-  pub write_size : allowed S ≡ false → Refused WrongSize ≡ write_answer S table settings bits
+  pub write_size : allowed S ≡ false → Err WrongSize ≡ write_answer S table settings bits
   unfolding write_answer
   write_size e = rw e
 
   module _ (s : Allowed S) where
-    pub write_length : lengths_ok S (length table) bits (length settings) ≡ false → Refused WrongLength ≡ write_answer S table settings bits
+    pub write_length : lengths_ok S (length table) bits (length settings) ≡ false → Err WrongLength ≡ write_answer S table settings bits
     unfolding write_answer
     write_length e = rw (allowed_true S s, e)
 
     pub write_table : ExactLengths S (length table) bits (length settings)
-        → (p : ℕ) → p ≡ faulty_part logic_tile table → p ≢ part_count logic_tile table → Refused (Table p) ≡ write_answer S table settings bits
+        → (p : ℕ) → p ≡ faulty_part logic_tile table → p ≢ part_count logic_tile table → Err (Table p) ≡ write_answer S table settings bits
     unfolding write_answer
     write_table l p e n =
         rw (allowed_true S s, lengths_true S (length table) bits (length settings) l, ← e, ne_eqb p (part_count logic_tile table) n)
 
   module _ (C : Checked S table bits (length settings)) (t : ℕ) (e : t ≡ bitless_tile table settings (tile_count S)) where
-    pub write_bitless : t < tile_count S → Refused (NoSuchSettings t) ≡ write_answer S table settings bits
+    pub write_bitless : t < tile_count S → Err (NoSuchSettings t) ≡ write_answer S table settings bits
     unfolding write_answer
     write_bitless l =
         rw (
@@ -112,7 +112,7 @@ module _ (S : Size) (table settings : List ℕ) (bits : ℕ) where
           lt-leb (tile_count S) t l,
         )
 
-    pub write_done : tile_count S ≤ t → Done ≡ write_answer S table settings bits
+    pub write_done : tile_count S ≤ t → (Ok tt) ≡ write_answer S table settings bits
     unfolding write_answer
     write_done l =
         rw (

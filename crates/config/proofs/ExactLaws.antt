@@ -1,5 +1,6 @@
 -- What an answer of `read` and of `write` says fits one answer, and one content of the lent memory, only. Main laws: `read_exact`, `write_exact`. Assumes
 -- nothing.
+use Rattle.std.specs.Prelude.{Result, Ok, Err}
 use Prim.Native.Nat.{ℕ, ◌*◌, ◌<◌}
 use mathlib.Core.Path.{◌≡◌, sym, subst, ◌∙◌}
 use mathlib.Core.List.{List}
@@ -7,8 +8,6 @@ use native.Mathlib.Omega.{arith}
 use lib.ListN.{length}
 use Rattle.lists.proofs.CaseLaws.{test_false}
 use Rattle.refusal.specs.declared.Refusal.{Refusal}
-use Rattle.refusal.specs.declared.Answer.{Answer}
-use Rattle.refusal.specs.declared.Answer.TheVariants.{Done, Refused}
 use Rattle.ports.specs.declared.size.Size.{Size}
 use Rattle.ports.specs.Block.{tile_count, allowed}
 use Rattle.ports.specs.Lengths.{tile_numbers}
@@ -30,7 +29,7 @@ use Rattle.config.proofs.BlocksLaws.{bits_at_length, decoded_is, encoded_is, bit
 
 module _ (S : Size) (table bits : List ℕ) where
   -- a no that says so is the answer that is computed
-  read_no_told : (settings : ℕ) {refusal : Refusal} → ReadNo S table bits settings refusal → Refused refusal ≡ read_answer S table bits settings
+  read_no_told : (settings : ℕ) {refusal : Refusal} → ReadNo S table bits settings refusal → Err refusal ≡ read_answer S table bits settings
   read_no_told n (wrong_size none) = read_size S table bits n (test_false (allowed S) (allowed_exact S).0 none)
   read_no_told n (wrong_length x) =
       read_length S table bits n x.0
@@ -42,29 +41,29 @@ module _ (S : Size) (table bits : List ℕ) where
       let e = (fault_place_exact table bits C.rules (tile_count S) place).0 low in
       read_undecodable S table bits n C place e.0 e.1
 
-  read_told : (before after : List ℕ) (r : Answer) → ReadSays S table bits before after r → r ≡ read_answer S table bits (length before)
-  read_told before after Done x =
-      subst (λ (n : ℕ). Done ≡ read_answer S table bits n) x.2
+  read_told : (before after : List ℕ) (r : Result (Unit {0}) Refusal) → ReadSays S table bits before after r → r ≡ read_answer S table bits (length before)
+  read_told before after (Ok _) x =
+      subst (λ (n : ℕ). (Ok tt) ≡ read_answer S table bits n) x.2
       (read_done S table bits (length after) x.0 _ (decodable_no_fault table bits x.0.rules (tile_count S) x.1.decodable) (omega arith))
-  read_told before after (Refused refusal) x = read_no_told (length before) x.1
+  read_told before after (Err refusal) x = read_no_told (length before) x.1
 
   -- one answer, and one content, only
-  pub read_exact : (before a b : List ℕ) (r q : Answer) → ReadSays S table bits before a r → ReadSays S table bits before b q → (r ≡ q) × (a ≡ b)
+  pub read_exact : (before a b : List ℕ) (r q : Result (Unit {0}) Refusal) → ReadSays S table bits before a r → ReadSays S table bits before b q → (r ≡ q) × (a ≡ b)
   read_exact before a b r q x y =
       let e : r ≡ q = read_told before a r x ∙ sym (read_told before b q y) in
       (e, same r x (subst (ReadSays S table bits before b) (sym e) y))
     where
-      is : (c : List ℕ) → ReadSays S table bits before c Done → decoded table (tiles_of bits) (tile_count S) ≡ c
+      is : (c : List ℕ) → ReadSays S table bits before c (Ok tt) → decoded table (tiles_of bits) (tile_count S) ≡ c
       is c x = decoded_is table bits (tile_count S) x.0.rules c x.0.lengths.settings_long x.1
 
-      same : (r : Answer) → ReadSays S table bits before a r → ReadSays S table bits before b r → a ≡ b
-      same Done x y = sym (is a x) ∙ is b y
-      same (Refused refusal) x y = x.0 ∙ sym y.0
+      same : (r : Result (Unit {0}) Refusal) → ReadSays S table bits before a r → ReadSays S table bits before b r → a ≡ b
+      same (Ok _) x y = sym (is a x) ∙ is b y
+      same (Err refusal) x y = x.0 ∙ sym y.0
 
 -- ---- writing
 
 module _ (S : Size) (table settings : List ℕ) where
-  write_no_told : (bits : ℕ) {refusal : Refusal} → WriteNo S table settings bits refusal → Refused refusal ≡ write_answer S table settings bits
+  write_no_told : (bits : ℕ) {refusal : Refusal} → WriteNo S table settings bits refusal → Err refusal ≡ write_answer S table settings bits
   write_no_told n (writing.wrong_size none) = write_size S table settings n (test_false (allowed S) (allowed_exact S).0 none)
   write_no_told n (writing.wrong_length x) =
       write_length S table settings n x.0
@@ -81,25 +80,25 @@ module _ (S : Size) (table settings : List ℕ) where
   tiles_have bits n long x t l =
       record { bits = bits_at bits t; long = bits_at_length bits n t long l; decodable = x.decodable t l; reads = x.reads t l }
 
-  write_told : (before after : List ℕ) (r : Answer) → WriteSays S table settings before after r → r ≡ write_answer S table settings (length before)
-  write_told before after Done x =
-      subst (λ (n : ℕ). Done ≡ write_answer S table settings n) x.2
+  write_told : (before after : List ℕ) (r : Result (Unit {0}) Refusal) → WriteSays S table settings before after r → r ≡ write_answer S table settings (length before)
+  write_told before after (Ok _) x =
+      subst (λ (n : ℕ). (Ok tt) ≡ write_answer S table settings n) x.2
       (write_done S table settings (length after) x.0 _
       (bits_none table settings (tile_count S) x.0.rules x.0.lengths.settings_long
       (tiles_have after (tile_count S) x.0.lengths.bits_long x.1))
       (omega arith))
-  write_told before after (Refused refusal) x = write_no_told (length before) x.1
+  write_told before after (Err refusal) x = write_no_told (length before) x.1
 
   -- one answer, and one content, only
-  pub write_exact : (before a b : List ℕ) (r q : Answer) → WriteSays S table settings before a r → WriteSays S table settings before b q
+  pub write_exact : (before a b : List ℕ) (r q : Result (Unit {0}) Refusal) → WriteSays S table settings before a r → WriteSays S table settings before b q
       → (r ≡ q) × (a ≡ b)
   write_exact before a b r q x y =
       let e : r ≡ q = write_told before a r x ∙ sym (write_told before b q y) in
       (e, same r x (subst (WriteSays S table settings before b) (sym e) y))
     where
-      is : (c : List ℕ) → WriteSays S table settings before c Done → encoded table settings (tile_count S) ≡ c
+      is : (c : List ℕ) → WriteSays S table settings before c (Ok tt) → encoded table settings (tile_count S) ≡ c
       is c x = encoded_is table settings (tile_count S) x.0.rules c x.0.lengths.bits_long x.1
 
-      same : (r : Answer) → WriteSays S table settings before a r → WriteSays S table settings before b r → a ≡ b
-      same Done x y = sym (is a x) ∙ is b y
-      same (Refused refusal) x y = x.0 ∙ sym y.0
+      same : (r : Result (Unit {0}) Refusal) → WriteSays S table settings before a r → WriteSays S table settings before b r → a ≡ b
+      same (Ok _) x y = sym (is a x) ∙ is b y
+      same (Err refusal) x y = x.0 ∙ sym y.0

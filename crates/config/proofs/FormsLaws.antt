@@ -1,5 +1,6 @@
 -- Both forms of a block carry the same settings and answers (document 02, W7): what is read of bytes is what is read of their words. Main laws:
 -- `settings_same`, `tiles_read_same`, `fault_same`; `read_same`, `count_same`. Assumes nothing.
+use Rattle.std.specs.Prelude.{Ok, Err}
 use mathlib.Core.Path.{◌≡◌, sym, ap, ap₂, ◌∙◌, subst}
 use mathlib.Core.Bool.{Bool, ◌&&◌}
 use mathlib.Core.List.{List}
@@ -20,7 +21,6 @@ use Rattle.config.specs.Blocks.{tiles_of, decoded}
 use Rattle.config.specs.Facts.{LowestFault, TilesRead}
 use Rattle.config.specs.Entry.{read_answer, read_answer_of, bit_count_answer}
 use Rattle.config.specs.Bytes.{read_bytes_answer, count_bytes_answer}
-use Rattle.config.specs.declared.BitCount.TheVariants as counted
 
 module _ (table : List ℕ) (n : ℕ) (bytes : List ℕ) (long : length bytes ≡ tile_bytes * n) where
   -- the words' tiles are the bytes' tiles
@@ -65,7 +65,7 @@ module _ (S : Size) (bytes : List ℕ) (long : length bytes ≡ bytes_length S) 
   unfolding bit_count_answer
   count_same tile =
       ap₂ (λ (exact : Bool) (block : ℕ → TileBits).
-      unless (allowed S) (counted.Refused WrongSize)
-      (unless exact (counted.Refused WrongLength)
-      (unless (ltb tile (tile_count S)) (counted.Refused (OutOfRange tile)) (counted.Set (bit_count (block tile).bit)))))
+      unless (allowed S) (Err WrongSize)
+      (unless exact (Err WrongLength)
+      (unless (ltb tile (tile_count S)) (Err (OutOfRange tile)) (Ok (bit_count (block tile).bit)))))
       exact_same (tiles_same (tile_count S) bytes long)

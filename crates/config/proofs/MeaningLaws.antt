@@ -1,4 +1,6 @@
 -- Every answer of `read` and `write` says what specs/Meaning.antt has it say. Main laws: `read_means`, `write_means`. Assumes nothing.
+use Rattle.refusal.specs.declared.Refusal.{Refusal}
+use Rattle.std.specs.Prelude.{Result}
 use mathlib.Core.Path.{◌≡◌, refl, sym, subst, ◌∙◌}
 use mathlib.Core.Bool.{true, false}
 use mathlib.Core.List.{List}
@@ -12,7 +14,6 @@ use Rattle.lists.proofs.SearchLaws.{first_before}
 use Rattle.refusal.specs.Grounds.{answer_number}
 use Rattle.refusal.specs.Memory.{output}
 use Rattle.refusal.specs.declared.Refusal.TheVariants.{Undecodable, NoSuchSettings}
-use Rattle.refusal.specs.declared.Answer.{Answer}
 use Rattle.ports.specs.declared.size.Size.{Size}
 use Rattle.ports.specs.Block.{tile_count, allowed}
 use Rattle.ports.proofs.BlockLaws.{allowed_exact, allowed_true}
@@ -55,7 +56,7 @@ module _ (S : Size) (table bits : List ℕ) where
       checks_cases (allowed S) (lengths_ok S (length table) (length bits) (length settings)) (table_ok logic_tile table)
       (leb (logic_tile.positions * tile_count S) (fault_place table (tiles_of bits) (tile_count S))) (faulty_part logic_tile table)
       (Undecodable (fault_place table (tiles_of bits) (tile_count S)))
-      (λ (a : Answer). ReadSays S table bits settings (output (answer_number a) settings (decoded table (tiles_of bits) (tile_count S))) a)
+      (λ (a : Result (Unit {0}) Refusal). ReadSays S table bits settings (output (answer_number a) settings (decoded table (tiles_of bits) (tile_count S))) a)
       (λ s. (refl, wrong_size (no_size S table (length bits) (length settings) s)))
       (λ s l. (refl, wrong_length (no_length S table (length bits) (length settings) s l)))
       (λ s l t. (refl, broken _ (no_table S table (length bits) (length settings) s l t)))
@@ -78,11 +79,11 @@ module _ (S : Size) (table bits : List ℕ) where
       ))
 
   -- the same over what `read` promises of its answer and of the lent settings
-  pub read_says : (before after : List ℕ) (a : Answer) → a ≡ read_answer S table bits (length before)
+  pub read_says : (before after : List ℕ) (a : Result (Unit {0}) Refusal) → a ≡ read_answer S table bits (length before)
       → after ≡ output (answer_number a) before (decoded table (tiles_of bits) (tile_count S)) → ReadSays S table bits before after a
   read_says before after a e q =
       subst (λ (x : List ℕ). ReadSays S table bits before x a) (sym q)
-      (subst (λ (x : Answer). ReadSays S table bits before (output (answer_number x) before (decoded table (tiles_of bits) (tile_count S))) x) (sym e) (read_means before))
+      (subst (λ (x : Result (Unit {0}) Refusal). ReadSays S table bits before (output (answer_number x) before (decoded table (tiles_of bits) (tile_count S))) x) (sym e) (read_means before))
 
 -- ---- writing
 
@@ -96,7 +97,7 @@ module _ (S : Size) (table settings : List ℕ) where
       checks_cases (allowed S) (lengths_ok S (length table) (length bits) (length settings)) (table_ok logic_tile table)
       (leb (tile_count S) (bitless_tile table settings (tile_count S))) (faulty_part logic_tile table)
       (NoSuchSettings (bitless_tile table settings (tile_count S)))
-      (λ (a : Answer). WriteSays S table settings bits (output (answer_number a) bits (encoded table settings (tile_count S))) a)
+      (λ (a : Result (Unit {0}) Refusal). WriteSays S table settings bits (output (answer_number a) bits (encoded table settings (tile_count S))) a)
       (λ s. (refl, writing.wrong_size (no_size S table (length bits) (length settings) s)))
       (λ s l. (refl, writing.wrong_length (no_length S table (length bits) (length settings) s l)))
       (λ s l t. (refl, writing.broken _ (no_table S table (length bits) (length settings) s l t)))
@@ -121,8 +122,8 @@ module _ (S : Size) (table settings : List ℕ) where
       ))
 
   -- the same over what `write` promises of its answer and of the lent bits
-  pub write_says : (before after : List ℕ) (a : Answer) → a ≡ write_answer S table settings (length before)
+  pub write_says : (before after : List ℕ) (a : Result (Unit {0}) Refusal) → a ≡ write_answer S table settings (length before)
       → after ≡ output (answer_number a) before (encoded table settings (tile_count S)) → WriteSays S table settings before after a
   write_says before after a e q =
       subst (λ (x : List ℕ). WriteSays S table settings before x a) (sym q)
-      (subst (λ (x : Answer). WriteSays S table settings before (output (answer_number x) before (encoded table settings (tile_count S))) x) (sym e) (write_means before))
+      (subst (λ (x : Result (Unit {0}) Refusal). WriteSays S table settings before (output (answer_number x) before (encoded table settings (tile_count S))) x) (sym e) (write_means before))

@@ -1,5 +1,6 @@
 -- Both round trips of a block, of every size. Main laws: `written_reads`: settings that are written are read back the same; `read_writes`: bits
 -- that are read are written back the same: what can be decoded has nothing past its columns. Assumes nothing.
+use Rattle.std.specs.Prelude.{Ok}
 use mathlib.Core.Path.{◌≡◌, sym, ap, ◌∙◌}
 use mathlib.Core.Bool.{false, not}
 use mathlib.Core.List.{List}
@@ -7,7 +8,6 @@ use Prim.Native.Nat.{ℕ, ◌<◌}
 use native.Mathlib.Omega.{arith}
 use lib.ListN.{length}
 use Rattle.lists.proofs.SearchLaws.{first_none}
-use Rattle.refusal.specs.declared.Answer.TheVariants.{Done}
 use Rattle.ports.specs.declared.size.Size.{Size}
 use Rattle.ports.specs.Block.{tile_count}
 use Rattle.codec.specs.Limits.{settings_fit}
@@ -21,7 +21,7 @@ use Rattle.config.proofs.PassedLaws.{read_passed, read_clean, write_passed, writ
 use Rattle.config.proofs.BlocksLaws.{decoded_length, decoded_at_lem, decoded_reads, decoded_is, encoded_length, encoded_reads, encoded_is}
 
 -- "Writing settings gives bits that read back the same"
-module _ (S : Size) (table settings : List ℕ) (bits : ℕ) (done : write_answer S table settings bits ≡ Done) where
+module _ (S : Size) (table settings : List ℕ) (bits : ℕ) (done : write_answer S table settings bits ≡ (Ok tt)) where
   abbrev W : Checked S table bits (length settings)
   W = write_passed S table settings bits done
 
@@ -31,7 +31,7 @@ module _ (S : Size) (table settings : List ℕ) (bits : ℕ) (done : write_answe
   back : TilesRead table (tiles_of written) settings (tile_count S)
   back = encoded_reads table settings (tile_count S) W.rules W.lengths.settings_long (write_fit S table settings bits done)
 
-  pub written_reads : (read_answer S table (encoded table settings (tile_count S)) (length settings) ≡ Done)
+  pub written_reads : (read_answer S table (encoded table settings (tile_count S)) (length settings) ≡ (Ok tt))
       × (decoded table (tiles_of (encoded table settings (tile_count S))) (tile_count S) ≡ settings)
   written_reads = (
     sym (read_done S table written (length settings) (record {
@@ -48,7 +48,7 @@ module _ (S : Size) (table settings : List ℕ) (bits : ℕ) (done : write_answe
   )
 
 -- "bits that were read are written back the same"
-module _ (S : Size) (table bits : List ℕ) (settings : ℕ) (done : read_answer S table bits settings ≡ Done) where
+module _ (S : Size) (table bits : List ℕ) (settings : ℕ) (done : read_answer S table bits settings ≡ (Ok tt)) where
   abbrev R : Checked S table (length bits) settings
   R = read_passed S table bits settings done
 
@@ -61,7 +61,7 @@ module _ (S : Size) (table bits : List ℕ) (settings : ℕ) (done : read_answer
       ap not (ap (settings_fit table) (decoded_at_lem table bits (tile_count S) t l)
       ∙ decode_fits table (bits_at bits t) R.rules (read_clean S table bits settings done t l))
 
-  pub read_writes : (write_answer S table (decoded table (tiles_of bits) (tile_count S)) (length bits) ≡ Done)
+  pub read_writes : (write_answer S table (decoded table (tiles_of bits) (tile_count S)) (length bits) ≡ (Ok tt))
       × (encoded table (decoded table (tiles_of bits) (tile_count S)) (tile_count S) ≡ bits)
   read_writes = (
     sym (write_done S table taken (length bits) (record {

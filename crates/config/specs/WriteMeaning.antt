@@ -1,9 +1,7 @@
 -- What each answer of `write` says, case by case, as specs/Meaning.antt has it for `read`.
-use Rattle.std.specs.Prelude.{ℕ, ◌≡◌, List, length}
+use Rattle.std.specs.Prelude.{ℕ, ◌≡◌, List, length, Result, Ok, Err}
 use Rattle.refusal.specs.declared.Refusal.{Refusal}
 use Rattle.refusal.specs.declared.Refusal.TheVariants.{WrongSize, WrongLength, Table, NoSuchSettings}
-use Rattle.refusal.specs.declared.Answer.{Answer}
-use Rattle.refusal.specs.declared.Answer.TheVariants.{Done, Refused}
 use Rattle.ports.specs.declared.size.Size.{Size}
 use Rattle.ports.specs.Block.{tile_count}
 use Rattle.config.specs.Blocks.{tiles_of}
@@ -18,7 +16,7 @@ pub data WriteNo (S : Size) (table settings : List ℕ) (bits : ℕ) : Refusal �
       → WriteNo S table settings bits (NoSuchSettings tile)
 
 -- what an answer of `write` says, `before` and `after` being the lent bits, which keep their length; "Writing settings gives bits that read back the same"
-abbrev pub WriteSays : Size → List ℕ → List ℕ → List ℕ → List ℕ → Answer → Type 0
-WriteSays S table settings before after Done =
+abbrev pub WriteSays : Size → List ℕ → List ℕ → List ℕ → List ℕ → Result (Unit {0}) Refusal → Type 0
+WriteSays S table settings before after (Ok _) =
     Checked S table (length after) (length settings) × TilesRead table (tiles_of after) settings (tile_count S) × (length after ≡ length before)
-WriteSays S table settings before after (Refused refusal) = (after ≡ before) × WriteNo S table settings (length before) refusal
+WriteSays S table settings before after (Err refusal) = (after ≡ before) × WriteNo S table settings (length before) refusal

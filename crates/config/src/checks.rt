@@ -1,13 +1,12 @@
 // The checks of the entry points, in their orders. They are given the length of an output and not the output, so they cannot write it.
-ghost use Rattle.std.specs.Prelude.{◌≡◌, length, take};
-ghost use Rattle.refusal.specs.declared.Answer.TheVariants.{Done};
+ghost use Rattle.std.specs.Prelude.{◌≡◌, length, take, Ok};
 ghost use Rattle.ports.specs.Block.{Allowed, tile_count};
 ghost use Rattle.config.specs.Blocks.{room_length, decoded, tiles_of};
 ghost use Rattle.config.specs.Entry.{lengths_ok, read_answer, write_answer};
 
 use ports::lengths::{POSITIONS, TABLE_LENGTH, bits_length, settings_total};
 use ports::size::{Size, is_allowed};
-use refusal::{Answer, Refusal};
+use refusal::Refusal;
 
 // Ground 2, from the lengths lent.
 fn lengths_ok(s: Size, table: usize, bits: usize, settings: usize) -> bool
@@ -30,49 +29,49 @@ pub fn read_checks(
     bits: &[u64],
     settings: usize,
     room: &mut [u16],
-) -> Answer
+) -> Result<(), Refusal>
     requires { length room.old ≡ room_length }
     ensures answer { result ≡ read_answer s table.now bits.now settings }
-    ensures room { result ≡ Done → take settings room.new ≡ decoded table.now (tiles_of bits.now) (tile_count s) }
+    ensures room { result ≡ (Ok tt) → take settings room.new ≡ decoded table.now (tiles_of bits.now) (tile_count s) }
 {
     if !is_allowed(s) {
-        return Answer::Refused(Refusal::WrongSize);
+        return Err(Refusal::WrongSize);
     }
     let n = (s.h * s.w) as usize;
     if !lengths_ok(s, table.len(), bits.len(), settings) {
-        return Answer::Refused(Refusal::WrongLength);
+        return Err(Refusal::WrongLength);
     }
     let mut own = [0u16; POSITIONS];
     let part = routing::rules::check_table(table, &mut own);
     let parts = 2 + routing::table::group_count(table);
     if part != parts {
-        return Answer::Refused(Refusal::Table(part as u32));
+        return Err(Refusal::Table(part as u32));
     }
     let place = crate::blocks::read_block(table, &own, bits, &mut room[..settings], n);
     if place < POSITIONS * n {
-        return Answer::Refused(Refusal::Undecodable(place as u32));
+        return Err(Refusal::Undecodable(place as u32));
     }
-    Answer::Done
+    Answer::(Ok tt)
 }
 
-pub fn write_checks(s: Size, table: &[u16], settings: &[u16], bits: usize) -> Answer
+pub fn write_checks(s: Size, table: &[u16], settings: &[u16], bits: usize) -> Result<(), Refusal>
     ensures { result ≡ write_answer s table.now settings.now bits }
 {
     if !is_allowed(s) {
-        return Answer::Refused(Refusal::WrongSize);
+        return Err(Refusal::WrongSize);
     }
     let n = (s.h * s.w) as usize;
     if !lengths_ok(s, table.len(), bits, settings.len()) {
-        return Answer::Refused(Refusal::WrongLength);
+        return Err(Refusal::WrongLength);
     }
     let part = routing::rules::faulty_part(table);
     let parts = 2 + routing::table::group_count(table);
     if part != parts {
-        return Answer::Refused(Refusal::Table(part as u32));
+        return Err(Refusal::Table(part as u32));
     }
     let t = crate::blocks::bitless_tile(table, settings, n);
     if t < n {
-        return Answer::Refused(Refusal::NoSuchSettings(t as u32));
+        return Err(Refusal::NoSuchSettings(t as u32));
     }
-    Answer::Done
+    Answer::(Ok tt)
 }

@@ -16,22 +16,15 @@ ghost use Rattle.config.specs.WriteMeaning.{WriteSays};
 
 use ports::lengths::{TILE_NUMBERS, bits_length};
 use ports::size::{Size, is_allowed};
-use refusal::{Answer, Refusal};
+use refusal::Refusal;
 
 pub mod blocks;
 mod checks;
 mod room;
 
-// How many bits of a tile are set, or why that is not said.
-#[derive(Clone, Copy)]
-pub enum BitCount {
-    Set(u32),
-    Refused(Refusal),
-}
-
 // Reads a block's bits to its settings. Grounds 1 to 4, in this order (`read_answer`).
 // Rules out: refusing every block; settings written on a no; the same settings for all bits.
-pub fn read(s: Size, table: &[u16], bits: &[u64], settings: &mut [u16]) -> Answer
+pub fn read(s: Size, table: &[u16], bits: &[u64], settings: &mut [u16]) -> Result<(), Refusal>
     ensures answer { result ≡ read_answer s table.now bits.now (length settings.old) }
     ensures settings { settings.new ≡ output (answer_number result) settings.old
         (decoded table.now (tiles_of bits.now) (tile_count s)) }
@@ -40,16 +33,16 @@ pub fn read(s: Size, table: &[u16], bits: &[u64], settings: &mut [u16]) -> Answe
     let len = settings.len();
     let mut room = room::settings_room();
     let can_read = checks::read_checks(s, table, bits, len, &mut room);
-    let Answer::Done = can_read else {
+    let Ok(()) = can_read else {
         return can_read;
     };
     lists::copy(&room[..len], settings);
-    Answer::Done
+    Ok(())
 }
 
 // Writes a block's settings as bits. Grounds 1, 2, 3, 9, in this order (`write_answer`).
 // Rules out: writing nothing; bits of settings that no bits have; bits written on a no.
-pub fn write(s: Size, table: &[u16], settings: &[u16], bits: &mut [u64]) -> Answer
+pub fn write(s: Size, table: &[u16], settings: &[u16], bits: &mut [u64]) -> Result<(), Refusal>
     ensures answer { result ≡ write_answer s table.now settings.now (length bits.old) }
     ensures bits { bits.new ≡ output (answer_number result) bits.old
         (encoded table.now settings.now (tile_count s)) }
@@ -57,30 +50,30 @@ pub fn write(s: Size, table: &[u16], settings: &[u16], bits: &mut [u64]) -> Answ
 {
     let len = bits.len();
     let can_write = checks::write_checks(s, table, settings, len);
-    let Answer::Done = can_write else {
+    let Ok(()) = can_write else {
         return can_write;
     };
     blocks::encode_block(table, settings, bits, (s.h * s.w) as usize);
-    Answer::Done
+    Ok(())
 }
 
 // How many of a tile's bits are set. Grounds 1, 2, 20, in this order (`bit_count_answer`). It takes no table and counts undecodable tiles too.
 // Rules out: counting the whole block; counting what is past a row's columns.
-pub fn bit_count(s: Size, bits: &[u64], tile: u32) -> BitCount
+pub fn bit_count(s: Size, bits: &[u64], tile: u32) -> Result<u32, Refusal>
     ensures { result ≡ bit_count_answer s bits.now tile }
 {
     if !is_allowed(s) {
-        return BitCount::Refused(Refusal::WrongSize);
+        return Err(Refusal::WrongSize);
     }
     let n = (s.h * s.w) as usize;
     if bits.len() != bits_length(s) {
-        return BitCount::Refused(Refusal::WrongLength);
+        return Err(Refusal::WrongLength);
     }
     let t = tile as usize;
     if n <= t {
-        return BitCount::Refused(Refusal::OutOfRange(tile));
+        return Err(Refusal::OutOfRange(tile));
     }
     let from = TILE_NUMBERS * t;
     let to = from + TILE_NUMBERS;
-    BitCount::Set(codec::bits::count_bits(&bits[from..to]))
+    Ok(codec::bits::count_bits(&bits[from..to]))
 }

@@ -1,4 +1,5 @@
 -- What an answer of `contentions` says fits one answer, and one content of the lent list, only. Main law: `contentions_exact`. Assumes nothing.
+use Rattle.std.specs.Prelude.{Result, Ok, Err}
 use Prim.Native.Nat.{ℕ, ◌*◌, ◌≤◌}
 use mathlib.Core.Path.{◌≡◌, sym, subst, ◌∙◌}
 use mathlib.Core.List.{List}
@@ -20,8 +21,6 @@ use Rattle.routing.proofs.TableCheckLaws.{table_exact, faulty_part_exact}
 use Rattle.config.specs.Blocks.{fault_place, tiles_of}
 use Rattle.config.proofs.FaultPlaceLaws.{fault_place_exact, decodable_no_fault}
 use Rattle.block.proofs.RoutedLaws.{routed_of_read}
-use Rattle.contention.specs.declared.ContentionList.{ContentionList}
-use Rattle.contention.specs.declared.ContentionList.TheVariants.{Rows, Refused}
 use Rattle.contention.specs.declared.lengths.ContentionLent.{ContentionLent}
 use Rattle.contention.specs.Contentions.{row_length, contention_count}
 use Rattle.contention.specs.Lengths.{contention_exact}
@@ -40,12 +39,12 @@ module _ (B : Block) (t bits : List ℕ) (lent : ContentionLent) where
 
   -- the answer, `list` being the length lent, by the tests of its grounds. `contentions_answer` is the same where `lent` has the lists' lengths: reading looks
   -- at these itself. Here `lent` is any
-  abbrev told : ℕ → ContentionList
+  abbrev told : ℕ → Result ℕ Refusal
   told list =
-      unless (sized B) (Refused WrongSize)
-      (unless (contention_exact B lent) (Refused WrongLength)
-      (unless (table_ok logic_tile t) (Refused (Table (faulty_part logic_tile t)))
-      (unless (leb (logic_tile.positions * tiles B) place) (Refused (Undecodable place))
+      unless (sized B) (Err WrongSize)
+      (unless (contention_exact B lent) (Err WrongLength)
+      (unless (table_ok logic_tile t) (Err (Table (faulty_part logic_tile t)))
+      (unless (leb (logic_tile.positions * tiles B) place) (Err (Undecodable place))
       (rows_answer B t st list))))
 
   -- ---- the block is read
@@ -69,7 +68,7 @@ module _ (B : Block) (t bits : List ℕ) (lent : ContentionLent) where
 
   -- ---- an answer that says so is that one
 
-  no_told : (list : ℕ) {refusal : Refusal} → ContentionsNo B t bits lent list refusal → Refused refusal ≡ told list
+  no_told : (list : ℕ) {refusal : Refusal} → ContentionsNo B t bits lent list refusal → Err refusal ≡ told list
   no_told list (wrong_size none) = rw (test_false (sized B) (sized_exact B).0 none)
   no_told list (wrong_length size none) = rw (sized_true B size, test_false (contention_exact B lent) (contention_long_exact B lent).0 none)
   no_told list (broken part size long broke) =
@@ -91,18 +90,18 @@ module _ (B : Block) (t bits : List ℕ) (lent : ContentionLent) where
       )
   no_told list (too_short rows full read L short) = rows_short B t st rows list (count_is read L) short ∙ read_told read list
 
-  says_told : (before after : List ℕ) (r : ContentionList) → ContentionsSay B t bits lent before after r → r ≡ told (length before)
-  says_told before after (Rows rows) (long, y) =
+  says_told : (before after : List ℕ) (r : Result ℕ Refusal) → ContentionsSay B t bits lent before after r → r ≡ told (length before)
+  says_told before after (Ok rows) (long, y) =
       rows_yes B t st rows (length before) (count_is y.read y.listed) y.fits ∙ read_told y.read (length before)
-  says_told before after (Refused refusal) says = no_told (length before) says.1
+  says_told before after (Err refusal) says = no_told (length before) says.1
 
   -- one answer, and one list, only
-  pub contentions_exact : (before a b : List ℕ) (r q : ContentionList) → ContentionsSay B t bits lent before a r → ContentionsSay B t bits lent before b q
+  pub contentions_exact : (before a b : List ℕ) (r q : Result ℕ Refusal) → ContentionsSay B t bits lent before a r → ContentionsSay B t bits lent before b q
       → (r ≡ q) × (a ≡ b)
   contentions_exact before a b r q x y =
       let e : r ≡ q = says_told before a r x ∙ sym (says_told before b q y) in
       (e, same r x (subst (ContentionsSay B t bits lent before b) (sym e) y))
     where
-      same : (r : ContentionList) → ContentionsSay B t bits lent before a r → ContentionsSay B t bits lent before b r → a ≡ b
-      same (Rows rows) x y = listed_unique x.1.listed y.1.listed (omega arith) (x.0 ∙ sym y.0)
-      same (Refused refusal) x y = x.0 ∙ sym y.0
+      same : (r : Result ℕ Refusal) → ContentionsSay B t bits lent before a r → ContentionsSay B t bits lent before b r → a ≡ b
+      same (Ok rows) x y = listed_unique x.1.listed y.1.listed (omega arith) (x.0 ∙ sym y.0)
+      same (Err refusal) x y = x.0 ∙ sym y.0

@@ -1,4 +1,6 @@
 -- Every answer of `contentions` says what specs/Meaning.antt has. Main law: `contentions_say`; `read_routed`: what a yes of reading shows. Assumes nothing.
+use Rattle.refusal.specs.Grounds.{answer_number}
+use Rattle.std.specs.Prelude.{Result, Ok, Err}
 use Prim.Native.Nat.{ℕ, ◌*◌, ◌≤◌}
 use mathlib.Core.Path.{◌≡◌, refl, sym, ap, subst}
 use mathlib.Core.Logic.{◌↔◌}
@@ -11,8 +13,6 @@ use Rattle.lists.proofs.CaseLaws.{clash}
 use Rattle.lists.specs.Listing.{zero_filled}
 use Rattle.refusal.specs.Memory.{output}
 use Rattle.refusal.specs.declared.Refusal.{Refusal}
-use Rattle.refusal.specs.declared.Answer.{Answer}
-use Rattle.refusal.specs.declared.Answer.TheVariants as answer
 use Rattle.refusal.proofs.GroundsLaws.{unless_cases}
 use Rattle.refusal.proofs.MemoryLaws.{output_refused}
 use Rattle.ports.specs.declared.size.Block.{Block}
@@ -29,11 +29,10 @@ use Rattle.config.proofs.FaultPlaceLaws.{decodable_no_fault}
 use Rattle.config.proofs.MeaningLaws.{read_says}
 use Rattle.equations.specs.Routed.{Routed}
 use Rattle.block.proofs.RoutedLaws.{routed_of_read}
-use Rattle.contention.specs.declared.ContentionList.{ContentionList}
 use Rattle.contention.specs.declared.lengths.ContentionLent.{ContentionLent}
 use Rattle.contention.specs.Contentions.{row_length, contention_count, contentions}
 use Rattle.contention.specs.Lengths.{contention_lent, contention_exact, ContentionLong}
-use Rattle.contention.specs.Entry.{contentions_number, rows_answer, after_read, settings_read, bits_answer, contentions_answer, contentions_list}
+use Rattle.contention.specs.Entry.{rows_answer, after_read, settings_read, bits_answer, contentions_answer, contentions_list}
 use Rattle.contention.specs.Meaning.{RefusedFive, Readable, ContentionsNo, wrong_size, wrong_length, broken, undecodable, too_short, ContentionsSay}
 use Rattle.contention.proofs.ContentionLaws.{contentions_listed, contentions_length, empty_exact}
 use Rattle.contention.proofs.RefusalLaws.{five_exact}
@@ -42,7 +41,7 @@ use Rattle.contention.proofs.EntryLaws.{read_lengths}
 
 -- ---- a yes of reading
 
-module _ (B : Block) (t bits settings : List ℕ) (size : Sized B) (done : read_answer (size_of B) t bits (length settings) ≡ answer.Done) where
+module _ (B : Block) (t bits settings : List ℕ) (size : Sized B) (done : read_answer (size_of B) t bits (length settings) ≡ (Ok tt)) where
   no_fault : logic_tile.positions * tiles B ≤ fault_place t (tiles_of bits) (tiles B)
   no_fault =
       let rules = (read_passed (size_of B) t bits (length settings) done).rules in
@@ -68,8 +67,8 @@ module _ (B : Block) (t bits settings wires heads nexts old : List ℕ) where
   abbrev st : List ℕ
   st = settings_read B t bits
 
-  abbrev Says : ContentionList → Type 0
-  Says r = ContentionsSay B t bits lent old (output (contentions_number r) old (contentions_list B t bits (length old))) r
+  abbrev Says : Result ℕ Refusal → Type 0
+  Says r = ContentionsSay B t bits lent old (output (answer_number r) old (contentions_list B t bits (length old))) r
 
   module _ (size : Sized B) (long : ContentionLong B lent) where
     -- the two grounds of reading that are left
@@ -79,7 +78,7 @@ module _ (B : Block) (t bits settings wires heads nexts old : List ℕ) where
     read_no refusal (reading.broken part n) = broken part size long n.2
     read_no refusal (reading.undecodable place C low) = undecodable place size long C.rules low
 
-    rows_say : read_answer (size_of B) t bits (length settings) ≡ answer.Done → Says (rows_answer B t st (length old))
+    rows_say : read_answer (size_of B) t bits (length settings) ≡ (Ok tt) → Says (rows_answer B t st (length old))
     unfolding rows_answer
     rows_say done =
         unless_cases Says (leb (row_length * contention_count B t st) (length old)) _ _
@@ -106,17 +105,17 @@ module _ (B : Block) (t bits settings wires heads nexts old : List ℕ) where
           size = size;
           lengths = long;
           rules = (read_passed (size_of B) t bits (length settings) done).rules;
-          tiles_read_lem = (read_says (size_of B) t bits settings _ answer.Done (sym done) refl).1;
+          tiles_read_lem = (read_says (size_of B) t bits settings _ (Ok tt) (sym done) refl).1;
         }
 
     bits_say : Says (bits_answer B t bits (length old))
     unfolding bits_answer
     bits_say = go (read_answer (size_of B) t bits (settings_total (size_of B))) (ap (read_answer (size_of B) t bits) long.settings_long)
       where
-        go : (a : Answer) → read_answer (size_of B) t bits (length settings) ≡ a → Says (after_read a (rows_answer B t st (length old)))
-        go answer.Done e = rows_say e
-        go (answer.Refused refusal) e =
-            (output_refused old _ refusal, read_no refusal (read_says (size_of B) t bits settings _ (answer.Refused refusal) (sym e) refl).1)
+        go : (a : Result (Unit {0}) Refusal) → read_answer (size_of B) t bits (length settings) ≡ a → Says (after_read a (rows_answer B t st (length old)))
+        go (Ok _) e = rows_say e
+        go (Err refusal) e =
+            (output_refused old _ refusal, read_no refusal (read_says (size_of B) t bits settings _ (Err refusal) (sym e) refl).1)
 
   contentions_mean : Says (contentions_answer B t bits (contention_exact B lent) (length old))
   unfolding contentions_answer
@@ -127,7 +126,7 @@ module _ (B : Block) (t bits settings wires heads nexts old : List ℕ) where
       (λ l. bits_say size ((contention_long_exact B lent).0 l)))
 
   -- the same of what `contentions` promises of its answer and of the lent list
-  pub contentions_say : (after : List ℕ) (r : ContentionList) → r ≡ contentions_answer B t bits (contention_exact B lent) (length old)
-      → after ≡ output (contentions_number r) old (contentions_list B t bits (length old)) → ContentionsSay B t bits lent old after r
+  pub contentions_say : (after : List ℕ) (r : Result ℕ Refusal) → r ≡ contentions_answer B t bits (contention_exact B lent) (length old)
+      → after ≡ output (answer_number r) old (contentions_list B t bits (length old)) → ContentionsSay B t bits lent old after r
   contentions_say after r e q =
       subst (λ (x : List ℕ). ContentionsSay B t bits lent old x r) (sym q) (subst Says (sym e) contentions_mean)

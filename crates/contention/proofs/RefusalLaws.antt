@@ -1,5 +1,6 @@
 -- "refusal 5 would [..] be given": building refuses a block that passes 1 to 4 with 5 exactly if it has a contention. Main law: `five_exact`. Assumes
 -- nothing.
+use Rattle.std.specs.Prelude.{Err}
 use Prim.Native.Nat.{ℕ, ◌*◌, ◌<◌, ◌≤◌}
 use mathlib.Core.Path.{◌≡◌, refl, sym, subst, ◌∙◌}
 use mathlib.Core.Bool.{true}
@@ -19,7 +20,6 @@ use Rattle.config.specs.Blocks.{fault_place, decoded, tiles_of}
 use Rattle.equations.specs.Switches.{Contention, NoContention}
 use Rattle.equations.specs.Routed.{Routed}
 use Rattle.equations.specs.Sources.{contended_wire}
-use Rattle.block.specs.declared.Built.TheVariants.{Refused}
 use Rattle.block.specs.Building.{list_answer, build_answer}
 use Rattle.block.specs.Meaning.{ListNo, ListSays, contention}
 use Rattle.block.proofs.BuildingLaws.{list_contended, bits_list, build_bits}
@@ -29,13 +29,13 @@ use Rattle.contention.specs.Meaning.{RefusedFive}
 
 -- of settings that were read
 module _ (B : Block) (t st : List ℕ) (ok : Routed B t st) where
-  contended_of : (w : ℕ) → list_answer B t st ≡ Refused (refusals.Contention w) → Contention B t st w
+  contended_of : (w : ℕ) → list_answer B t st ≡ Err (refusals.Contention w) → Contention B t st w
   contended_of w e = said w (subst (ListSays B t st) e (list_says B t st ok))
     where
       said : (x : ℕ) → ListNo B t st (refusals.Contention x) → Contention B t st x
       said x (contention v low) = low.here
 
-  none_of : ((w : ℕ) → list_answer B t st ≡ Refused (refusals.Contention w) → ⊥) → NoContention B t st
+  none_of : ((w : ℕ) → list_answer B t st ≡ Err (refusals.Contention w) → ⊥) → NoContention B t st
   none_of n =
       ⊎_elim (λ (l : contended_wire B t st < ports B). absurd (n (contended_wire B t st) (sym (list_contended B t st (contended_wire B t st) refl l))))
       (λ (l : ports B ≤ contended_wire B t st). free_of B t st ok (le-leb (ports B) (contended_wire B t st) l))

@@ -1,6 +1,6 @@
 -- What each answer of `contentions` says, in the paper's words. proofs/MeaningLaws.antt shows it of every answer, so a reader has to believe only this and
 -- the definitions that it names, and not how the rows are computed.
-use Rattle.std.specs.Prelude.{ℕ, ◌*◌, ◌<◌, ◌≤◌, ◌≡◌, ◌↔◌, true, List, length}
+use Rattle.std.specs.Prelude.{ℕ, ◌*◌, ◌<◌, ◌≤◌, ◌≡◌, ◌↔◌, true, List, length, Result, Ok, Err}
 use Rattle.lists.specs.Listing.{Lists}
 use Rattle.refusal.specs.declared.Refusal.{Refusal}
 use Rattle.refusal.specs.declared.Refusal.TheVariants.{WrongSize, WrongLength, Table, Undecodable, Contention, ListTooShort}
@@ -10,10 +10,7 @@ use Rattle.routing.specs.LogicTile.{logic_tile}
 use Rattle.routing.specs.Rules.{TableRules, FirstBroken}
 use Rattle.config.specs.Blocks.{tiles_of}
 use Rattle.config.specs.Facts.{LowestFault, TilesRead}
-use Rattle.block.specs.declared.Built.TheVariants as built
 use Rattle.block.specs.Building.{build_answer}
-use Rattle.contention.specs.declared.ContentionList.{ContentionList}
-use Rattle.contention.specs.declared.ContentionList.TheVariants.{Rows, Refused}
 use Rattle.contention.specs.declared.lengths.ContentionLent.{ContentionLent}
 use Rattle.contention.specs.Contentions.{row_length, ContentionRow}
 use Rattle.contention.specs.Lengths.{ContentionLong}
@@ -21,7 +18,7 @@ use Rattle.contention.specs.Entry.{settings_read}
 
 -- refusal 5 is given: `build`, lent slices of its exact lengths, answers it for this block
 abbrev pub RefusedFive : Block → (table bits : List ℕ) → Type 0
-RefusedFive B t bits = (w : ℕ) × (build_answer B t (tiles_of bits) true ≡ built.Refused (Contention w))
+RefusedFive B t bits = (w : ℕ) × (build_answer B t (tiles_of bits) true ≡ Err (Contention w))
 
 module _ (B : Block) (t bits : List ℕ) (lent : ContentionLent) where
   -- "It works on blocks that pass 1 to 4": none of these grounds
@@ -55,6 +52,6 @@ module _ (B : Block) (t bits : List ℕ) (lent : ContentionLent) where
     pub empty : (rows ≡ 0) ↔ (RefusedFive B t bits → ⊥)
 
   -- `before` and `after` are the lent list, which keeps its length; "On a refusal the outputs keep their old contents"
-  abbrev pub ContentionsSay : (before after : List ℕ) → ContentionList → Type 0
-  ContentionsSay before after (Rows rows) = (length after ≡ length before) × Listed (length before) after rows
-  ContentionsSay before after (Refused refusal) = (after ≡ before) × ContentionsNo (length before) refusal
+  abbrev pub ContentionsSay : (before after : List ℕ) → Result ℕ Refusal → Type 0
+  ContentionsSay before after (Ok rows) = (length after ≡ length before) × Listed (length before) after rows
+  ContentionsSay before after (Err refusal) = (after ≡ before) × ContentionsNo (length before) refusal

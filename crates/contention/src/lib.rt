@@ -5,10 +5,11 @@
 // each answer says in the paper's words.
 #![tactic(auto)]
 
+ghost use Rattle.refusal.specs.Grounds.{answer_number};
 ghost use Rattle.std.specs.Prelude.{◌≡◌, length};
 ghost use Rattle.refusal.specs.Memory.{output, work_room};
 ghost use Rattle.contention.specs.Lengths.{contention_lent, contention_exact};
-ghost use Rattle.contention.specs.Entry.{contentions_number, contentions_answer, contentions_list};
+ghost use Rattle.contention.specs.Entry.{contentions_answer, contentions_list};
 ghost use Rattle.contention.specs.Meaning.{ContentionsSay};
 
 use crate::lengths::{ContentionLent, is_contention_exact};
@@ -19,13 +20,6 @@ mod chains;
 pub mod lengths;
 mod list;
 mod rows;
-
-// So many rows, or why there is no list.
-#[derive(Clone, Copy)]
-pub enum ContentionList {
-    Rows(u32),
-    Refused(Refusal),
-}
 
 // Every contention of a block, from its bits. Grounds 1 to 4, then 15 with the rows needed, in this order (`contentions_answer`). The list may have any
 // length. The work room is what follows it: settings, wires, heads and nexts.
@@ -40,22 +34,22 @@ pub fn contentions(
     wires: &mut [u16],
     heads: &mut [u16],
     nexts: &mut [u16],
-) -> ContentionList
+) -> Result<u32, Refusal>
     ensures answer { result ≡ contentions_answer b table.now bits.now
         (contention_exact b (contention_lent table.now bits.now settings.old wires.old
         heads.old nexts.old)) (length list.old) }
-    ensures list { list.new ≡ output (contentions_number result) list.old
+    ensures list { list.new ≡ output (answer_number result) list.old
         (contentions_list b table.now bits.now (length list.old)) }
-    ensures settings { settings.new ≡ work_room (contentions_number result) settings.old }
-    ensures wires { wires.new ≡ work_room (contentions_number result) wires.old }
-    ensures heads { heads.new ≡ work_room (contentions_number result) heads.old }
-    ensures nexts { nexts.new ≡ work_room (contentions_number result) nexts.old }
+    ensures settings { settings.new ≡ work_room (answer_number result) settings.old }
+    ensures wires { wires.new ≡ work_room (answer_number result) wires.old }
+    ensures heads { heads.new ≡ work_room (answer_number result) heads.old }
+    ensures nexts { nexts.new ≡ work_room (answer_number result) nexts.old }
     ensures says { ContentionsSay b table.now bits.now
         (contention_lent table.now bits.now settings.old wires.old heads.old
         nexts.old) list.old list.new result }
 {
     if !ports::size::is_sized(b) {
-        return ContentionList::Refused(Refusal::WrongSize);
+        return Err(Refusal::WrongSize);
     }
     let lent = ContentionLent {
         table: table.len(),
@@ -66,7 +60,7 @@ pub fn contentions(
         nexts: nexts.len(),
     };
     if !is_contention_exact(b, lent) {
-        return ContentionList::Refused(Refusal::WrongLength);
+        return Err(Refusal::WrongLength);
     }
     let r = list::list_bits(b, table, bits, list, settings, wires, heads, nexts);
     lists::clear(settings);

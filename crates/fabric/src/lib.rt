@@ -18,27 +18,20 @@ pub mod span;
 pub mod span_wire;
 pub mod wire;
 
-// The number of a wire, or why there is none.
-#[derive(Clone, Copy)]
-pub enum WireNumber {
-    Wire(u16),
-    Refused(Refusal),
-}
-
 // The number of the wire that a port of a tile is on. Grounds 1 and 20, in this order, a tile's number before a port's (`wire_number`).
 // Rules out: a number that is not the lowest of its wire by the joins; naming the port where the tile is out of range too.
-pub fn wire_number(b: Block, tile: u32, port: u32) -> WireNumber
+pub fn wire_number(b: Block, tile: u32, port: u32) -> Result<u16, Refusal>
     ensures answer { result ≡ wire_number b tile port }
     ensures joins { IsWire b (port_of tile port) result }
 {
     if !ports::size::is_sized(b) {
-        return WireNumber::Refused(Refusal::WrongSize);
+        return Err(Refusal::WrongSize);
     }
     if b.h * b.w <= tile {
-        return WireNumber::Refused(Refusal::OutOfRange(tile));
+        return Err(Refusal::OutOfRange(tile));
     }
     if ports::lengths::PORTS_PER_TILE <= port {
-        return WireNumber::Refused(Refusal::OutOfRange(port));
+        return Err(Refusal::OutOfRange(port));
     }
-    WireNumber::Wire(wire_of(b, ports::lengths::PORTS_PER_TILE * tile + port) as u16)
+    Ok(wire_of(b, ports::lengths::PORTS_PER_TILE * tile + port) as u16)
 }

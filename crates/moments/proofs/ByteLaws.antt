@@ -1,5 +1,6 @@
 -- Ground 10 over joined lists: the first byte above 1, and that there is none. Main laws: `bad_byte_here`, `bad_byte_next`; `none_of_bits`;
 -- `bytes_bad`, `bytes_done`, `bytes_shows`.
+use Rattle.std.specs.Prelude.{Ok, Err}
 use Prim.Native.Nat.{ℕ, ◌+◌, ◌-◌, ◌<◌, ◌≤◌}
 use mathlib.Core.Path.{◌≡◌, sym, ◌∙◌, ap}
 use mathlib.Core.Bool.{false}
@@ -15,7 +16,6 @@ use Rattle.lists.proofs.SearchLaws.{first_at, first_none, first_true, first_befo
 use Rattle.netlist.specs.Running.{Bits}
 use Rattle.refusal.specs.Grounds.{answer_number}
 use Rattle.refusal.specs.declared.Refusal.TheVariants.{NotABit}
-use Rattle.refusal.specs.declared.Answer.TheVariants.{Done, Refused}
 use Rattle.refusal.proofs.GroundsLaws.{unless_passed}
 use Rattle.sim.specs.Stepping.{above_one, bad_byte}
 use Rattle.sim.specs.Meaning.{FirstAbove}
@@ -90,18 +90,18 @@ none_of_bits xs h =
 -- ---- ground 10
 
 module _ (xs : List ℕ) where
-  pub bytes_bad : (i : ℕ) → i ≡ bad_byte xs → i < length xs → Refused (NotABit i) ≡ bytes_answer xs
+  pub bytes_bad : (i : ℕ) → i ≡ bad_byte xs → i < length xs → Err (NotABit i) ≡ bytes_answer xs
   unfolding bytes_answer
   bytes_bad i e l = rw (← e, lt-leb (length xs) i l)
 
-  pub bytes_done : length xs ≤ bad_byte xs → Done ≡ bytes_answer xs
+  pub bytes_done : length xs ≤ bad_byte xs → (Ok tt) ≡ bytes_answer xs
   unfolding bytes_answer
   bytes_done l = rw (le-leb (length xs) (bad_byte xs) l)
 
-  pub bytes_shows : bytes_answer xs ≡ Done → length xs ≤ bad_byte xs
+  pub bytes_shows : bytes_answer xs ≡ (Ok tt) → length xs ≤ bad_byte xs
   unfolding bytes_answer
   bytes_shows e =
-      leb-true (length xs) (bad_byte xs) (unless_passed answer_number (leb (length xs) (bad_byte xs)) _ _ Done (λ z. absurd (omega arith)) e).0
+      leb-true (length xs) (bad_byte xs) (unless_passed answer_number (leb (length xs) (bad_byte xs)) _ _ (Ok tt) (λ z. absurd (omega arith)) e).0
 
   -- the first byte above 1, in the paper's words
   pub first_above : bad_byte xs < length xs → FirstAbove xs (bad_byte xs)

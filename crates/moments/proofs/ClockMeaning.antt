@@ -1,5 +1,6 @@
 -- Every answer of clocking says what specs/Meaning.antt has, and what it says fits one answer only. Main laws: `clock_says`, `clock_exact_lem`. What a yes
 -- writes is fixed by the clause `next`. Assumes nothing.
+use Rattle.std.specs.Prelude.{Result, Ok, Err}
 use Prim.Native.Nat.{ℕ}
 use mathlib.Core.Path.{◌≡◌, sym, subst, ap, ◌∙◌}
 use mathlib.Core.Bool.{true}
@@ -11,8 +12,6 @@ use lib.ListN.{length}
 use Rattle.lists.proofs.CaseLaws.{clash, test_false}
 use Rattle.refusal.specs.declared.Refusal.{Refusal}
 use Rattle.refusal.specs.declared.Refusal.TheVariants.{Table}
-use Rattle.refusal.specs.declared.Answer.{Answer}
-use Rattle.refusal.specs.declared.Answer.TheVariants.{Done, Refused}
 use Rattle.refusal.proofs.GroundsLaws.{unless_cases}
 use Rattle.ports.specs.declared.size.Size.{Size}
 use Rattle.ports.specs.Block.{tile_count, Allowed, allowed}
@@ -38,10 +37,10 @@ module _ (S : Size) (t st state before after : List ℕ) (next : ℕ) where
   abbrev all : ClockLent
   all = clock_lent t st state before after next
 
-  abbrev told : Answer
+  abbrev told : Result (Unit {0}) Refusal
   told = clock_answer S t st state before after (clock_exact S all)
 
-  abbrev Says : Answer → Type 0
+  abbrev Says : Result (Unit {0}) Refusal → Type 0
   Says = ClockSays S t st state before after all
 
   abbrev joined : List ℕ
@@ -77,7 +76,7 @@ module _ (S : Size) (t st state before after : List ℕ) (next : ℕ) where
       })))))
 
   -- the same of what `clock` promises to answer
-  pub clock_says : (r : Answer) → r ≡ clock_answer S t st state before after (clock_exact S (clock_lent t st state before after next))
+  pub clock_says : (r : Result (Unit {0}) Refusal) → r ≡ clock_answer S t st state before after (clock_exact S (clock_lent t st state before after next))
       → ClockSays S t st state before after (clock_lent t st state before after next) r
   clock_says r e = subst Says (sym e) clock_means
 
@@ -97,14 +96,14 @@ module _ (S : Size) (t st state before after : List ℕ) (next : ℕ) where
       settings_later t st (tile_count S) (bytes_answer joined) (rules_pass can.rules) (omega (arith, e)) ∙ lent_told can.size can.lengths
 
   -- an answer that says so is the one that is computed
-  no_told : {refusal : Refusal} → ClockNo S t st state before after all refusal → Refused refusal ≡ told
+  no_told : {refusal : Refusal} → ClockNo S t st state before after all refusal → Err refusal ≡ told
   no_told (no_size none) = clock_size S t st state before after (clock_exact S all) (test_false (allowed S) (allowed_exact S).0 none)
   no_told (no_length size none) =
       clock_length S t st state before after (clock_exact S all) (allowed_true S size) (test_false (clock_exact S all) (clock_long_exact S all).0 none)
   no_told (no_table part size long broke) =
       let few = broke.counted in
       let e = ((faulty_part_exact logic_tile t part).1 broke).0 in
-      ap (λ (p : ℕ). Refused (Table p)) (sym e)
+      ap (λ (p : ℕ). Err (Table p)) (sym e)
       ∙ settings_table t st (tile_count S) (bytes_answer joined) (ne_eqb (faulty_part logic_tile t) (part_count logic_tile t) (λ z. absurd (omega (arith, e, z))))
       ∙ lent_told size long
   no_told (no_settings T size long rules low) =
@@ -113,16 +112,16 @@ module _ (S : Size) (t st state before after : List ℕ) (next : ℕ) where
       ∙ lent_told size long
   no_told (no_bit index can above) = bytes_bad joined index (sym (above_is joined index above)) above.within ∙ bytes_told can
 
-  says_told : (r : Answer) → Says r → r ≡ told
-  says_told Done (can, hs, hb, ha) = bits_done state before after hs hb ha ∙ bytes_told can
-  says_told (Refused refusal) says = no_told says
+  says_told : (r : Result (Unit {0}) Refusal) → Says r → r ≡ told
+  says_told (Ok _) (can, hs, hb, ha) = bits_done state before after hs hb ha ∙ bytes_told can
+  says_told (Err refusal) says = no_told says
 
   -- one answer only
-  pub clock_exact_lem : (r q : Answer) → ClockSays S t st state before after (clock_lent t st state before after next) r
+  pub clock_exact_lem : (r q : Result (Unit {0}) Refusal) → ClockSays S t st state before after (clock_lent t st state before after next) r
       → ClockSays S t st state before after (clock_lent t st state before after next) q → r ≡ q
   clock_exact_lem r q x y = says_told r x ∙ sym (says_told q y)
 
   -- a yes from what it says
-  pub clock_yes : ClockSays S t st state before after (clock_lent t st state before after next) Done
-      → clock_answer S t st state before after (clock_exact S (clock_lent t st state before after next)) ≡ Done
-  clock_yes says = sym (says_told Done says)
+  pub clock_yes : ClockSays S t st state before after (clock_lent t st state before after next) (Ok tt)
+      → clock_answer S t st state before after (clock_exact S (clock_lent t st state before after next)) ≡ (Ok tt)
+  clock_yes says = sym (says_told (Ok tt) says)

@@ -1,5 +1,7 @@
 -- What settling answers, one law a ground, and what a yes shows. Main laws: `stands_passed`, `run_row`, `run_bytes`, `run_shows`;
 -- `settle_size`, `settle_length`, `settle_inputs`; `settle_cleared`. Assumes nothing.
+use Rattle.refusal.specs.declared.Refusal.{Refusal}
+use Rattle.std.specs.Prelude.{Result, Ok, Err}
 use Prim.Native.Nat.{ℕ, ◌*◌, ◌<◌, ◌≤◌}
 use mathlib.Core.Path.{◌≡◌, refl, sym, ◌∙◌, ap}
 use mathlib.Core.Bool.{Bool, true, false}
@@ -13,8 +15,6 @@ use Rattle.refusal.specs.Grounds.{answer_number}
 use Rattle.refusal.specs.Memory.{work_room}
 use Rattle.refusal.proofs.GroundsLaws.{unless_cases, unless_passed}
 use Rattle.refusal.specs.declared.Refusal.TheVariants.{WrongSize, WrongLength, Row}
-use Rattle.refusal.specs.declared.Answer.{Answer}
-use Rattle.refusal.specs.declared.Answer.TheVariants.{Done, Refused}
 use Rattle.ports.specs.declared.size.Block.{Block}
 use Rattle.ports.specs.Block.{tiles, sized}
 use Rattle.ports.specs.Lengths.{ports}
@@ -45,7 +45,7 @@ pub passed_stands : (B : Block) (list : List ℕ) → bad_row B list ≡ ports B
 passed_stands B list e i l = (bad_row_first B list).before i (omega (arith, e))
 
 module _ (B : Block) (list state lent : List ℕ) where
-  pub run_row : (row : ℕ) → row ≡ bad_row B list → row < ports B → Refused (Row row) ≡ run_answer B list state lent
+  pub run_row : (row : ℕ) → row ≡ bad_row B list → row < ports B → Err (Row row) ≡ run_answer B list state lent
   unfolding run_answer
   run_row row e l = rw (← e, lt-leb (ports B) row l)
 
@@ -53,11 +53,11 @@ module _ (B : Block) (list state lent : List ℕ) where
   unfolding run_answer
   run_bytes stands = rw (le-leb _ _ stands)
 
-  module _ (done : run_answer B list state lent ≡ Done) where
-    checks_passed : (ports B ≤ bad_row B list) × (bytes_answer (state ++ lent) ≡ Done)
+  module _ (done : run_answer B list state lent ≡ (Ok tt)) where
+    checks_passed : (ports B ≤ bad_row B list) × (bytes_answer (state ++ lent) ≡ (Ok tt))
     unfolding run_answer
     checks_passed =
-        let row = unless_passed answer_number (leb (ports B) (bad_row B list)) _ _ Done (λ z. absurd (omega arith)) done in
+        let row = unless_passed answer_number (leb (ports B) (bad_row B list)) _ _ (Ok tt) (λ z. absurd (omega arith)) done in
         (leb-true _ _ row.0, row.1)
 
     run_passed : bad_row B list ≡ ports B
@@ -80,11 +80,11 @@ module _ (B : Block) (list state lent : List ℕ) where
 -- ---- grounds 1 and 2
 
 module _ (B : Block) (t st list state lent : List ℕ) where
-  pub settle_size : (lengths : Bool) → sized B ≡ false → Refused WrongSize ≡ settle_answer B t st list state lent lengths
+  pub settle_size : (lengths : Bool) → sized B ≡ false → Err WrongSize ≡ settle_answer B t st list state lent lengths
   unfolding settle_answer
   settle_size lengths e = rw e
 
-  pub settle_length : (lengths : Bool) → sized B ≡ true → lengths ≡ false → Refused WrongLength ≡ settle_answer B t st list state lent lengths
+  pub settle_length : (lengths : Bool) → sized B ≡ true → lengths ≡ false → Err WrongLength ≡ settle_answer B t st list state lent lengths
   unfolding settle_answer
   settle_length lengths e l = rw (e, l)
 
@@ -96,7 +96,7 @@ module _ (B : Block) (t st list state lent : List ℕ) where
 -- ---- memory
 
 -- the work room is zeroed under every ground but 1 and 2, and on a yes
-abbrev Zeroed : Answer → Type 0
+abbrev Zeroed : Result (Unit {0}) Refusal → Type 0
 Zeroed a = (old : List ℕ) → zeros (length old) ≡ work_room (answer_number a) old
 
 inputs_zeroed : (B : Block) (t st list state lent : List ℕ) → Zeroed (settings_answer t st (tiles B) (run_answer B list state lent))
@@ -108,7 +108,7 @@ inputs_zeroed B t st list state lent =
     (λ e. unless_cases Zeroed (leb (length (state ++ lent)) (bad_byte (state ++ lent))) _ _ (λ e old. refl) (λ e old. refl))))
 
 -- a part of the work room of which the length is the old one, cleared
-pub settle_cleared : (B : Block) (t st list state lent old : List ℕ) (a : Answer) (n : ℕ)
+pub settle_cleared : (B : Block) (t st list state lent old : List ℕ) (a : Result (Unit {0}) Refusal) (n : ℕ)
     → a ≡ settings_answer t st (tiles B) (run_answer B list state lent) → n ≡ length old → zeros n ≡ work_room (answer_number a) old
 settle_cleared B t st list state lent old a n e l =
-    ap zeros l ∙ inputs_zeroed B t st list state lent old ∙ ap (λ (x : Answer). work_room (answer_number x) old) (sym e)
+    ap zeros l ∙ inputs_zeroed B t st list state lent old ∙ ap (λ (x : Result (Unit {0}) Refusal). work_room (answer_number x) old) (sym e)

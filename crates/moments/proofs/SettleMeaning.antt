@@ -1,5 +1,6 @@
 -- Every answer of settling says what specs/Meaning.antt has, and what it says fits one answer only. Main laws: `settle_says`, `settle_exact_lem`. What a yes
 -- writes is fixed by the clause `values`. Assumes nothing.
+use Rattle.std.specs.Prelude.{Result, Ok, Err}
 use Prim.Native.Nat.{ℕ, ◌*◌, ◌≤◌}
 use mathlib.Core.Path.{◌≡◌, sym, subst, ap, ◌∙◌}
 use mathlib.Core.Bool.{true}
@@ -11,8 +12,6 @@ use lib.ListN.{length}
 use Rattle.lists.proofs.CaseLaws.{clash, test_false}
 use Rattle.refusal.specs.declared.Refusal.{Refusal}
 use Rattle.refusal.specs.declared.Refusal.TheVariants.{Table}
-use Rattle.refusal.specs.declared.Answer.{Answer}
-use Rattle.refusal.specs.declared.Answer.TheVariants.{Done, Refused}
 use Rattle.refusal.proofs.GroundsLaws.{unless_cases}
 use Rattle.ports.specs.declared.size.Block.{Block}
 use Rattle.ports.specs.Block.{tiles, Sized, sized}
@@ -44,10 +43,10 @@ module _ (B : Block) (t st list state lent : List ℕ) (room : SettleRoomLent) w
   abbrev all : SettleLent
   all = settle_lent t st list state lent room
 
-  abbrev told : Answer
+  abbrev told : Result (Unit {0}) Refusal
   told = settle_answer B t st list state lent (settle_exact B all)
 
-  abbrev Says : Answer → Type 0
+  abbrev Says : Result (Unit {0}) Refusal → Type 0
   Says = SettleSays B t st list state lent all
 
   -- ---- every answer says it
@@ -85,7 +84,7 @@ module _ (B : Block) (t st list state lent : List ℕ) (room : SettleRoomLent) w
       })))))
 
   -- the same of what `settle` promises to answer
-  pub settle_says : (r : Answer) → r ≡ settle_answer B t st list state lent (settle_exact B (settle_lent t st list state lent room))
+  pub settle_says : (r : Result (Unit {0}) Refusal) → r ≡ settle_answer B t st list state lent (settle_exact B (settle_lent t st list state lent room))
       → SettleSays B t st list state lent (settle_lent t st list state lent room) r
   settle_says r e = subst Says (sym e) settle_means
 
@@ -109,14 +108,14 @@ module _ (B : Block) (t st list state lent : List ℕ) (room : SettleRoomLent) w
   stands_place stands = omega (arith, stands_passed B list stands)
 
   -- an answer that says so is the one that is computed
-  no_told : {refusal : Refusal} → SettleNo B t st list state lent all refusal → Refused refusal ≡ told
+  no_told : {refusal : Refusal} → SettleNo B t st list state lent all refusal → Err refusal ≡ told
   no_told (wrong_size none) = settle_size B t st list state lent (settle_exact B all) (test_false (sized B) (sized_exact B).0 none)
   no_told (wrong_length size none) =
       settle_length B t st list state lent (settle_exact B all) (sized_true B size) (test_false (settle_exact B all) (settle_long_exact B all).0 none)
   no_told (broken part size long broke) =
       let few = broke.counted in
       let e = ((faulty_part_exact logic_tile t part).1 broke).0 in
-      ap (λ (p : ℕ). Refused (Table p)) (sym e)
+      ap (λ (p : ℕ). Err (Table p)) (sym e)
       ∙ settings_table t st (tiles B) (run_answer B list state lent) (ne_eqb (faulty_part logic_tile t) (part_count logic_tile t) (λ z. absurd (omega (arith, e, z))))
       ∙ lent_told size long
   no_told (bitless T size long rules low) =
@@ -130,18 +129,18 @@ module _ (B : Block) (t st list state lent : List ℕ) (room : SettleRoomLent) w
       bytes_bad (state ++ lent) index (sym (above_is (state ++ lent) index above)) above.within ∙ run_bytes B list state lent (stands_place stands)
       ∙ run_told can
 
-  says_told : (r : Answer) → Says r → r ≡ told
-  says_told Done (can, stands, hs, hl) =
+  says_told : (r : Result (Unit {0}) Refusal) → Says r → r ≡ told
+  says_told (Ok _) (can, stands, hs, hl) =
       bytes_done (state ++ lent) (none_of_bits (state ++ lent) (bits_append state lent hs hl)) ∙ run_bytes B list state lent (stands_place stands)
       ∙ run_told can
-  says_told (Refused refusal) says = no_told says
+  says_told (Err refusal) says = no_told says
 
   -- one answer only
-  pub settle_exact_lem : (r q : Answer) → SettleSays B t st list state lent (settle_lent t st list state lent room) r
+  pub settle_exact_lem : (r q : Result (Unit {0}) Refusal) → SettleSays B t st list state lent (settle_lent t st list state lent room) r
       → SettleSays B t st list state lent (settle_lent t st list state lent room) q → r ≡ q
   settle_exact_lem r q x y = says_told r x ∙ sym (says_told q y)
 
   -- a yes from what it says
-  pub settle_yes : SettleSays B t st list state lent (settle_lent t st list state lent room) Done
-      → settle_answer B t st list state lent (settle_exact B (settle_lent t st list state lent room)) ≡ Done
-  settle_yes says = sym (says_told Done says)
+  pub settle_yes : SettleSays B t st list state lent (settle_lent t st list state lent room) (Ok tt)
+      → settle_answer B t st list state lent (settle_exact B (settle_lent t st list state lent room)) ≡ (Ok tt)
+  settle_yes says = sym (says_told (Ok tt) says)

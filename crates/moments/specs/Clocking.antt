@@ -1,12 +1,11 @@
 -- How every cell's state moves (document 01, 'The list and a step'), from what stands at the ports of its tile before, `b`, and after, `a`.
 --   handed == the values of a tile's own ports, among values that are handed over (document 02, W11)
 --   of_wires == the values of the same ports' wires, as in document 01's step; `clock_of_settled` shows that it is the same of settled values
-use Rattle.std.specs.Prelude.{ℕ, ◌+◌, ◌*◌, ◌/◌, ◌%◌, ◌≤◌, ◌≡◌, Bool, List, ◌++◌, length, get_or}
+use Rattle.refusal.specs.declared.Refusal.{Refusal}
+use Rattle.std.specs.Prelude.{ℕ, ◌+◌, ◌*◌, ◌/◌, ◌%◌, ◌≤◌, ◌≡◌, Bool, List, ◌++◌, length, get_or, Result, Err}
 use Rattle.lists.specs.Tables.{tabulate}
 use Rattle.refusal.specs.Grounds.{unless}
 use Rattle.refusal.specs.declared.Refusal.TheVariants.{WrongSize, WrongLength}
-use Rattle.refusal.specs.declared.Answer.{Answer}
-use Rattle.refusal.specs.declared.Answer.TheVariants.{Refused}
 use Rattle.ports.specs.declared.size.Size.{Size}
 use Rattle.ports.specs.declared.size.Block.{Block}
 use Rattle.ports.specs.Block.{block, port_of, tile_port, tile_count, allowed, Allowed}
@@ -70,8 +69,8 @@ pub record Clockable (S : Size) (st state before after : List ℕ) : Type 0 wher
   pub after_long : length after ≡ values_length S
 
 -- What `clock` answers ("clocking 1, 2, 3, 9, 10, where 10 also covers settled values, after the state").
-unfoldable pub clock_answer : Size → List ℕ → List ℕ → List ℕ → List ℕ → List ℕ → Bool → Answer
+unfoldable pub clock_answer : Size → List ℕ → List ℕ → List ℕ → List ℕ → List ℕ → Bool → Result (Unit {0}) Refusal
 clock_answer S t st state before after lengths =
-    unless (allowed S) (Refused WrongSize)
-    (unless lengths (Refused WrongLength)
+    unless (allowed S) (Err WrongSize)
+    (unless lengths (Err WrongLength)
     (settings_answer t st (tile_count S) (bytes_answer (state ++ before ++ after))))

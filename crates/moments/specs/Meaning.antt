@@ -1,9 +1,7 @@
 -- What the answers of `settle` and `clock` say, in the papers' words. proofs/SettleMeaning.antt and proofs/ClockMeaning.antt show it of every answer.
-use Rattle.std.specs.Prelude.{ℕ, ◌<◌, List, ◌++◌}
+use Rattle.std.specs.Prelude.{ℕ, ◌<◌, List, ◌++◌, Result, Ok, Err}
 use Rattle.refusal.specs.declared.Refusal.{Refusal}
 use Rattle.refusal.specs.declared.Refusal.TheVariants as no
-use Rattle.refusal.specs.declared.Answer.{Answer}
-use Rattle.refusal.specs.declared.Answer.TheVariants.{Done, Refused}
 use Rattle.ports.specs.declared.size.Size.{Size}
 use Rattle.ports.specs.declared.size.Block.{Block}
 use Rattle.ports.specs.Block.{size_of, tile_count, tiles, Allowed, Sized}
@@ -46,9 +44,9 @@ module _ (B : Block) (t st list state lent : List ℕ) (all : SettleLent) where
     not_a_bit : (index : ℕ) → Settleable → Stands B list → FirstAbove (state ++ lent) index → SettleNo (no.NotABit index)
 
   -- a yes: none of them holds; what it writes is in the clause `values`
-  abbrev pub SettleSays : Answer → Type 0
-  SettleSays Done = Settleable × Stands B list × Bits state × Bits lent
-  SettleSays (Refused refusal) = SettleNo refusal
+  abbrev pub SettleSays : Result (Unit {0}) Refusal → Type 0
+  SettleSays (Ok _) = Settleable × Stands B list × Bits state × Bits lent
+  SettleSays (Err refusal) = SettleNo refusal
 
 -- ---- clocking
 
@@ -69,6 +67,6 @@ module _ (S : Size) (t st state before after : List ℕ) (all : ClockLent) where
     no_bit : (index : ℕ) → Clocks → FirstAbove (state ++ before ++ after) index → ClockNo (no.NotABit index)
 
   -- a yes: none of them holds; what it writes is in the clause `next`
-  abbrev pub ClockSays : Answer → Type 0
-  ClockSays Done = Clocks × Bits state × Bits before × Bits after
-  ClockSays (Refused refusal) = ClockNo refusal
+  abbrev pub ClockSays : Result (Unit {0}) Refusal → Type 0
+  ClockSays (Ok _) = Clocks × Bits state × Bits before × Bits after
+  ClockSays (Err refusal) = ClockNo refusal

@@ -1,6 +1,5 @@
 // The checks of settling and clocking that look at contents: grounds 3, 9, 12, 10. They are not given the outputs, so they cannot write them.
-ghost use Rattle.std.specs.Prelude.{◌≡◌, ℕ, ◌*◌, ◌<◌, ◌≤◌, cond, eqb, ◌++◌, length, get_or};
-ghost use Rattle.refusal.specs.declared.Answer.TheVariants.{Done};
+ghost use Rattle.std.specs.Prelude.{◌≡◌, ℕ, ◌*◌, ◌<◌, ◌≤◌, cond, eqb, ◌++◌, length, get_or, Ok};
 ghost use Rattle.ports.specs.Block.{size_of, Sized};
 ghost use Rattle.ports.specs.Lengths.{ports, table_length, settings_length, state_length, list_length};
 ghost use Rattle.fabric.specs.Wire.{wires_of};
@@ -12,7 +11,7 @@ ghost use Rattle.moments.specs.Settling.{run_answer};
 use config::blocks::bitless_tile;
 use netlist::check::{count_wires, first_bad_row};
 use ports::size::Block;
-use refusal::{Answer, Refusal};
+use refusal::Refusal;
 use routing::rules::faulty_part;
 use routing::table::group_count;
 use wiring::fill_wires;
@@ -63,33 +62,33 @@ fn bad_byte(first: &[u8], second: &[u8]) -> usize
 }
 
 // Ground 10 of a state and lent values.
-pub fn check_lent(state: &[u8], lent: &[u8]) -> Answer
+pub fn check_lent(state: &[u8], lent: &[u8]) -> Result<(), Refusal>
     requires { (length state.now ≤ 65536) × (length lent.now ≤ 65536) }
     ensures { result ≡ bytes_answer (state.now ++ lent.now) }
 {
     let i = bad_byte(state, lent);
     if i < state.len() + lent.len() {
-        return Answer::Refused(Refusal::NotABit(i as u32));
+        return Err(Refusal::NotABit(i as u32));
     }
-    Answer::Done
+    Answer::(Ok tt)
 }
 
 // Ground 10 of a state and two sets of values.
 // Rules out: settled values that are not looked at; those after counted from 0.
-pub fn check_settled(state: &[u8], before: &[u8], after: &[u8]) -> Answer
+pub fn check_settled(state: &[u8], before: &[u8], after: &[u8]) -> Result<(), Refusal>
     requires { (length state.now ≤ 65536) × (length before.now ≤ 65536) × (length after.now ≤ 65536) }
     ensures { result ≡ bytes_answer (state.now ++ before.now ++ after.now) }
 {
     let n = state.len() + before.len();
     let i = bad_byte(state, before);
     if i < n {
-        return Answer::Refused(Refusal::NotABit(i as u32));
+        return Err(Refusal::NotABit(i as u32));
     }
     let j = first_above_one(after);
     if j < after.len() {
-        return Answer::Refused(Refusal::NotABit((n + j) as u32));
+        return Err(Refusal::NotABit((n + j) as u32));
     }
-    Answer::Done
+    Answer::(Ok tt)
 }
 
 // Marks the ports that are their own wires.
@@ -121,7 +120,7 @@ pub fn check_run(
     wires: &mut [u16],
     own: &mut [u16],
     marks: &mut [u16],
-) -> Answer
+) -> Result<(), Refusal>
     requires { Sized b × (length list.now ≡ list_length b) × (length state.now ≡ state_length (size_of b)) ×
         (length lent.now ≡ ports b) × (length wires.old ≡ ports b) × (length own.old ≡ ports b) ×
         (length marks.old ≡ ports b) }
@@ -135,24 +134,24 @@ pub fn check_run(
     let count = count_wires(own);
     let row = first_bad_row(list, count, state.len(), own, marks);
     if row < n {
-        return Answer::Refused(Refusal::Row(row as u32));
+        return Err(Refusal::Row(row as u32));
     }
     check_lent(state, lent)
 }
 
 // Grounds 3 and 9 of n tiles.
-pub fn check_settings(table: &[u16], settings: &[u16], n: usize) -> Answer
+pub fn check_settings(table: &[u16], settings: &[u16], n: usize) -> Result<(), Refusal>
     requires { (n ≤ 64) × (length table.now ≡ table_length) × (length settings.now ≡ settings_length * n) }
-    ensures { result ≡ settings_answer table.now settings.now n Done }
+    ensures { result ≡ settings_answer table.now settings.now n (Ok tt) }
 {
     let part = faulty_part(table);
     let parts = 2 + group_count(table);
     if part != parts {
-        return Answer::Refused(Refusal::Table(part as u32));
+        return Err(Refusal::Table(part as u32));
     }
     let tile = bitless_tile(table, settings, n);
     if tile < n {
-        return Answer::Refused(Refusal::NoSuchSettings(tile as u32));
+        return Err(Refusal::NoSuchSettings(tile as u32));
     }
-    Answer::Done
+    Answer::(Ok tt)
 }

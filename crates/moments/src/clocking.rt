@@ -10,7 +10,6 @@ ghost use Rattle.moments.specs.Lengths.{clock_lent, ClockLong};
 use crate::cells;
 use crate::checks::{check_settings, check_settled};
 use ports::size::{Size, tile_count};
-use refusal::Answer;
 
 // Grounds 3, 9 and 10, and on a yes what is written.
 pub fn clock_checked(
@@ -21,7 +20,7 @@ pub fn clock_checked(
     before: &[u8],
     after: &[u8],
     next: &mut [u8],
-) -> Answer
+) -> Result<(), Refusal>
     requires { Allowed s × ClockLong s (clock_lent table.now settings.now state.now before.now after.now (length next.old)) }
     ensures answer { result ≡ settings_answer table.now settings.now (tile_count s)
         (bytes_answer (state.now ++ before.now ++ after.now)) }
@@ -29,13 +28,13 @@ pub fn clock_checked(
         (next_states s settings.now (handed before.now) (handed after.now) state.now) }
 {
     let read = check_settings(table, settings, tile_count(s));
-    let Answer::Done = read else {
+    let Ok(()) = read else {
         return read;
     };
     let bits = check_settled(state, before, after);
-    let Answer::Done = bits else {
+    let Ok(()) = bits else {
         return bits;
     };
     cells::clock(s, settings, before, after, state, next);
-    Answer::Done
+    Ok(())
 }

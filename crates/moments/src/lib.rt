@@ -19,7 +19,7 @@ ghost use Rattle.moments.specs.Meaning.{SettleSays, ClockSays};
 
 use crate::lengths::{ClockLent, SettleLent, SettleRoomLent, is_clock_exact, is_settle_exact};
 use ports::size::{Block, Size};
-use refusal::{Answer, Refusal};
+use refusal::Refusal;
 
 pub mod cells;
 mod checks;
@@ -42,7 +42,7 @@ pub fn settle(
     wires: &mut [u16],
     own: &mut [u16],
     marks: &mut [u16],
-) -> Answer
+) -> Result<(), Refusal>
     ensures answer { result ≡ settle_answer b table.now settings.now list.now state.now
         lent.now (settle_exact b (settle_lent table.now settings.now list.now
         state.now lent.now
@@ -57,7 +57,7 @@ pub fn settle(
         lent.now (settle_room_lent values.old wires.old own.old marks.old)) result }
 {
     if !ports::size::is_sized(b) {
-        return Answer::Refused(Refusal::WrongSize);
+        return Err(Refusal::WrongSize);
     }
     let room = SettleRoomLent {
         values: values.len(),
@@ -74,7 +74,7 @@ pub fn settle(
         room: room,
     };
     if !is_settle_exact(b, all) {
-        return Answer::Refused(Refusal::WrongLength);
+        return Err(Refusal::WrongLength);
     }
     let r = settling::settle_checked(
         b, table, settings, list, state, lent, values, wires, own, marks,
@@ -96,7 +96,7 @@ pub fn clock(
     before: &[u8],
     after: &[u8],
     next: &mut [u8],
-) -> Answer
+) -> Result<(), Refusal>
     ensures answer { result ≡ clock_answer s table.now settings.now state.now before.now
         after.now (clock_exact s (clock_lent table.now settings.now state.now
         before.now after.now (length next.old))) }
@@ -107,7 +107,7 @@ pub fn clock(
         after.now (length next.old)) result }
 {
     if !ports::size::is_allowed(s) {
-        return Answer::Refused(Refusal::WrongSize);
+        return Err(Refusal::WrongSize);
     }
     let all = ClockLent {
         table: table.len(),
@@ -118,7 +118,7 @@ pub fn clock(
         next: next.len(),
     };
     if !is_clock_exact(s, all) {
-        return Answer::Refused(Refusal::WrongLength);
+        return Err(Refusal::WrongLength);
     }
     clocking::clock_checked(s, table, settings, state, before, after, next)
 }

@@ -11,7 +11,6 @@ ghost use Rattle.moments.specs.Lengths.{settle_room_lent, settle_lent, SettleLon
 use crate::checks::{check_run, check_settings};
 use crate::spread::settle_ports;
 use ports::size::Block;
-use refusal::Answer;
 
 // Grounds 3, 9, 12 and 10, and on a yes what is written.
 pub fn settle_checked(
@@ -25,7 +24,7 @@ pub fn settle_checked(
     wires: &mut [u16],
     own: &mut [u16],
     marks: &mut [u16],
-) -> Answer
+) -> Result<(), Refusal>
     requires { Sized b × SettleLong b (settle_lent table.now settings.now list.now state.now lent.now
         (settle_room_lent values.old wires.old own.old marks.old)) }
     ensures answer { result ≡ settings_answer table.now settings.now (tiles b)
@@ -34,13 +33,13 @@ pub fn settle_checked(
         (port_values b (settled_by b list.now state.now lent.now)) }
 {
     let read = check_settings(table, settings, (b.h * b.w) as usize);
-    let Answer::Done = read else {
+    let Ok(()) = read else {
         return read;
     };
     let run = check_run(b, list, state, lent, wires, own, marks);
-    let Answer::Done = run else {
+    let Ok(()) = run else {
         return run;
     };
     settle_ports(b, list, state, lent, wires, own, values);
-    Answer::Done
+    Ok(())
 }

@@ -1,15 +1,15 @@
 -- The report of an input: "The report program reads standard input and builds." What each answer prints. `report_exact` (theorem/proofs/ReportExact.antt):
 -- this report, and no other one, says what the paper has it say (`ReportSays`).
-use Rattle.std.specs.Prelude.{ℕ, ◌*◌, true, List, ◌++◌}
+use Rattle.refusal.specs.Grounds.{answer_number, number_value}
+use Rattle.refusal.specs.declared.Refusal.{Refusal}
+use Rattle.std.specs.Prelude.{ℕ, ◌*◌, true, List, ◌++◌, Result, Ok, Err}
 use Rattle.ports.specs.declared.size.Block.{Block}
 use Rattle.ports.specs.Block.{block, tiles}
 use Rattle.ports.specs.Lengths.{ports_per_tile}
 use Rattle.words.specs.Forms.{TileBits, tiles_of_bytes}
 use Rattle.config.specs.Blocks.{decoded}
 use Rattle.equations.specs.Sources.{sources_of}
-use Rattle.block.specs.declared.Built.{Built}
-use Rattle.block.specs.declared.Built.TheVariants as built
-use Rattle.block.specs.Building.{built_number, built_value, build_answer}
+use Rattle.block.specs.Building.{build_answer}
 use Rattle.frames.specs.declared.input.Parsed.{Parsed}
 use Rattle.frames.specs.declared.input.Parsed.TheVariants as parse
 use Rattle.frames.specs.Input.{parsed, parsed_number, parsed_place}
@@ -30,9 +30,9 @@ unfoldable pub accepted_lines : Block → List ℕ → List ℕ → List ℕ
 accepted_lines B t st = lines_of (sources_of B t st) st (tiles B)
 
 -- "After a no only the 08 line is printed."
-abbrev pub built_lines : Block → List ℕ → List ℕ → Built → List ℕ
-built_lines B t st (built.Listed rows) = accepted_lines B t st
-built_lines B t st (built.Refused refusal) = answer_line (built_number (built.Refused refusal)) (built_value (built.Refused refusal))
+abbrev pub built_lines : Block → List ℕ → List ℕ → Result ℕ Refusal → List ℕ
+built_lines B t st (Ok rows) = accepted_lines B t st
+built_lines B t st (Err refusal) = answer_line (answer_number (Err refusal)) (number_value (Err refusal))
 
 -- the report of a block's tiles; every lent length is exact
 unfoldable pub block_lines : Block → List ℕ → (ℕ → TileBits) → List ℕ

@@ -12,7 +12,6 @@ ghost use Rattle.block.specs.Lengths.{room_lent, build_lent, BuildLong};
 ghost use Rattle.frames.specs.Whole.{Small};
 ghost use Rattle.reporting.specs.Report.{out_length, lines_of, accepted_lines, block_lines};
 
-use block::Built;
 use lines::listing;
 use lines::text::answer_line;
 use netlist::row::ROW_LENGTH;
@@ -120,8 +119,8 @@ fn put_built(
         b, table, bits, list, settings, wires, sources, rows, marks, queue,
     );
     match built {
-        Built::Refused(r) => put_refusal(r, out),
-        Built::Listed(rows_listed) => {
+        Err(r) => put_refusal(r, out),
+        Ok(rows_listed) => {
             put_accepted(b, table, bits, settings, wires, sources, out)
         }
     }

@@ -1,4 +1,5 @@
 -- What an answer of `step` says fits one answer only. Main law: `step_exact_lem`. What a yes writes is fixed by the clauses `values` and `next`. Assumes nothing.
+use Rattle.std.specs.Prelude.{Result, Ok, Err}
 use Prim.Native.Nat.{ℕ, ◌*◌, ◌≤◌}
 use mathlib.Core.Path.{◌≡◌, sym, ap, ◌∙◌}
 use mathlib.Core.Bool.{true}
@@ -10,8 +11,6 @@ use Rattle.lists.proofs.CaseLaws.{test_false}
 use Rattle.lists.proofs.SearchLaws.{first_at}
 use Rattle.refusal.specs.declared.Refusal.{Refusal}
 use Rattle.refusal.specs.declared.Refusal.TheVariants.{Table, NoSuchSettings, NotABit, Row}
-use Rattle.refusal.specs.declared.Answer.{Answer}
-use Rattle.refusal.specs.declared.Answer.TheVariants.{Done, Refused}
 use Rattle.ports.specs.declared.size.Block.{Block}
 use Rattle.ports.specs.Block.{tiles, Sized, sized}
 use Rattle.ports.specs.Lengths.{ports}
@@ -42,7 +41,7 @@ module _ (B : Block) (t st list state before after : List ℕ) (room : StepRoomL
   abbrev lent : StepLent
   lent = step_lent (inputs_lent t st list state before after) room
 
-  abbrev told : Answer
+  abbrev told : Result (Unit {0}) Refusal
   told = step_answer B t st list state before after (step_exact B lent)
 
   -- grounds 1 and 2 are not given
@@ -66,35 +65,35 @@ module _ (B : Block) (t st list state before after : List ℕ) (room : StepRoomL
       omega (arith, e)
 
   -- an answer that says so is the one that is computed
-  no_told : {refusal : Refusal} → StepNo B t st list state before after lent refusal → Refused refusal ≡ told
+  no_told : {refusal : Refusal} → StepNo B t st list state before after lent refusal → Err refusal ≡ told
   no_told (wrong_size none) = step_size B t st list state before after (step_exact B lent) (test_false (sized B) (sized_exact B).0 none)
   no_told (wrong_length size none) =
       step_length B t st list state before after (step_exact B lent) (sized_true B size) (test_false (step_exact B lent) (step_long_exact B lent).0 none)
   no_told (broken part size long broke) =
       let few = broke.counted in
       let e = ((faulty_part_exact logic_tile t part).1 broke).0 in
-      ap (λ (p : ℕ). Refused (Table p)) (sym e)
+      ap (λ (p : ℕ). Err (Table p)) (sym e)
       ∙ inputs_table B t st list state before after (ne_eqb (faulty_part logic_tile t) (part_count logic_tile t) (λ z. absurd (omega (arith, e, z))))
       ∙ lent_told size long
   no_told (bitless T size long rules low) =
       let e = bitless_is t st (tiles B) rules long.inputs_long.settings_long T low in
       let l = low.within in
-      ap (λ (n : ℕ). Refused (NoSuchSettings n)) e ∙ inputs_settings B t st list state before after (rules_pass rules) (omega (arith, e))
+      ap (λ (n : ℕ). Err (NoSuchSettings n)) e ∙ inputs_settings B t st list state before after (rules_pass rules) (omega (arith, e))
       ∙ lent_told size long
   no_told (bad_row_lem row can l bad) =
       let e = first_bad_unique list (8 * tiles B) (wire_marks B) (ports B) row (bad_row B list) bad (bad_row_first B list) in
-      ap (λ (n : ℕ). Refused (Row n)) e ∙ run_row B list state before after (omega (arith, e)) ∙ run_told can
+      ap (λ (n : ℕ). Err (Row n)) e ∙ run_row B list state before after (omega (arith, e)) ∙ run_told can
   no_told (not_a_bit index can stands above) =
       let e = above_is (state ++ before ++ after) index above in
       let l = above.within in
-      ap (λ (n : ℕ). Refused (NotABit n)) (sym e) ∙ run_byte B list state before after (stands_place stands) (omega (arith, e)) ∙ run_told can
+      ap (λ (n : ℕ). Err (NotABit n)) (sym e) ∙ run_byte B list state before after (stands_place stands) (omega (arith, e)) ∙ run_told can
 
-  says_told : (r : Answer) → StepSays B t st list state before after lent r → r ≡ told
-  says_told Done (can, stands, hs, hb, ha) =
+  says_told : (r : Result (Unit {0}) Refusal) → StepSays B t st list state before after lent r → r ≡ told
+  says_told (Ok _) (can, stands, hs, hb, ha) =
       run_done B list state before after (stands_place stands) (joined_of_bits state before after hs hb ha) ∙ run_told can
-  says_told (Refused refusal) says = no_told says
+  says_told (Err refusal) says = no_told says
 
   -- one answer only
-  pub step_exact_lem : (r q : Answer) → StepSays B t st list state before after (step_lent (inputs_lent t st list state before after) room) r
+  pub step_exact_lem : (r q : Result (Unit {0}) Refusal) → StepSays B t st list state before after (step_lent (inputs_lent t st list state before after) room) r
       → StepSays B t st list state before after (step_lent (inputs_lent t st list state before after) room) q → r ≡ q
   step_exact_lem r q x y = says_told r x ∙ sym (says_told q y)

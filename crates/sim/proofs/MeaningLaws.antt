@@ -1,4 +1,6 @@
 -- Every answer of a step says what specs/Meaning.antt has. Main law: `step_says`. Assumes nothing.
+use Rattle.refusal.specs.declared.Refusal.{Refusal}
+use Rattle.std.specs.Prelude.{Result}
 use Prim.Native.Nat.{ℕ, ◌<◌}
 use mathlib.Core.Path.{◌≡◌, sym, subst}
 use mathlib.Core.Logic.{◌↔◌}
@@ -10,7 +12,6 @@ use lib.Dec.{leb}
 use lib.ListN.{length, get_or}
 use Rattle.lists.proofs.CaseLaws.{clash}
 use Rattle.lists.proofs.SearchLaws.{first_true, first_before}
-use Rattle.refusal.specs.declared.Answer.{Answer}
 use Rattle.refusal.proofs.GroundsLaws.{unless_cases}
 use Rattle.ports.specs.declared.size.Block.{Block}
 use Rattle.ports.specs.Block.{tiles, sized}
@@ -42,7 +43,7 @@ module _ (B : Block) (t st list state before after : List ℕ) (room : StepRoomL
   abbrev lent : StepLent
   lent = step_lent (inputs_lent t st list state before after) room
 
-  abbrev Says : Answer → Type 0
+  abbrev Says : Result (Unit {0}) Refusal → Type 0
   Says = StepSays B t st list state before after lent
 
   -- grounds 12 and 10
@@ -87,7 +88,7 @@ module _ (B : Block) (t st list state before after : List ℕ) (room : StepRoomL
       long = step_long_exact B lent
 
   -- the same of what `step` promises to answer
-  pub step_says : (r : Answer)
+  pub step_says : (r : Result (Unit {0}) Refusal)
       → r ≡ step_answer B t st list state before after
       (step_exact B lent)
       → Says r

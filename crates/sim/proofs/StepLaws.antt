@@ -1,5 +1,6 @@
 -- What a step answers, one law a ground, and what a yes shows. Main laws: `bad_row_first`, `run_row`, `run_byte`, `run_done`, `run_shows`; `inputs_table`,
 -- `inputs_settings`, `inputs_run`, `inputs_shows`; `step_size`, `step_length`, `step_inputs`; `room_cleared`.
+use Rattle.std.specs.Prelude.{Result, Ok, Err}
 use Prim.Native.Nat.{ℕ, ◌*◌, ◌<◌, ◌≤◌}
 use mathlib.Core.Path.{◌≡◌, refl, sym, ◌∙◌, ap, subst}
 use mathlib.Core.Bool.{Bool, true, false}
@@ -14,8 +15,6 @@ use Rattle.refusal.specs.Memory.{work_room}
 use Rattle.refusal.proofs.GroundsLaws.{unless_passed}
 use Rattle.refusal.specs.declared.Refusal.{Refusal}
 use Rattle.refusal.specs.declared.Refusal.TheVariants.{WrongSize, WrongLength, Table, NoSuchSettings, NotABit, Row}
-use Rattle.refusal.specs.declared.Answer.{Answer}
-use Rattle.refusal.specs.declared.Answer.TheVariants.{Done, Refused}
 use Rattle.ports.specs.declared.size.Block.{Block}
 use Rattle.ports.specs.Block.{tiles, sized}
 use Rattle.ports.specs.Lengths.{ports}
@@ -31,7 +30,7 @@ use Rattle.sim.specs.Stepping.{bad_byte, run_answer, inputs_answer, step_answer}
 use Rattle.stepper.proofs.SettledLaws.{marks_length}
 use Rattle.sim.proofs.ByteLaws.{bits_of_joined}
 
-pub never_done : (q : Refusal) → Refused q ≡ Done → ⊥
+pub never_done : (q : Refusal) → Err q ≡ (Ok tt) → ⊥
 never_done q e = let z : ◌≡◌ {A = ℕ} 0 1 = cc in omega arith
 
 -- ---- grounds 12 and 10
@@ -45,26 +44,26 @@ module _ (B : Block) (list state before after : List ℕ) where
   abbrev joined : List ℕ
   joined = state ++ before ++ after
 
-  pub run_row : bad_row B list < ports B → Refused (Row (bad_row B list)) ≡ run_answer B list state before after
+  pub run_row : bad_row B list < ports B → Err (Row (bad_row B list)) ≡ run_answer B list state before after
   unfolding run_answer
   run_row l = rw (lt-leb _ _ l)
 
   module _ (stands : ports B ≤ bad_row B list) where
     pub run_byte : bad_byte joined < length joined
-        → Refused (NotABit (bad_byte joined)) ≡ run_answer B list state before after
+        → Err (NotABit (bad_byte joined)) ≡ run_answer B list state before after
     unfolding run_answer
     run_byte l = rw (le-leb _ _ stands, lt-leb _ _ l)
 
-    pub run_done : length joined ≤ bad_byte joined → Done ≡ run_answer B list state before after
+    pub run_done : length joined ≤ bad_byte joined → (Ok tt) ≡ run_answer B list state before after
     unfolding run_answer
     run_done l = rw (le-leb _ _ stands, le-leb _ _ l)
 
-  module _ (done : run_answer B list state before after ≡ Done) where
+  module _ (done : run_answer B list state before after ≡ (Ok tt)) where
     checks_passed : (ports B ≤ bad_row B list) × (length joined ≤ bad_byte joined)
     unfolding run_answer
     checks_passed =
-        let row = unless_passed answer_number (leb (ports B) (bad_row B list)) _ _ Done (λ z. absurd (omega arith)) done in
-        let byte = unless_passed answer_number (leb (length joined) (bad_byte joined)) _ _ Done (λ z. absurd (omega arith)) row.1 in
+        let row = unless_passed answer_number (leb (ports B) (bad_row B list)) _ _ (Ok tt) (λ z. absurd (omega arith)) done in
+        let byte = unless_passed answer_number (leb (length joined) (bad_byte joined)) _ _ (Ok tt) (λ z. absurd (omega arith)) row.1 in
         (leb-true _ _ row.0, leb-true _ _ byte.0)
 
     run_passed : bad_row B list ≡ ports B
@@ -84,13 +83,13 @@ module _ (B : Block) (list state before after : List ℕ) where
 -- ---- grounds 3 and 9
 
 module _ (B : Block) (t st list state before after : List ℕ) where
-  pub inputs_table : table_ok logic_tile t ≡ false → Refused (Table (faulty_part logic_tile t)) ≡ inputs_answer B t st list state before after
+  pub inputs_table : table_ok logic_tile t ≡ false → Err (Table (faulty_part logic_tile t)) ≡ inputs_answer B t st list state before after
   unfolding inputs_answer
   inputs_table e = rw e
 
   module _ (kept : table_ok logic_tile t ≡ true) where
     pub inputs_settings : bitless_tile t st (tiles B) < tiles B
-        → Refused (NoSuchSettings (bitless_tile t st (tiles B))) ≡ inputs_answer B t st list state before after
+        → Err (NoSuchSettings (bitless_tile t st (tiles B))) ≡ inputs_answer B t st list state before after
     unfolding inputs_answer
     inputs_settings l = rw (kept, lt-leb _ _ l)
 
@@ -98,22 +97,22 @@ module _ (B : Block) (t st list state before after : List ℕ) where
     unfolding inputs_answer
     inputs_run l = rw (kept, le-leb _ _ l)
 
-  pub inputs_shows : inputs_answer B t st list state before after ≡ Done
-      → (table_ok logic_tile t ≡ true) × (tiles B ≤ bitless_tile t st (tiles B)) × (run_answer B list state before after ≡ Done)
+  pub inputs_shows : inputs_answer B t st list state before after ≡ (Ok tt)
+      → (table_ok logic_tile t ≡ true) × (tiles B ≤ bitless_tile t st (tiles B)) × (run_answer B list state before after ≡ (Ok tt))
   unfolding inputs_answer
   inputs_shows e =
-      let table = unless_passed answer_number (table_ok logic_tile t) _ _ Done (λ z. absurd (omega arith)) e in
-      let settings = unless_passed answer_number (leb (tiles B) (bitless_tile t st (tiles B))) _ _ Done (λ z. absurd (omega arith)) table.1 in
+      let table = unless_passed answer_number (table_ok logic_tile t) _ _ (Ok tt) (λ z. absurd (omega arith)) e in
+      let settings = unless_passed answer_number (leb (tiles B) (bitless_tile t st (tiles B))) _ _ (Ok tt) (λ z. absurd (omega arith)) table.1 in
       (table.0, leb-true _ _ settings.0, settings.1)
 
 -- ---- grounds 1 and 2
 
 module _ (B : Block) (t st list state before after : List ℕ) where
-  pub step_size : (lengths : Bool) → sized B ≡ false → Refused WrongSize ≡ step_answer B t st list state before after lengths
+  pub step_size : (lengths : Bool) → sized B ≡ false → Err WrongSize ≡ step_answer B t st list state before after lengths
   unfolding step_answer
   step_size lengths e = rw e
 
-  pub step_length : (lengths : Bool) → sized B ≡ true → lengths ≡ false → Refused WrongLength ≡ step_answer B t st list state before after lengths
+  pub step_length : (lengths : Bool) → sized B ≡ true → lengths ≡ false → Err WrongLength ≡ step_answer B t st list state before after lengths
   unfolding step_answer
   step_length lengths e l = rw (e, l)
 
@@ -125,11 +124,11 @@ module _ (B : Block) (t st list state before after : List ℕ) where
 -- ---- memory
 
 -- the work room is zeroed under every ground but 1 and 2, and on a yes
-abbrev Zeroed : Answer → Type 0
+abbrev Zeroed : Result (Unit {0}) Refusal → Type 0
 Zeroed a = (old : List ℕ) → work_room (answer_number a) old ≡ zeros (length old)
 
 zeroed : (a b c d : Bool) (part tile row index : ℕ)
-    → Zeroed (unless a (Refused (Table part)) (unless b (Refused (NoSuchSettings tile)) (unless c (Refused (Row row)) (unless d (Refused (NotABit index)) Done))))
+    → Zeroed (unless a (Err (Table part)) (unless b (Err (NoSuchSettings tile)) (unless c (Err (Row row)) (unless d (Err (NotABit index)) (Ok tt)))))
 zeroed false b c d part tile row index old = refl
 zeroed true false c d part tile row index old = refl
 zeroed true true false d part tile row index old = refl
@@ -143,7 +142,7 @@ inputs_zeroed B t st list state before after =
     (leb (length (joined B list state before after)) (bad_byte (joined B list state before after))) _ _ _ _
 
 -- a part of the work room of which the length is the old one, cleared
-pub room_cleared : (B : Block) (t st list state before after old : List ℕ) (a : Answer) (n : ℕ) → a ≡ inputs_answer B t st list state before after
+pub room_cleared : (B : Block) (t st list state before after old : List ℕ) (a : Result (Unit {0}) Refusal) (n : ℕ) → a ≡ inputs_answer B t st list state before after
     → n ≡ length old → zeros n ≡ work_room (answer_number a) old
 room_cleared B t st list state before after old a n e l =
-    ap zeros l ∙ sym (ap (λ (x : Answer). work_room (answer_number x) old) e ∙ inputs_zeroed B t st list state before after old)
+    ap zeros l ∙ sym (ap (λ (x : Result (Unit {0}) Refusal). work_room (answer_number x) old) e ∙ inputs_zeroed B t st list state before after old)

@@ -1,9 +1,7 @@
 -- What the answers of `step` say, in the paper's words. proofs/MeaningLaws.antt shows it of every answer.
-use Rattle.std.specs.Prelude.{ℕ, ◌<◌, ◌≤◌, List, ◌++◌, length, get_or}
+use Rattle.std.specs.Prelude.{ℕ, ◌<◌, ◌≤◌, List, ◌++◌, length, get_or, Result, Ok, Err}
 use Rattle.refusal.specs.declared.Refusal.{Refusal}
 use Rattle.refusal.specs.declared.Refusal.TheVariants.{WrongSize, WrongLength, Table, NoSuchSettings, NotABit, Row}
-use Rattle.refusal.specs.declared.Answer.{Answer}
-use Rattle.refusal.specs.declared.Answer.TheVariants.{Done, Refused}
 use Rattle.ports.specs.declared.size.Block.{Block}
 use Rattle.ports.specs.Block.{size_of, tiles, Sized}
 use Rattle.ports.specs.Lengths.{ports, state_length}
@@ -47,6 +45,6 @@ module _ (B : Block) (t st list state before after : List ℕ) (lent : StepLent)
     not_a_bit : (index : ℕ) → Steppable → Stands → FirstAbove (state ++ before ++ after) index → StepNo (NotABit index)
 
   -- a yes: none of them holds; what it writes is in the clauses `values` and `next`
-  abbrev pub StepSays : Answer → Type 0
-  StepSays Done = Steppable × Stands × Bits state × Bits before × Bits after
-  StepSays (Refused refusal) = StepNo refusal
+  abbrev pub StepSays : Result (Unit {0}) Refusal → Type 0
+  StepSays (Ok _) = Steppable × Stands × Bits state × Bits before × Bits after
+  StepSays (Err refusal) = StepNo refusal

@@ -1,10 +1,9 @@
 -- What `step` answers ("a step [checks] 1, 2, 3, 9, 12, 10 [..] in these orders").
-use Rattle.std.specs.Prelude.{ℕ, Bool, List, ◌++◌, ltb, leb, length, get_or}
+use Rattle.refusal.specs.declared.Refusal.{Refusal}
+use Rattle.std.specs.Prelude.{ℕ, Bool, List, ◌++◌, ltb, leb, length, get_or, Result, Ok, Err}
 use Rattle.lists.specs.Search.{first}
 use Rattle.refusal.specs.Grounds.{unless}
 use Rattle.refusal.specs.declared.Refusal.TheVariants.{WrongSize, WrongLength, Table, NoSuchSettings, Row, NotABit}
-use Rattle.refusal.specs.declared.Answer.{Answer}
-use Rattle.refusal.specs.declared.Answer.TheVariants.{Done, Refused}
 use Rattle.ports.specs.declared.size.Block.{Block}
 use Rattle.ports.specs.Block.{tiles, sized}
 use Rattle.ports.specs.Lengths.{ports}
@@ -21,19 +20,19 @@ abbrev pub bad_byte : List ℕ → ℕ
 bad_byte bytes = first (above_one bytes) 0 (length bytes)
 
 -- grounds 12 and 10
-unfoldable pub run_answer : Block → List ℕ → List ℕ → List ℕ → List ℕ → Answer
+unfoldable pub run_answer : Block → List ℕ → List ℕ → List ℕ → List ℕ → Result (Unit {0}) Refusal
 run_answer B list state before after =
-    unless (leb (ports B) (bad_row B list)) (Refused (Row (bad_row B list)))
-    (unless (leb (length (state ++ before ++ after)) (bad_byte (state ++ before ++ after))) (Refused (NotABit (bad_byte (state ++ before ++ after))))
-    Done)
+    unless (leb (ports B) (bad_row B list)) (Err (Row (bad_row B list)))
+    (unless (leb (length (state ++ before ++ after)) (bad_byte (state ++ before ++ after))) (Err (NotABit (bad_byte (state ++ before ++ after))))
+    (Ok tt))
 
 -- grounds 3, 9, 12 and 10
-unfoldable pub inputs_answer : Block → List ℕ → List ℕ → List ℕ → List ℕ → List ℕ → List ℕ → Answer
+unfoldable pub inputs_answer : Block → List ℕ → List ℕ → List ℕ → List ℕ → List ℕ → List ℕ → Result (Unit {0}) Refusal
 inputs_answer B t st list state before after =
-    unless (table_ok logic_tile t) (Refused (Table (faulty_part logic_tile t)))
-    (unless (leb (tiles B) (bitless_tile t st (tiles B))) (Refused (NoSuchSettings (bitless_tile t st (tiles B))))
+    unless (table_ok logic_tile t) (Err (Table (faulty_part logic_tile t)))
+    (unless (leb (tiles B) (bitless_tile t st (tiles B))) (Err (NoSuchSettings (bitless_tile t st (tiles B))))
     (run_answer B list state before after))
 
-unfoldable pub step_answer : Block → List ℕ → List ℕ → List ℕ → List ℕ → List ℕ → List ℕ → Bool → Answer
+unfoldable pub step_answer : Block → List ℕ → List ℕ → List ℕ → List ℕ → List ℕ → List ℕ → Bool → Result (Unit {0}) Refusal
 step_answer B t st list state before after lengths =
-    unless (sized B) (Refused WrongSize) (unless lengths (Refused WrongLength) (inputs_answer B t st list state before after))
+    unless (sized B) (Err WrongSize) (unless lengths (Err WrongLength) (inputs_answer B t st list state before after))

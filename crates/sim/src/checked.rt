@@ -10,7 +10,6 @@ ghost use Rattle.sim.specs.Lengths.{inputs_lent, InputsLong, step_room_lent, Ste
 
 use crate::checks::check_inputs;
 use ports::size::Block;
-use refusal::Answer;
 use stepper::write_step;
 
 // Grounds 3, 9, 12 and 10, and on a yes what is written.
@@ -29,7 +28,7 @@ pub fn step_checked(
     marks: &mut [u16],
     first: &mut [u8],
     second: &mut [u8],
-) -> Answer
+) -> Result<(), Refusal>
     requires sized { Sized b }
     requires inputs_long { InputsLong b (inputs_lent table.now settings.now list.now state.now before.now after.now) }
     requires step_room_long { StepRoomLong b (step_room_lent values.old next.old wires.old own.old marks.old first.old second.old) }
@@ -44,11 +43,11 @@ pub fn step_checked(
     let r = check_inputs(
         b, table, settings, list, state, before, after, wires, own, marks,
     );
-    let Answer::Done = r else {
+    let Ok(()) = r else {
         return r;
     };
     write_step(
         b, settings, list, state, before, after, wires, own, values, next, first, second,
     );
-    Answer::Done
+    Ok(())
 }

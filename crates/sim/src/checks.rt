@@ -1,6 +1,5 @@
 // The checks of a step that look at contents: grounds 3, 9, 12, 10. They are not given the outputs, so they cannot write them.
-ghost use Rattle.std.specs.Prelude.{◌≡◌, ℕ, ◌<◌, ◌≤◌, cond, eqb, ◌++◌, length, get_or};
-ghost use Rattle.refusal.specs.declared.Answer.TheVariants.{Done};
+ghost use Rattle.std.specs.Prelude.{◌≡◌, ℕ, ◌<◌, ◌≤◌, cond, eqb, ◌++◌, length, get_or, Ok};
 ghost use Rattle.ports.specs.Block.{size_of, Sized};
 ghost use Rattle.ports.specs.Lengths.{ports, state_length, list_length};
 ghost use Rattle.fabric.specs.Wire.{wires_of};
@@ -11,7 +10,7 @@ ghost use Rattle.sim.specs.Lengths.{inputs_lent, InputsLong};
 use config::blocks::bitless_tile;
 use netlist::check::{count_wires, first_bad_row};
 use ports::size::Block;
-use refusal::{Answer, Refusal};
+use refusal::Refusal;
 use routing::rules::faulty_part;
 use routing::table::group_count;
 use wiring::fill_wires;
@@ -95,7 +94,7 @@ pub fn check_run(
     wires: &mut [u16],
     own: &mut [u16],
     marks: &mut [u16],
-) -> Answer
+) -> Result<(), Refusal>
     requires { Sized b × (length list.now ≡ list_length b) × (length state.now ≡ state_length (size_of b)) ×
         (length before.now ≡ ports b) × (length after.now ≡ ports b) × (length wires.old ≡ ports b) ×
         (length own.old ≡ ports b) × (length marks.old ≡ ports b) }
@@ -109,13 +108,13 @@ pub fn check_run(
     let count = count_wires(own);
     let row = first_bad_row(list, count, state.len(), own, marks);
     if row < n {
-        return Answer::Refused(Refusal::Row(row as u32));
+        return Err(Refusal::Row(row as u32));
     }
     let i = bad_byte(b, state, before, after);
     if i < state.len() + before.len() + after.len() {
-        return Answer::Refused(Refusal::NotABit(i as u32));
+        return Err(Refusal::NotABit(i as u32));
     }
-    Answer::Done
+    Answer::(Ok tt)
 }
 
 // Grounds 3, 9, 12 and 10, in this order (`inputs_answer`). On a yes `wires` has the wire of each port, and `own` marks those that are
@@ -131,23 +130,23 @@ pub fn check_inputs(
     wires: &mut [u16],
     own: &mut [u16],
     marks: &mut [u16],
-) -> Answer
+) -> Result<(), Refusal>
     requires sized { Sized b × InputsLong b (inputs_lent table.now settings.now list.now state.now before.now after.now) }
     requires wires_len { (length wires.old ≡ ports b) × (length own.old ≡ ports b) × (length marks.old ≡ ports b) }
     ensures answer { result ≡ inputs_answer b table.now settings.now list.now
         state.now before.now after.now }
-    ensures wires { result ≡ Done → wires.new ≡ wires_of b }
-    ensures own { result ≡ Done → own.new ≡ wire_marks b }
+    ensures wires { result ≡ (Ok tt) → wires.new ≡ wires_of b }
+    ensures own { result ≡ (Ok tt) → own.new ≡ wire_marks b }
 {
     let part = faulty_part(table);
     let parts = 2 + group_count(table);
     if part != parts {
-        return Answer::Refused(Refusal::Table(part as u32));
+        return Err(Refusal::Table(part as u32));
     }
     let n = (b.h * b.w) as usize;
     let tile = bitless_tile(table, settings, n);
     if tile < n {
-        return Answer::Refused(Refusal::NoSuchSettings(tile as u32));
+        return Err(Refusal::NoSuchSettings(tile as u32));
     }
     check_run(b, list, state, before, after, wires, own, marks)
 }

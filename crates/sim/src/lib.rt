@@ -15,7 +15,7 @@ ghost use Rattle.sim.specs.Meaning.{StepSays};
 
 use crate::lengths::{InputsLent, StepLent, StepRoomLent, is_step_exact};
 use ports::size::Block;
-use refusal::{Answer, Refusal};
+use refusal::Refusal;
 
 mod checked;
 mod checks;
@@ -40,7 +40,7 @@ pub fn step(
     marks: &mut [u16],
     first: &mut [u8],
     second: &mut [u8],
-) -> Answer
+) -> Result<(), Refusal>
     ensures answer { result ≡ step_answer b table.now settings.now list.now state.now
         before.now after.now
         (step_exact b (step_lent (inputs_lent table.now settings.now list.now state.now
@@ -63,7 +63,7 @@ pub fn step(
         own.old marks.old first.old second.old)) result }
 {
     if !ports::size::is_sized(b) {
-        return Answer::Refused(Refusal::WrongSize);
+        return Err(Refusal::WrongSize);
     }
     let inputs = InputsLent {
         table: table.len(),
@@ -87,7 +87,7 @@ pub fn step(
         room: room,
     };
     if !is_step_exact(b, lent) {
-        return Answer::Refused(Refusal::WrongLength);
+        return Err(Refusal::WrongLength);
     }
     let r = checked::step_checked(
         b, table, settings, list, state, before, after, values, next, wires, own, marks, first,

@@ -1,5 +1,6 @@
 -- A block whose table and settings passed their checks (`Routed`): refused as a loop exactly if some wire depends on itself; and where it is accepted, the
 -- one choice of values, and a step. Main laws: `list_loop_exactly`, `only_choice`, `own_passes`, `step_means`. Assumes nothing.
+use Rattle.std.specs.Prelude.{Result, Ok, Err}
 use Prim.Native.Nat.{ℕ, ◌<◌}
 use mathlib.Core.Path.{◌≡◌, refl, sym, ap, subst, ◌∙◌}
 use mathlib.Core.Logic.{◌↔◌, ◌≢◌}
@@ -28,8 +29,6 @@ use Rattle.equations.specs.Settling.{block_list, Inputs, Settles}
 use Rattle.equations.proofs.WireRowLaws.{graph, row_is, own_wire_lem, wire_own, rows_named}
 use Rattle.equations.proofs.LoopLaws.{loop_exact}
 use Rattle.equations.proofs.SettlingLaws.{settles, count_wires}
-use Rattle.block.specs.declared.Built.{Built}
-use Rattle.block.specs.declared.Built.TheVariants.{Listed, Refused}
 use Rattle.block.specs.Building.{list_answer}
 use Rattle.block.specs.Meaning.{NoDisabledCarry, Accepted, ListSays, ListNo, contention, disabled_carry, loop, cell_clock}
 use Rattle.block.proofs.MeaningLaws.{list_says}
@@ -46,27 +45,27 @@ module _ (B : Block) (t st : List ℕ) (ok : Routed B t st) where
 
   -- "Each block that passes checks 1 to 6 [..] is refused as a loop [..] exactly if some wire depends on itself."
   pub list_loop_exactly : NoContention B t st → NoDisabledCarry B t st
-      → ((w : ℕ) × (list_answer B t st ≡ Refused (Loop w))) ↔ ((w : ℕ) × Depends B t st w w)
+      → ((w : ℕ) × (list_answer B t st ≡ Err (Loop w))) ↔ ((w : ℕ) × Depends B t st w w)
   list_loop_exactly free unread = (λ r. (r.0, looped r.0 (subst (ListSays B t st) r.1 says)), λ d. go d.0 d.1 (list_answer B t st) says refl)
     where
       looped : (w : ℕ) → ListNo B t st (Loop w) → Depends B t st w w
       looped w (loop v f u s) = s.here
 
-      no : (w : ℕ) → Depends B t st w w → (refusal : Refusal) → ListNo B t st refusal → list_answer B t st ≡ Refused refusal
-          → (v : ℕ) × (list_answer B t st ≡ Refused (Loop v))
+      no : (w : ℕ) → Depends B t st w w → (refusal : Refusal) → ListNo B t st refusal → list_answer B t st ≡ Err refusal
+          → (v : ℕ) × (list_answer B t st ≡ Err (Loop v))
       no w d refusal (contention v s) e = absurd (free v s.here)
       no w d refusal (disabled_carry v f s) e = absurd (unread v s.here)
       no w d refusal (loop v f u s) e = (v, e)
       no w d refusal (cell_clock T f u straight s) e = absurd (straight w d)
 
-      go : (w : ℕ) → Depends B t st w w → (a : Built) → ListSays B t st a → list_answer B t st ≡ a
-          → (v : ℕ) × (list_answer B t st ≡ Refused (Loop v))
-      go w d (Listed rows) s e = absurd (s.1.no_loop w d)
-      go w d (Refused refusal) s e = no w d refusal s e
+      go : (w : ℕ) → Depends B t st w w → (a : Result ℕ Refusal) → ListSays B t st a → list_answer B t st ≡ a
+          → (v : ℕ) × (list_answer B t st ≡ Err (Loop v))
+      go w d (Ok rows) s e = absurd (s.1.no_loop w d)
+      go w d (Err refusal) s e = no w d refusal s e
 
   -- ---- an accepted block
 
-  module _ (rows : ℕ) (listed : list_answer B t st ≡ Listed rows) where
+  module _ (rows : ℕ) (listed : list_answer B t st ≡ Ok rows) where
     told : (rows ≡ wires B) × Accepted B t st
     told = subst (ListSays B t st) listed says
 

@@ -1,23 +1,19 @@
 -- The grounds of `build` and `follow` in their orders. Main laws: `build_order`, `follow_order`; `bits_no`, `bits_yes`, grounds 3 to 8. Assumes nothing.
+use Rattle.std.specs.Prelude.{Result, Ok, Err}
 use Prim.Native.Nat.{ℕ}
 use mathlib.Core.Path.{refl}
 use mathlib.Core.Logic.{inl, inr, ⊎_elim}
 use mathlib.Core.List.{List}
 use native.Mathlib.Omega.{arith}
 use Rattle.refusal.specs.declared.Refusal.{Refusal}
-use Rattle.refusal.specs.Grounds.{number_of, place_of}
+use Rattle.refusal.specs.Grounds.{number_of, place_of, answer_number, number_value}
 use Rattle.ports.specs.declared.size.Block.{Block}
 use Rattle.ports.specs.Block.{Sized}
 use Rattle.fabric.specs.Count.{wires}
-use Rattle.block.specs.declared.Built.{Built}
-use Rattle.block.specs.declared.Built.TheVariants.{Listed, Refused}
-use Rattle.block.specs.declared.Followed.{Followed}
-use Rattle.block.specs.declared.Followed.TheVariants as followeds
 use Rattle.block.specs.declared.lengths.RoomLent.{RoomLent}
 use Rattle.block.specs.declared.lengths.BuildLent.{BuildLent}
 use Rattle.block.specs.Lengths.{BuildLong, build_lent, follow_lent}
-use Rattle.block.specs.Building.{built_number, built_value}
-use Rattle.block.specs.Drivers.{followed_number, followed_value}
+use Rattle.block.specs.Drivers.{followed_value}
 use Rattle.block.specs.Meaning.{Accepted, ListNo, contention, disabled_carry, loop, cell_clock, Readable, BuildNo, BuildSays, wrong_size, wrong_length, broken, undecodable, unlisted}
 use Rattle.block.specs.DriverMeaning.{FollowNo, FollowSays}
 use Rattle.block.specs.DriverMeaning as following
@@ -67,14 +63,14 @@ module _ (B : Block) (t bits settings : List ℕ) (room : RoomLent) where
 
   -- grounds 1 to 8
 
-  abbrev BuildOrder : Built → Type 0
-  BuildOrder a = BuildGrounds B t bits st lent (built_number a) (built_value a)
+  abbrev BuildOrder : Result ℕ Refusal → Type 0
+  BuildOrder a = BuildGrounds B t bits st lent (answer_number a) (number_value a)
 
   -- what has passed 1 and 2
-  behind : Sized B → BuildLong B lent → (refusal : Refusal) → BuildNo B t bits lent refusal → BuildOrder (Refused refusal)
+  behind : Sized B → BuildLong B lent → (refusal : Refusal) → BuildNo B t bits lent refusal → BuildOrder (Err refusal)
   behind s L refusal n = inr (s, inr (L, bits_no (at (wires B)) s L refusal n))
 
-  build_no : (refusal : Refusal) → BuildNo B t bits lent refusal → BuildOrder (Refused refusal)
+  build_no : (refusal : Refusal) → BuildNo B t bits lent refusal → BuildOrder (Err refusal)
   build_no refusal (wrong_size n) = inl (n, refl, refl)
   build_no refusal (wrong_length s n) = inr (s, inl (n, refl, refl))
   build_no refusal (broken part s L f) = behind s L refusal (broken part s L f)
@@ -84,15 +80,15 @@ module _ (B : Block) (t bits settings : List ℕ) (room : RoomLent) where
   pub build_order : BuildOrder (built B t bits settings room)
   build_order = go (built B t bits settings room) (build_says B t bits settings room _ refl)
     where
-      go : (a : Built) → BuildSays B t bits lent a → BuildOrder a
-      go (Listed rows) s = let R = s.0 in inr (R.size, inr (R.lengths, bits_yes (at (wires B)) R s.2 rows s.1))
-      go (Refused refusal) s = build_no refusal s
+      go : (a : Result ℕ Refusal) → BuildSays B t bits lent a → BuildOrder a
+      go (Ok rows) s = let R = s.0 in inr (R.size, inr (R.lengths, bits_yes (at (wires B)) R s.2 rows s.1))
+      go (Err refusal) s = build_no refusal s
 
 module _ (B : Block) (t st : List ℕ) (tile port : ℕ) (wires sources marks : List ℕ) where
-  abbrev FollowOrder : Followed → Type 0
-  FollowOrder a = FollowGrounds B t st tile port (follow_lent t st wires sources marks) (followed_number a) (followed_value a)
+  abbrev FollowOrder : Result Driver Refusal → Type 0
+  FollowOrder a = FollowGrounds B t st tile port (follow_lent t st wires sources marks) (answer_number a) (followed_value a)
 
-  follow_no : (refusal : Refusal) → FollowNo B t st tile port (follow_lent t st wires sources marks) refusal → FollowOrder (followeds.Refused refusal)
+  follow_no : (refusal : Refusal) → FollowNo B t st tile port (follow_lent t st wires sources marks) refusal → FollowOrder (Err refusal)
   follow_no refusal (following.wrong_size n) = inl (n, refl, refl)
   follow_no refusal (following.wrong_length s n) = inr (s, inl (n, refl, refl))
   follow_no refusal (following.broken part s L f) = inr (s, inr (L, inl (no_broken t part f, refl, f)))
@@ -121,8 +117,8 @@ module _ (B : Block) (t st : List ℕ) (tile port : ℕ) (wires sources marks : 
   pub follow_order : FollowOrder (followed B t st tile port wires sources marks)
   follow_order = go (followed B t st tile port wires sources marks) (follow_says B t st tile port wires sources marks _ refl)
     where
-      go : (a : Followed) → FollowSays B t st tile port (follow_lent t st wires sources marks) a → FollowOrder a
-      go (followeds.Driven driver) s =
+      go : (a : Result Driver Refusal) → FollowSays B t st tile port (follow_lent t st wires sources marks) a → FollowOrder a
+      go (Ok driver) s =
           let F = s.0 in
           let D = s.1 in
           inr (
@@ -147,4 +143,4 @@ module _ (B : Block) (t st : List ℕ) (tile port : ℕ) (wires sources marks : 
               ),
             ),
           )
-      go (followeds.Refused refusal) s = follow_no refusal s
+      go (Err refusal) s = follow_no refusal s

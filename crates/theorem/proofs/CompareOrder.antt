@@ -1,4 +1,6 @@
 -- The grounds of `compare` and of asking for a tile's part in their orders. Main laws: `compare_order`, `part_order`. Assumes nothing.
+use Rattle.refusal.specs.declared.Refusal.{Refusal}
+use Rattle.std.specs.Prelude.{Result}
 use Prim.Native.Nat.{ℕ, ◌*◌, ◌<◌, ◌≤◌}
 use mathlib.Core.Path.{◌≡◌, refl}
 use mathlib.Core.Logic.{inl, inr}
@@ -10,8 +12,7 @@ use lib.Dec.{leb, ltb}
 use lib.ListN.{length}
 use Rattle.lists.proofs.CaseLaws.{clash}
 use Rattle.lists.proofs.ListingLaws.{count_unique}
-use Rattle.refusal.specs.Grounds.{unless, answer_number, answer_value}
-use Rattle.refusal.specs.declared.Answer.{Answer}
+use Rattle.refusal.specs.Grounds.{unless, answer_number, answer_value, number_value}
 use Rattle.ports.specs.declared.size.Size.{Size}
 use Rattle.ports.specs.Block.{Allowed, tile_count, allowed}
 use Rattle.ports.specs.Lengths.{table_length, bits_length}
@@ -24,13 +25,12 @@ use Rattle.config.specs.Blocks.{fault_place, decoded, tiles_of}
 use Rattle.config.specs.Facts.{LowestFault}
 use Rattle.config.proofs.BlocksLaws.{decoded_reads}
 use Rattle.config.proofs.FaultPlaceLaws.{fault_place_lowest, no_fault_decodable}
-use Rattle.compare.specs.declared.Compared.{Compared}
 use Rattle.compare.specs.declared.lengths.CompareLent.{CompareLent}
 use Rattle.compare.specs.Difference.{DiffersIn}
 use Rattle.compare.specs.Places.{row_length}
 use Rattle.compare.specs.Rows.{difference_count}
 use Rattle.compare.specs.Lengths.{SameSize, CompareLong, same_size, part_exact, compare_lent, compare_exact}
-use Rattle.compare.specs.Entry.{compared_number, compared_value, rows_answer, bits_answer, compare_answer, compared_list, part_answer}
+use Rattle.compare.specs.Entry.{rows_answer, bits_answer, compare_answer, compared_list, part_answer}
 use Rattle.compare.proofs.LengthLaws.{same_size_exact, part_long_exact, compare_long_exact}
 use Rattle.compare.proofs.DifferenceLaws.{differences_listed}
 use Rattle.theorem.specs.Order.{Check, Yes, at, at0, RowsNeeded}
@@ -59,8 +59,8 @@ module _ (A B : Size) (table first second list before after : List ℕ) where
   abbrev new : List ℕ
   new = decoded table (tiles_of second) n
 
-  abbrev Order : Compared → Type 0
-  Order r = CompareGrounds A B table first second old new lent list (compared_number r) (compared_value r)
+  abbrev Order : Result ℕ Refusal → Type 0
+  Order r = CompareGrounds A B table first second old new lent list (answer_number r) (number_value r)
 
   -- no tile has a position at fault
   clean_all : (bits : List ℕ) → TableRules logic_tile table → leb (logic_tile.positions * n) (fault_place table (tiles_of bits) n) ≡ true
@@ -83,10 +83,10 @@ module _ (A B : Size) (table first second list before after : List ℕ) where
   RowsGrounds = Check 15 ((rows : ℕ) → RowsNeeded (DiffersIn table old new n) row_length rows → row_length * rows ≤ length list) (RowsNeeded (DiffersIn table old new n) row_length) (Yes (RowsNeeded (DiffersIn table old new n) row_length))
 
   rows_order : RowsNeeded (DiffersIn table old new n) row_length (difference_count old new n)
-      → RowsGrounds (compared_number (rows_answer old new n (length list))) (compared_value (rows_answer old new n (length list)))
+      → RowsGrounds (answer_number (rows_answer old new n (length list))) (number_value (rows_answer old new n (length list)))
   unfolding rows_answer
   rows_order rows =
-      check_order compared_number compared_value (leb (row_length * difference_count old new n) (length list)) _ _ 15 (RowsNeeded (DiffersIn table old new n) row_length) (Yes (RowsNeeded (DiffersIn table old new n) row_length))
+      check_order answer_number number_value (leb (row_length * difference_count old new n) (length list)) _ _ 15 (RowsNeeded (DiffersIn table old new n) row_length) (Yes (RowsNeeded (DiffersIn table old new n) row_length))
       (λ e. let k = leb-false (row_length * difference_count old new n) (length list) e in
       ((λ fits. let q = fits (difference_count old new n) rows in omega arith), refl, rows))
       (λ e. let k = leb-true (row_length * difference_count old new n) (length list) e in
@@ -104,19 +104,19 @@ module _ (A B : Size) (table first second list before after : List ℕ) where
   BitsGrounds = Check 3 (TableRules logic_tile table) (FirstBroken logic_tile table) FirstGrounds
 
   bits_order : length table ≡ table_length
-      → BitsGrounds (compared_number (bits_answer A table (tiles_of first) (tiles_of second) (length list)))
-      (compared_value (bits_answer A table (tiles_of first) (tiles_of second) (length list)))
+      → BitsGrounds (answer_number (bits_answer A table (tiles_of first) (tiles_of second) (length list)))
+      (number_value (bits_answer A table (tiles_of first) (tiles_of second) (length list)))
   unfolding bits_answer
   bits_order long =
-      check_order compared_number compared_value (table_ok logic_tile table) _ _ 3 (FirstBroken logic_tile table) FirstGrounds
+      check_order answer_number number_value (table_ok logic_tile table) _ _ 3 (FirstBroken logic_tile table) FirstGrounds
       (λ e. (no_broken table _ (table_broken logic_tile table e), refl, table_broken logic_tile table e))
       (λ p. let rules = (table_exact logic_tile table long).0 p in (
         rules,
-        check_order compared_number compared_value (leb (logic_tile.positions * n) (fault_place table (tiles_of first) n)) _ _ 4 (LowestFault table (tiles_of first) n) SecondGrounds
+        check_order answer_number number_value (leb (logic_tile.positions * n) (fault_place table (tiles_of first) n)) _ _ 4 (LowestFault table (tiles_of first) n) SecondGrounds
             (λ e. let low = fault_place_lowest table first rules n (leb-false _ _ e) in (faulted first low, refl, low))
             (λ e. let d = clean_all first rules e in (
               d,
-              check_order compared_number compared_value (leb (logic_tile.positions * n) (fault_place table (tiles_of second) n)) _ _ 4 (LowestFault table (tiles_of second) n) RowsGrounds
+              check_order answer_number number_value (leb (logic_tile.positions * n) (fault_place table (tiles_of second) n)) _ _ 4 (LowestFault table (tiles_of second) n) RowsGrounds
                   (λ f. let low = fault_place_lowest table second rules n (leb-false _ _ f) in (faulted second low, refl, low))
                   (λ f. let d' = clean_all second rules f in (d', rows_order (needed rules d d'))),
             )),
@@ -136,23 +136,23 @@ module _ (A B : Size) (table first second list before after : List ℕ) where
   pub compare_order : Order (compare_answer A B table (tiles_of first) (tiles_of second) (compare_exact A lent) (length list))
   unfolding compare_answer
   compare_order =
-      check_order compared_number compared_value (allowed A) _ _ 1 at0 OtherGrounds (λ e. ((λ s. clash (allowed_true A s) e), refl, refl))
+      check_order answer_number number_value (allowed A) _ _ 1 at0 OtherGrounds (λ e. ((λ s. clash (allowed_true A s) e), refl, refl))
       (λ a. (
         (allowed_exact A).0 a,
-        check_order compared_number compared_value (allowed B) _ _ 1 at0 SameGrounds (λ e. ((λ s. clash (allowed_true B s) e), refl, refl))
+        check_order answer_number number_value (allowed B) _ _ 1 at0 SameGrounds (λ e. ((λ s. clash (allowed_true B s) e), refl, refl))
             (λ b. (
               (allowed_exact B).0 b,
-              check_order compared_number compared_value (same_size A B) _ _ 14 at0 LengthGrounds (λ e. ((λ s. clash ((same_size_exact A B).1 s) e), refl, refl))
+              check_order answer_number number_value (same_size A B) _ _ 14 at0 LengthGrounds (λ e. ((λ s. clash ((same_size_exact A B).1 s) e), refl, refl))
                   (λ s. (
                     (same_size_exact A B).0 s,
-                    check_order compared_number compared_value (compare_exact A lent) _ _ 2 at0 BitsGrounds (λ e. ((λ l. clash ((compare_long_exact A lent).1 l) e), refl, refl))
+                    check_order answer_number number_value (compare_exact A lent) _ _ 2 at0 BitsGrounds (λ e. ((λ l. clash ((compare_long_exact A lent).1 l) e), refl, refl))
                         (λ l. let long = (compare_long_exact A lent).0 l in (long, bits_order long.table_long)),
                   )),
             )),
       ))
 
 module _ (A B : Size) (first second : List ℕ) (tile : ℕ) where
-  abbrev PartOrder : Answer → Type 0
+  abbrev PartOrder : Result (Unit {0}) Refusal → Type 0
   PartOrder r = PartGrounds A B first second tile (answer_number r) (answer_value r)
 
   abbrev TileGrounds : ℕ → ℕ → Type 0

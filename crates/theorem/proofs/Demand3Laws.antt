@@ -1,4 +1,5 @@
 -- Demand 3, closed: `demand3`. Assumes nothing.
+use Rattle.std.specs.Prelude.{Ok, Err}
 use Prim.Native.Nat.{ℕ}
 use mathlib.Core.Path.{◌≡◌, sym, ◌∙◌}
 use mathlib.Core.Logic.{◌↔◌}
@@ -6,7 +7,6 @@ use mathlib.Core.List.{List}
 use Rattle.refusal.specs.declared.Refusal.TheVariants.{Loop}
 use Rattle.ports.specs.declared.size.Block.{Block}
 use Rattle.equations.specs.Equations.{Depends, LowestLooped}
-use Rattle.block.specs.declared.Built.TheVariants.{Listed, Refused}
 use Rattle.block.specs.declared.lengths.RoomLent.{RoomLent}
 use Rattle.block.specs.Lengths.{build_lent}
 use Rattle.block.specs.Building.{list_answer}
@@ -25,15 +25,15 @@ module _ (B : Block) (t bits settings : List ℕ) (room : RoomLent) where
   st = settings_read B t bits
 
   loop_exactly : PassesSix B t bits settings room
-      → ((w : ℕ) × (built B t bits settings room ≡ Refused (Loop w))) ↔ ((w : ℕ) × Depends B t (settings_read B t bits) w w)
+      → ((w : ℕ) × (built B t bits settings room ≡ Err (Loop w))) ↔ ((w : ℕ) × Depends B t (settings_read B t bits) w w)
   loop_exactly p =
       let R = readable_of_four B t bits settings room p.passes_four in
       let e = readable_built B t bits settings room R in
       let both = list_loop_exactly B t st (readable_routed B t bits settings room R) p.no_contention p.no_carry in
       (λ r. both.0 (r.0, sym e ∙ r.1), λ d. let r = both.1 d in (r.0, e ∙ r.1))
 
-  loop_lowest : (w : ℕ) → built B t bits settings room ≡ Refused (Loop w) → LowestLooped B t (settings_read B t bits) w
-  loop_lowest w e = said w (build_says B t bits settings room (Refused (Loop w)) (sym e))
+  loop_lowest : (w : ℕ) → built B t bits settings room ≡ Err (Loop w) → LowestLooped B t (settings_read B t bits) w
+  loop_lowest w e = said w (build_says B t bits settings room (Err (Loop w)) (sym e))
     where
       listed : (x : ℕ) → ListNo B t st (Loop x) → LowestLooped B t st x
       listed x (loop v f u s) = s
@@ -41,11 +41,11 @@ module _ (B : Block) (t bits settings : List ℕ) (room : RoomLent) where
       said : (x : ℕ) → BuildNo B t bits (build_lent t bits settings room) (Loop x) → LowestLooped B t st x
       said x (unlisted refusal R s) = listed x s
 
-  accepted : (rows : ℕ) → built B t bits settings room ≡ Listed rows → AcceptedBlock B t bits rows
+  accepted : (rows : ℕ) → built B t bits settings room ≡ Ok rows → AcceptedBlock B t bits rows
   accepted rows e =
-      let R : Readable B t bits (build_lent t bits settings room) = (build_says B t bits settings room (Listed rows) (sym e)).0 in
+      let R : Readable B t bits (build_lent t bits settings room) = (build_says B t bits settings room (Ok rows) (sym e)).0 in
       let ok = readable_routed B t bits settings room R in
-      let listed : list_answer B t st ≡ Listed rows = sym (readable_built B t bits settings room R) ∙ e in
+      let listed : list_answer B t st ≡ Ok rows = sym (readable_built B t bits settings room R) ∙ e in
       record {
         listing = own_listing B t st ok rows listed;
         settles = only_choice B t st ok rows listed;

@@ -1,5 +1,6 @@
 -- The grounds of `wire_number`, `lookup`, `bit_count`, `read` and `write` in their orders. Main laws: `wire_number_order`, `lookup_order`,
 -- `bit_count_order`, `read_order`, `write_order`. Assumes nothing.
+use Rattle.std.specs.Prelude.{Result, Ok, Err}
 use Prim.Native.Nat.{ℕ}
 use mathlib.Core.Path.{◌≡◌, refl, sym}
 use mathlib.Core.Logic.{inl, inr}
@@ -9,25 +10,20 @@ use borrow.Author.Tests.{eqb-true, eq-eqb, ltb-true, ltb-false}
 use lib.Dec.{eqb, ltb}
 use lib.ListN.{length}
 use Rattle.lists.proofs.CaseLaws.{clash}
-use Rattle.refusal.specs.Grounds.{answer_number, answer_value}
+use Rattle.refusal.specs.Grounds.{answer_number, answer_value, number_value}
 use Rattle.refusal.specs.declared.Refusal.{Refusal}
-use Rattle.refusal.specs.declared.Answer.{Answer}
-use Rattle.refusal.specs.declared.Answer.TheVariants.{Done, Refused}
 use Rattle.refusal.proofs.GroundsLaws.{unless_cases}
 use Rattle.ports.specs.declared.size.Size.{Size}
 use Rattle.ports.specs.declared.size.Block.{Block}
 use Rattle.ports.specs.Block.{allowed, sized, tile_count, tiles, port_of}
 use Rattle.ports.specs.Lengths.{ports_per_tile, bits_length}
 use Rattle.ports.proofs.BlockLaws.{allowed_exact, allowed_true, sized_exact, sized_true, port_of_lt}
-use Rattle.fabric.specs.declared.WireNumber.{WireNumber}
-use Rattle.fabric.specs.WireNumber.{wire_number, wire_answer_number, wire_answer_value}
+use Rattle.fabric.specs.WireNumber.{wire_number}
 use Rattle.fabric.proofs.WireLaws.{wire_lowest}
-use Rattle.cell.specs.declared.logic.Looked.{Looked}
-use Rattle.cell.specs.Lookup.{looked_up, looked_number, looked_value}
+use Rattle.cell.specs.Lookup.{looked_up}
 use Rattle.routing.specs.LogicTile.{logic_tile}
 use Rattle.routing.specs.Rules.{TableRules, FirstBroken}
-use Rattle.config.specs.declared.BitCount.{BitCount}
-use Rattle.config.specs.Entry.{read_answer, write_answer, bit_count_answer, bit_count_number, bit_count_value}
+use Rattle.config.specs.Entry.{read_answer, write_answer, bit_count_answer}
 use Rattle.config.specs.Meaning.{ReadNo, wrong_size, wrong_length, broken, undecodable}
 use Rattle.config.specs.WriteMeaning.{WriteNo}
 use Rattle.config.specs.WriteMeaning as writing
@@ -50,8 +46,8 @@ no_broken table i f rules =
     })
 
 module _ (B : Block) (tile port : ℕ) where
-  abbrev WireOrder : WireNumber → Type 0
-  WireOrder r = WireGrounds B tile port (wire_answer_number r) (wire_answer_value r)
+  abbrev WireOrder : Result ℕ Refusal → Type 0
+  WireOrder r = WireGrounds B tile port (answer_number r) (number_value r)
 
   pub wire_number_order : WireOrder (wire_number B tile port)
   unfolding wire_number
@@ -66,8 +62,8 @@ module _ (B : Block) (tile port : ℕ) where
       inr ((sized_exact B).0 e, inr (lt, inr (lp, (refl, wire_lowest B (port_of tile port) (port_of_lt B tile port lt lp))))))))
 
 module _ (table inputs : ℕ) where
-  abbrev LookupOrder : Looked → Type 0
-  LookupOrder r = LookupGrounds table inputs (looked_number r) (looked_value r)
+  abbrev LookupOrder : Result ℕ Refusal → Type 0
+  LookupOrder r = LookupGrounds table inputs (answer_number r) (number_value r)
 
   pub lookup_order : LookupOrder (looked_up table inputs)
   unfolding looked_up
@@ -76,8 +72,8 @@ module _ (table inputs : ℕ) where
       (λ e. inr (ltb-true inputs 16 e, (refl, refl)))
 
 module _ (S : Size) (bits : List ℕ) (tile : ℕ) where
-  abbrev CountOrder : BitCount → Type 0
-  CountOrder r = CountGrounds S bits tile (bit_count_number r) (bit_count_value r)
+  abbrev CountOrder : Result ℕ Refusal → Type 0
+  CountOrder r = CountGrounds S bits tile (answer_number r) (number_value r)
 
   pub bit_count_order : CountOrder (bit_count_answer S bits tile)
   unfolding bit_count_answer
@@ -91,10 +87,10 @@ module _ (S : Size) (bits : List ℕ) (tile : ℕ) where
       (λ g. inr ((allowed_exact S).0 e, inr (long, inr (ltb-true tile (tile_count S) g, (refl, refl)))))))
 
 module _ (S : Size) (table bits settings : List ℕ) where
-  abbrev ReadOrder : Answer → Type 0
+  abbrev ReadOrder : Result (Unit {0}) Refusal → Type 0
   ReadOrder a = ReadGrounds S table bits settings (answer_number a) (answer_value a)
 
-  read_no : (refusal : Refusal) → ReadNo S table bits (length settings) refusal → ReadOrder (Refused refusal)
+  read_no : (refusal : Refusal) → ReadNo S table bits (length settings) refusal → ReadOrder (Err refusal)
   read_no refusal (wrong_size n) = inl (n, refl, refl)
   read_no refusal (wrong_length n) = inr (n.0, inl (n.1, refl, refl))
   read_no refusal (broken part n) = inr (n.0, inr (n.1, inl (no_broken table part n.2, refl, n.2)))
@@ -104,15 +100,15 @@ module _ (S : Size) (table bits settings : List ℕ) where
   pub read_order : ReadOrder (read_answer S table bits (length settings))
   read_order = go (read_answer S table bits (length settings)) refl
     where
-      go : (a : Answer) → read_answer S table bits (length settings) ≡ a → ReadOrder a
-      go Done e = let C = (reads_exactly S table bits (length settings)).0 e in inr (C.0.size, inr (C.0.lengths, inr (C.0.rules, inr (C.1, (refl, refl)))))
-      go (Refused refusal) e = read_no refusal (read_says S table bits settings _ (Refused refusal) (sym e) refl).1
+      go : (a : Result (Unit {0}) Refusal) → read_answer S table bits (length settings) ≡ a → ReadOrder a
+      go (Ok _) e = let C = (reads_exactly S table bits (length settings)).0 e in inr (C.0.size, inr (C.0.lengths, inr (C.0.rules, inr (C.1, (refl, refl)))))
+      go (Err refusal) e = read_no refusal (read_says S table bits settings _ (Err refusal) (sym e) refl).1
 
 module _ (S : Size) (table settings bits : List ℕ) where
-  abbrev WriteOrder : Answer → Type 0
+  abbrev WriteOrder : Result (Unit {0}) Refusal → Type 0
   WriteOrder a = WriteGrounds S table settings bits (answer_number a) (answer_value a)
 
-  write_no : (refusal : Refusal) → WriteNo S table settings (length bits) refusal → WriteOrder (Refused refusal)
+  write_no : (refusal : Refusal) → WriteNo S table settings (length bits) refusal → WriteOrder (Err refusal)
   write_no refusal (writing.wrong_size n) = inl (n, refl, refl)
   write_no refusal (writing.wrong_length n) = inr (n.0, inl (n.1, refl, refl))
   write_no refusal (writing.broken part n) = inr (n.0, inr (n.1, inl (no_broken table part n.2, refl, n.2)))
@@ -122,10 +118,10 @@ module _ (S : Size) (table settings bits : List ℕ) where
   pub write_order : WriteOrder (write_answer S table settings (length bits))
   write_order = go (write_answer S table settings (length bits)) refl
     where
-      go : (a : Answer) → write_answer S table settings (length bits) ≡ a → WriteOrder a
-      go Done e =
+      go : (a : Result (Unit {0}) Refusal) → write_answer S table settings (length bits) ≡ a → WriteOrder a
+      go (Ok _) e =
           let C = write_passed S table settings (length bits) e in
           let all : AllHaveBits table settings (tile_count S)
           = λ T l. fit_bits table settings (tile_count S) C.rules C.lengths.settings_long T l (write_fit S table settings (length bits) e T l) in
           inr (C.size, inr (C.lengths, inr (C.rules, inr (all, (refl, refl)))))
-      go (Refused refusal) e = write_no refusal (write_says S table settings bits _ (Refused refusal) (sym e) refl).1
+      go (Err refusal) e = write_no refusal (write_says S table settings bits _ (Err refusal) (sym e) refl).1

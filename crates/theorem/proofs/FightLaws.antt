@@ -1,5 +1,6 @@
 -- Fights, over the answers of `build` and `follow`. Main laws: `fight_exactly`, `fight_lowest`, `follow_fight_exactly`, `follow_fight_lowest`.
 -- Assumes nothing.
+use Rattle.std.specs.Prelude.{Result, Ok, Err}
 use Prim.Native.Nat.{ℕ, ◌≤◌, ◌<◌}
 use mathlib.Core.Path.{◌≡◌, refl, sym, ap, ◌∙◌}
 use mathlib.Core.Bool.{not}
@@ -21,9 +22,6 @@ use Rattle.config.proofs.PassedLaws.{write_passed, write_fit}
 use Rattle.equations.specs.Switches.{switches, Contention, LowestContention}
 use Rattle.equations.specs.Sources.{contended_in, contended_wire}
 use Rattle.equations.proofs.SourceLaws.{contended_none_exact}
-use Rattle.block.specs.declared.Built.{Built}
-use Rattle.block.specs.declared.Built.TheVariants.{Listed, Refused}
-use Rattle.block.specs.declared.Followed.TheVariants as followeds
 use Rattle.block.specs.declared.lengths.RoomLent.{RoomLent}
 use Rattle.block.specs.Lengths.{build_lent, follow_lent, follow_exact}
 use Rattle.block.specs.Building.{list_answer}
@@ -44,8 +42,8 @@ module _ (B : Block) (t bits settings : List ℕ) (room : RoomLent) where
   abbrev st : List ℕ
   st = settings_read B t bits
 
-  pub fight_lowest : (w : ℕ) → built B t bits settings room ≡ Refused (refusals.Contention w) → LowestContention B t (settings_read B t bits) w
-  fight_lowest w e = said w (build_says B t bits settings room (Refused (refusals.Contention w)) (sym e))
+  pub fight_lowest : (w : ℕ) → built B t bits settings room ≡ Err (refusals.Contention w) → LowestContention B t (settings_read B t bits) w
+  fight_lowest w e = said w (build_says B t bits settings room (Err (refusals.Contention w)) (sym e))
     where
       listed : (x : ℕ) → ListNo B t st (refusals.Contention x) → LowestContention B t st x
       listed x (contention v s) = s
@@ -54,7 +52,7 @@ module _ (B : Block) (t bits settings : List ℕ) (room : RoomLent) where
       said x (unlisted refusal R s) = listed x s
 
   pub fight_exactly : PassesFour B t bits settings room
-      → ((w : ℕ) × (built B t bits settings room ≡ Refused (refusals.Contention w))) ↔ ((w : ℕ) × Contention B t (settings_read B t bits) w)
+      → ((w : ℕ) × (built B t bits settings room ≡ Err (refusals.Contention w))) ↔ ((w : ℕ) × Contention B t (settings_read B t bits) w)
   fight_exactly p =
       let R = readable_of_four B t bits settings room p in (
         λ r. (r.0, (fight_lowest r.0 r.1).here),
@@ -62,15 +60,15 @@ module _ (B : Block) (t bits settings : List ℕ) (room : RoomLent) where
             (r.0, readable_built B t bits settings room R ∙ r.1),
       )
     where
-      refused : (w : ℕ) → Contention B t st w → (refusal : Refusal) → ListNo B t st refusal → (v : ℕ) × (Refused refusal ≡ Refused (refusals.Contention v))
+      refused : (w : ℕ) → Contention B t st w → (refusal : Refusal) → ListNo B t st refusal → (v : ℕ) × (Err refusal ≡ Err (refusals.Contention v))
       refused w c refusal (contention v s) = (v, refl)
       refused w c refusal (disabled_carry v f s) = absurd (f w c)
       refused w c refusal (loop v f u s) = absurd (f w c)
       refused w c refusal (cell_clock T f u straight s) = absurd (f w c)
 
-      go : (w : ℕ) → Contention B t st w → (a : Built) → ListSays B t st a → (v : ℕ) × (a ≡ Refused (refusals.Contention v))
-      go w c (Listed rows) s = absurd (s.1.no_contention w c)
-      go w c (Refused refusal) s = refused w c refusal s
+      go : (w : ℕ) → Contention B t st w → (a : Result ℕ Refusal) → ListSays B t st a → (v : ℕ) × (a ≡ Err (refusals.Contention v))
+      go w c (Ok rows) s = absurd (s.1.no_contention w c)
+      go w c (Err refusal) s = refused w c refusal s
 
 module _ (B : Block) (t st wires sources marks : List ℕ) (tile port : ℕ) where
   module _ (p : PassesNine B t st wires sources marks) where
@@ -93,7 +91,7 @@ module _ (B : Block) (t st wires sources marks : List ℕ) (tile port : ℕ) whe
           marks_long = p.marks_long;
         })))
 
-    refused_of : (w : ℕ) → Contention B t st w → (v : ℕ) × (followed B t st tile port wires sources marks ≡ followeds.Refused (refusals.Contention v))
+    refused_of : (w : ℕ) → Contention B t st w → (v : ℕ) × (followed B t st tile port wires sources marks ≡ Err (refusals.Contention v))
     unfolding contended_wire
     refused_of w c =
         let C = write_passed (size_of B) t st (bits_length (size_of B)) p.write_done in
@@ -102,12 +100,12 @@ module _ (B : Block) (t st wires sources marks : List ℕ) (tile port : ℕ) whe
         ⊎_elim (λ (l : contended_wire B t st < ports B). (contended_wire B t st, followed_port ∙ sym (port_contended B t st tile port _ refl l)))
         (λ (l : ports B ≤ contended_wire B t st). absurd ((contended_none_exact B t st ok).1 (omega arith) w c)) (lt_or_le (contended_wire B t st) (ports B))
 
-  pub follow_fight_lowest : (w : ℕ) → followed B t st tile port wires sources marks ≡ followeds.Refused (refusals.Contention w) → LowestContention B t st w
-  follow_fight_lowest w e = said w (follow_says B t st tile port wires sources marks (followeds.Refused (refusals.Contention w)) (sym e))
+  pub follow_fight_lowest : (w : ℕ) → followed B t st tile port wires sources marks ≡ Err (refusals.Contention w) → LowestContention B t st w
+  follow_fight_lowest w e = said w (follow_says B t st tile port wires sources marks (Err (refusals.Contention w)) (sym e))
     where
       said : (x : ℕ) → FollowNo B t st tile port (follow_lent t st wires sources marks) (refusals.Contention x) → LowestContention B t st x
       said x (following.contention v F s) = s
 
   pub follow_fight_exactly : PassesNine B t st wires sources marks
-      → ((w : ℕ) × (followed B t st tile port wires sources marks ≡ followeds.Refused (refusals.Contention w))) ↔ ((w : ℕ) × Contention B t st w)
+      → ((w : ℕ) × (followed B t st tile port wires sources marks ≡ Err (refusals.Contention w))) ↔ ((w : ℕ) × Contention B t st w)
   follow_fight_exactly p = (λ r. (r.0, (follow_fight_lowest r.0 r.1).here), λ c. refused_of p c.0 c.1)

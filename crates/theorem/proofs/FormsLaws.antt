@@ -1,10 +1,10 @@
 -- Both forms carry the same settings and answers (document 02, W7), closed. Main law: `same_forms`. Assumes nothing.
+use Rattle.std.specs.Prelude.{Ok}
 use Prim.Native.Nat.{ℕ}
 use mathlib.Core.Path.{◌≡◌, refl, sym, ap, ap₂, ◌∙◌}
 use mathlib.Core.List.{List}
 use native.Mathlib.Omega.{arith}
 use lib.ListN.{length}
-use Rattle.refusal.specs.declared.Answer.TheVariants.{Done}
 use Rattle.ports.specs.declared.size.Size.{Size}
 use Rattle.ports.specs.Block.{size_of, tile_count}
 use Rattle.ports.specs.Lengths.{bytes_length}
@@ -26,14 +26,14 @@ use Rattle.theorem.specs.Forms.{Converts, SameForms}
 
 -- a yes of a conversion has the exact lengths
 converts_long : (S : Size) (bytes : List ℕ) (c : Converts S bytes) → BothLong S (length bytes) (length c.0)
-converts_long S bytes c = (words_say S bytes c.0 Done (sym c.1) _ refl).0
+converts_long S bytes c = (words_say S bytes c.0 (Ok tt) (sym c.1) _ refl).0
 
 -- the words' tiles are the bytes' tiles
 tiles_of_lem : (S : Size) (bytes : List ℕ) → Converts S bytes → tiles_of (words_of (tile_count S) bytes) ≡ tiles_of_bytes bytes
 tiles_of_lem S bytes c = forms.tiles_same (tile_count S) bytes (converts_long S bytes c).bytes_long
 
 back_of_bytes : (S : Size) (bytes : List ℕ) → FitsIn byte_bits bytes → Converts S bytes
-    → (bytes_answer S (words_of (tile_count S) bytes) (length bytes) ≡ Done) × (bytes_of (tile_count S) (words_of (tile_count S) bytes) ≡ bytes)
+    → (bytes_answer S (words_of (tile_count S) bytes) (length bytes) ≡ (Ok tt)) × (bytes_of (tile_count S) (words_of (tile_count S) bytes) ≡ bytes)
 back_of_bytes S bytes fits c =
     let long = converts_long S bytes c in
     let words = words_of (tile_count S) bytes in
@@ -42,10 +42,10 @@ back_of_bytes S bytes fits c =
       forms.bytes_back (tile_count S) bytes long.bytes_long fits,
     )
 
-back_of_words : (S : Size) (words bytes : List ℕ) → bytes_answer S words (length bytes) ≡ Done
-    → (words_answer S (length (bytes_of (tile_count S) words)) (length words) ≡ Done) × (words_of (tile_count S) (bytes_of (tile_count S) words) ≡ words)
+back_of_words : (S : Size) (words bytes : List ℕ) → bytes_answer S words (length bytes) ≡ (Ok tt)
+    → (words_answer S (length (bytes_of (tile_count S) words)) (length words) ≡ (Ok tt)) × (words_of (tile_count S) (bytes_of (tile_count S) words) ≡ words)
 back_of_words S words bytes done =
-    let z = bytes_say S words bytes Done (sym done) _ refl in
+    let z = bytes_say S words bytes (Ok tt) (sym done) _ refl in
     let long = z.0 in (
       sym (words_done S _ (length words) long.right_size (forms.bytes_length_lem (tile_count S) words) long.words_long),
       forms.words_back (tile_count S) words long.words_long z.2.fits,
@@ -56,7 +56,7 @@ module _ (S : Size) (table bytes : List ℕ) (c : Converts S bytes) where
   long = (converts_long S bytes c).bytes_long
 
   -- what was read is written back, in the other form
-  back_of_settings : (settings : ℕ) → read_bytes_answer S table bytes settings ≡ Done
+  back_of_settings : (settings : ℕ) → read_bytes_answer S table bytes settings ≡ (Ok tt)
       → encoded table (decoded table (tiles_of_bytes bytes) (tile_count S)) (tile_count S) ≡ words_of (tile_count S) bytes
   back_of_settings settings done =
       ap (λ (st : List ℕ). encoded table st (tile_count S)) (sym (settings_same table (tile_count S) bytes long))

@@ -1,4 +1,5 @@
 -- Which pins can move which lamp, closed: `influence`. Assumes nothing.
+use Rattle.std.specs.Prelude.{Ok}
 use Prim.Native.Nat.{ℕ, ◌*◌, ◌<◌}
 use mathlib.Core.Path.{◌≡◌, refl, sym, ap, subst, ◌∙◌}
 use mathlib.Core.Logic.{◌↔◌, ⊎_elim}
@@ -22,7 +23,6 @@ use Rattle.equations.proofs.RowReasons.{row_says}
 use Rattle.equations.proofs.SettlingLaws.{settles}
 use Rattle.equations.proofs.ChainLaws.{read_lt, read_own}
 use Rattle.equations.proofs.InfluenceLaws.{Shared, same_value, lent_open, same_reads}
-use Rattle.block.specs.declared.Built.TheVariants.{Listed}
 use Rattle.block.specs.declared.lengths.RoomLent.{RoomLent}
 use Rattle.block.specs.Lengths.{build_lent}
 use Rattle.block.specs.Meaning.{Accepted, BuildSays}
@@ -35,9 +35,9 @@ use Rattle.theorem.proofs.ReadableLaws.{readable_routed}
 
 -- ---- what is known of a block that `build` accepts
 
-module _ (B : Block) (t bits settings : List ℕ) (room : RoomLent) (rows : ℕ) (e : built B t bits settings room ≡ Listed rows) where
-  said : BuildSays B t bits (build_lent t bits settings room) (Listed rows)
-  said = build_says B t bits settings room (Listed rows) (sym e)
+module _ (B : Block) (t bits settings : List ℕ) (room : RoomLent) (rows : ℕ) (e : built B t bits settings room ≡ Ok rows) where
+  said : BuildSays B t bits (build_lent t bits settings room) (Ok rows)
+  said = build_says B t bits settings room (Ok rows) (sym e)
 
   routed : Routed B t (settings_read B t bits)
   routed = readable_routed B t bits settings room said.0
@@ -121,8 +121,8 @@ row_joins : (W e f : ℕ) → SameJoins (block W 1 e) (block W 1 f)
 row_joins W e f = record { size_same = refl; linked_same = λ p q. (linked_over W e f, linked_over W f e) }
 
 -- one law for both sentences: it is enough that all values that meet the equations agree at a port
-module _ (B : Block) (t bits settings : List ℕ) (room : RoomLent) (rows : ℕ) (e : built B t bits settings room ≡ Listed rows)
-    (C : Block) (u bits' settings' : List ℕ) (room' : RoomLent) (rows' : ℕ) (e' : built C u bits' settings' room' ≡ Listed rows')
+module _ (B : Block) (t bits settings : List ℕ) (room : RoomLent) (rows : ℕ) (e : built B t bits settings room ≡ Ok rows)
+    (C : Block) (u bits' settings' : List ℕ) (room' : RoomLent) (rows' : ℕ) (e' : built C u bits' settings' room' ≡ Ok rows')
     (j : SameJoins B C) (state lent other : List ℕ) (p : ℕ) (lp : p < ports B) where
   value_same : ((x y : List ℕ) → Meets B t (settings_read B t bits) state lent x → Meets C u (settings_read C u bits') state other y → port_value B x p ≡ port_value C y p)
       → SameValue B C t (settings_read B t bits) (list_built B t bits) u (settings_read C u bits') (list_built C u bits') state lent other p
@@ -145,7 +145,7 @@ module _ (B : Block) (t bits settings : List ℕ) (room : RoomLent) (rows : ℕ)
 
 -- ---- the two sentences
 
-module _ (B : Block) (t bits settings : List ℕ) (room : RoomLent) (rows : ℕ) (e : built B t bits settings room ≡ Listed rows)
+module _ (B : Block) (t bits settings : List ℕ) (room : RoomLent) (rows : ℕ) (e : built B t bits settings room ≡ Ok rows)
     (state lent other : List ℕ) (p : ℕ) (lp : p < ports B) where
   pins : OutOfReach B t (settings_read B t bits) lent other (wire_of B p)
       → SameValue B B t (settings_read B t bits) (list_built B t bits) t (settings_read B t bits) (list_built B t bits) state lent other p
@@ -162,8 +162,8 @@ module _ (B : Block) (t bits settings : List ℕ) (room : RoomLent) (rows : ℕ)
       })
       out
 
-module _ (B : Block) (t bits settings : List ℕ) (room : RoomLent) (rows : ℕ) (e : built B t bits settings room ≡ Listed rows)
-    (C : Block) (u bits' settings' : List ℕ) (room' : RoomLent) (rows' : ℕ) (e' : built C u bits' settings' room' ≡ Listed rows') (j : SameJoins B C) where
+module _ (B : Block) (t bits settings : List ℕ) (room : RoomLent) (rows : ℕ) (e : built B t bits settings room ≡ Ok rows)
+    (C : Block) (u bits' settings' : List ℕ) (room' : RoomLent) (rows' : ℕ) (e' : built C u bits' settings' room' ≡ Ok rows') (j : SameJoins B C) where
   -- what a wire with the same equations reads has them too
   same_on : (w d : ℕ) → SameEquations B C t (settings_read B t bits) u (settings_read C u bits') w → ReadsWire B t (settings_read B t bits) w d
       → SameEquations B C t (settings_read B t bits) u (settings_read C u bits') d

@@ -1,4 +1,5 @@
 -- Checks 1 to 4, and 1 to 6, pass exactly if `build` gives none of their grounds. Main laws: `four_exactly`, `six_exactly`. Assumes nothing.
+use Rattle.std.specs.Prelude.{Result, Ok, Err}
 use mathlib.Core.Path.{◌≡◌, refl, sym, subst, ◌∙◌}
 use mathlib.Core.Logic.{◌↔◌}
 use mathlib.Core.List.{List}
@@ -10,8 +11,6 @@ use Rattle.refusal.specs.Grounds.{number_of}
 use Rattle.ports.specs.declared.size.Block.{Block}
 use Rattle.ports.specs.Block.{size_of}
 use Rattle.ports.proofs.BlockLaws.{sized_allowed}
-use Rattle.block.specs.declared.Built.{Built}
-use Rattle.block.specs.declared.Built.TheVariants.{Listed, Refused}
 use Rattle.block.specs.declared.lengths.RoomLent.{RoomLent}
 use Rattle.block.specs.Lengths.{build_lent}
 use Rattle.block.specs.Building.{list_answer}
@@ -59,7 +58,7 @@ module _ (B : Block) (t bits settings : List ℕ) (room : RoomLent) where
       over refusal (loop w f u s) = omega arith
       over refusal (cell_clock T f u k s) = omega arith
 
-      past : (refusal : Refusal) (a : Built) → ListSays B t st a → a ≡ Refused refusal → 4 < number_of refusal
+      past : (refusal : Refusal) (a : Result ℕ Refusal) → ListSays B t st a → a ≡ Err refusal → 4 < number_of refusal
       past refusal a s e = over refusal (subst (ListSays B t st) e s)
 
       refused : (refusal : Refusal) → BuildNo B t bits (build_lent t bits settings room) refusal → 4 < number_of refusal → PassesFour B t bits settings room
@@ -69,9 +68,9 @@ module _ (B : Block) (t bits settings : List ℕ) (room : RoomLent) where
       refused refusal (undecodable place s L rules low) l = absurd (omega arith)
       refused refusal (unlisted r R n) l = four_of_readable R
 
-      back : (a : Built) → BuildSays B t bits (build_lent t bits settings room) a → Beyond 4 a → PassesFour B t bits settings room
-      back (Listed rows) s b = four_of_readable s.0
-      back (Refused refusal) s b = refused refusal s (b refusal refl)
+      back : (a : Result ℕ Refusal) → BuildSays B t bits (build_lent t bits settings room) a → Beyond 4 a → PassesFour B t bits settings room
+      back (Ok rows) s b = four_of_readable s.0
+      back (Err refusal) s b = refused refusal s (b refusal refl)
 
   pub six_exactly : PassesSix B t bits settings room ↔ Beyond 6 (built B t bits settings room)
   six_exactly = (
@@ -99,6 +98,6 @@ module _ (B : Block) (t bits settings : List ℕ) (room : RoomLent) where
       refused refusal (undecodable place s L rules low) l = absurd (omega arith)
       refused refusal (unlisted r R n) l = listed r R n l
 
-      back : (a : Built) → BuildSays B t bits (build_lent t bits settings room) a → Beyond 6 a → PassesSix B t bits settings room
-      back (Listed rows) s b = record { passes_four = four_of_readable s.0; no_contention = s.2.no_contention; no_carry = s.2.no_carry }
-      back (Refused refusal) s b = refused refusal s (b refusal refl)
+      back : (a : Result ℕ Refusal) → BuildSays B t bits (build_lent t bits settings room) a → Beyond 6 a → PassesSix B t bits settings room
+      back (Ok rows) s b = record { passes_four = four_of_readable s.0; no_contention = s.2.no_contention; no_carry = s.2.no_carry }
+      back (Err refusal) s b = refused refusal s (b refusal refl)

@@ -1,4 +1,6 @@
 -- The grounds of a report in their order, and the line that says them. Main law: `report_order`. Assumes nothing.
+use Rattle.refusal.specs.declared.Refusal.{Refusal}
+use Rattle.std.specs.Prelude.{Result, Ok, Err}
 use Prim.Native.Nat.{ℕ, ◌*◌}
 use mathlib.Core.Path.{◌≡◌, refl, sym, ap, subst}
 use mathlib.Core.Bool.{true}
@@ -16,8 +18,6 @@ use Rattle.words.specs.Forms.{TileBits, words_of}
 use Rattle.words.proofs.FormsLaws.{words_length, tiles_same}
 use Rattle.config.specs.Blocks.{decoded, tiles_of}
 use Rattle.equations.specs.Sources.{sources_of}
-use Rattle.block.specs.declared.Built.{Built}
-use Rattle.block.specs.declared.Built.TheVariants as builts
 use Rattle.block.specs.declared.lengths.RoomLent.{RoomLent}
 use Rattle.block.specs.declared.lengths.BuildLent.{BuildLent}
 use Rattle.block.specs.Lengths.{BuildLong, build_lent}
@@ -119,8 +119,8 @@ module _ (s : List ℕ) where
     abbrev st : List ℕ
     st = decoded t (tiles_of words) (tiles B)
 
-    built_said : (r : Built) → BuildSays B t words (lent B t words) r → Said (tiles_of words) (built_lines B t st r)
-    built_said (builts.Listed rows) z = record {
+    built_said : (r : Result ℕ Refusal) → BuildSays B t words (lent B t words) r → Said (tiles_of words) (built_lines B t st r)
+    built_said (Ok rows) z = record {
       number = 0;
       place = 0;
       grounds = bits_yes B t words (settings_for B) (room_for B) (GivenOf (tiles_of words) (accepted_lines B t st)) z.0 z.2 0 (refl, refl);
@@ -128,7 +128,7 @@ module _ (s : List ℕ) where
       last_line = accepted_last B t st;
       only_line = λ n. absurd (n refl);
     }
-    built_said (builts.Refused refusal) z = record {
+    built_said (Err refusal) z = record {
       number = number_of refusal;
       place = place_of refusal;
       grounds = bits_no B t words (settings_for B) (room_for B) (GivenOf (tiles_of words) (answer_line (number_of refusal) (place_of refusal))) (taken_sized x) long refusal z;

@@ -1,12 +1,12 @@
 -- A step with the size, table, settings and list of a block that `build` accepted: it is not refused, for any state and lent values of 0 and 1, and a yes
 -- means what demand 3 says. Main laws: `step_done`, `step_meant`. Assumes nothing.
+use Rattle.std.specs.Prelude.{Ok}
 use Prim.Native.Nat.{ℕ, ◌≤◌}
 use mathlib.Core.Path.{◌≡◌, sym, ap, ◌∙◌}
 use mathlib.Core.Bool.{not}
 use mathlib.Core.List.{List}
 use native.Mathlib.Omega.{arith}
 use Rattle.lists.proofs.SearchLaws.{first_none}
-use Rattle.refusal.specs.declared.Answer.TheVariants.{Done}
 use Rattle.ports.specs.declared.size.Block.{Block}
 use Rattle.ports.specs.Block.{tiles}
 use Rattle.ports.specs.Lengths.{ports}
@@ -16,7 +16,6 @@ use Rattle.routing.specs.LogicTile.{logic_tile}
 use Rattle.routing.proofs.TableCheckLaws.{table_exact}
 use Rattle.config.specs.Blocks.{bitless_at, bitless_tile}
 use Rattle.config.proofs.BlocksLaws.{decoded_length}
-use Rattle.block.specs.declared.Built.TheVariants.{Listed}
 use Rattle.block.specs.declared.lengths.RoomLent.{RoomLent}
 use Rattle.block.specs.Lengths.{build_lent}
 use Rattle.block.specs.Building.{list_answer}
@@ -35,7 +34,7 @@ use Rattle.theorem.proofs.ReadableLaws.{settings_fit_lem, readable_routed}
 use Rattle.theorem.proofs.AcceptedLaws.{own_passes, step_means}
 
 module _ (B : Block) (t bits settings : List ℕ) (room : RoomLent) (R : Readable B t bits (build_lent t bits settings room))
-    (rows : ℕ) (listed : list_answer B t (settings_read B t bits) ≡ Listed rows) where
+    (rows : ℕ) (listed : list_answer B t (settings_read B t bits) ≡ Ok rows) where
   abbrev st : List ℕ
   st = settings_read B t bits
 
@@ -47,7 +46,7 @@ module _ (B : Block) (t bits settings : List ℕ) (room : RoomLent) (R : Readabl
   fits = let e = first_none (bitless_at t st) (tiles B) (λ T l. ap not (settings_fit_lem B t bits settings room R T l)) in omega arith
 
   module _ (state before after : List ℕ) (step_room : StepRoomLent) where
-    pub step_done : StepInputs B state before after → StepRoomLong B step_room → stepped B t (settings_read B t bits) (list_built B t bits) state before after step_room ≡ Done
+    pub step_done : StepInputs B state before after → StepRoomLong B step_room → stepped B t (settings_read B t bits) (list_built B t bits) state before after step_room ≡ (Ok tt)
     step_done h long =
         let p = own_passes B t st (readable_routed B t bits settings room R) rows listed in
         let exact = (step_long_exact B (step_lent (inputs_lent t st list state before after) step_room)).1
@@ -67,12 +66,12 @@ module _ (B : Block) (t bits settings : List ℕ) (room : RoomLent) (R : Readabl
         ∙ sym (run_done B list state before after (omega arith)
         (joined_of_bits state before after h.state_bytes.bits h.before_bytes.bits h.after_bytes.bits))
 
-    pub step_meant : stepped B t (settings_read B t bits) (list_built B t bits) state before after step_room ≡ Done
+    pub step_meant : stepped B t (settings_read B t bits) (list_built B t bits) state before after step_room ≡ (Ok tt)
         → StepMeans B t (settings_read B t bits) state before after (values_stepped B (list_built B t bits) state before)
         (state_stepped B (settings_read B t bits) (list_built B t bits) state before after)
     step_meant done =
-        let said : StepSays B t st list state before after (step_lent (inputs_lent t st list state before after) step_room) Done
-        = step_says B t st list state before after step_room Done (sym done) in
+        let said : StepSays B t st list state before after (step_lent (inputs_lent t st list state before after) step_room) (Ok tt)
+        = step_says B t st list state before after step_room (Ok tt) (sym done) in
         let long = said.0.lengths.inputs_long in
         let ls = long.state_long in
         let lb = long.before_long in

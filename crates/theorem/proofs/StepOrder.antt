@@ -1,4 +1,5 @@
 -- The grounds of `step` in their order. Main law: `step_order`. Assumes nothing.
+use Rattle.std.specs.Prelude.{Result, Ok, Err}
 use Prim.Native.Nat.{ℕ}
 use mathlib.Core.Path.{refl}
 use mathlib.Core.Logic.{inl, inr}
@@ -6,8 +7,6 @@ use mathlib.Core.List.{List, ◌++◌}
 use native.Mathlib.Omega.{arith}
 use Rattle.refusal.specs.Grounds.{answer_number, answer_value}
 use Rattle.refusal.specs.declared.Refusal.{Refusal}
-use Rattle.refusal.specs.declared.Answer.{Answer}
-use Rattle.refusal.specs.declared.Answer.TheVariants as answers
 use Rattle.ports.specs.declared.size.Block.{Block}
 use Rattle.sim.specs.declared.lengths.StepLent.{StepLent}
 use Rattle.sim.specs.declared.lengths.StepRoomLent.{StepRoomLent}
@@ -38,10 +37,10 @@ module _ (B : Block) (t st list state before after : List ℕ) (room : StepRoomL
   abbrev lent : StepLent
   lent = step_lent (inputs_lent t st list state before after) room
 
-  abbrev StepOrder : Answer → Type 0
+  abbrev StepOrder : Result (Unit {0}) Refusal → Type 0
   StepOrder a = StepGrounds B t st list state before after lent (answer_number a) (answer_value a)
 
-  step_no : (refusal : Refusal) → StepNo B t st list state before after lent refusal → StepOrder (answers.Refused refusal)
+  step_no : (refusal : Refusal) → StepNo B t st list state before after lent refusal → StepOrder (Err refusal)
   step_no refusal (stepping.wrong_size n) = inl (n, refl, refl)
   step_no refusal (stepping.wrong_length s n) = inr (s, inl (n, refl, refl))
   step_no refusal (stepping.broken part s L f) = inr (s, inr (L, inl (no_broken t part f, refl, f)))
@@ -54,8 +53,8 @@ module _ (B : Block) (t st list state before after : List ℕ) (room : StepRoomL
   pub step_order : StepOrder (stepped B t st list state before after room)
   step_order = go (stepped B t st list state before after room) (step_says B t st list state before after room _ refl)
     where
-      go : (a : Answer) → StepSays B t st list state before after lent a → StepOrder a
-      go answers.Done s =
+      go : (a : Result (Unit {0}) Refusal) → StepSays B t st list state before after lent a → StepOrder a
+      go (Ok _) s =
           let C = s.0 in
           inr (C.size, inr (C.lengths, inr (C.rules, inr (C.has_bits, inr (s.1, inr ((s.2, s.3, s.4), (refl, refl)))))))
-      go (answers.Refused refusal) s = step_no refusal s
+      go (Err refusal) s = step_no refusal s

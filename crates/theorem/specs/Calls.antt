@@ -5,31 +5,24 @@
 --   values_stepped, state_stepped == what a yes of `step` writes
 --   file_of == the file of settings that are written to bits, and these to it
 --   PassesFour, PassesNine == checks 1 to 4 of `build`, and 1, 2, 3 and 9 of `follow`, pass
-use Rattle.std.specs.Prelude.{◌≡◌, List, ℕ, ◌<◌, length}
+use Rattle.std.specs.Prelude.{◌≡◌, List, ℕ, ◌<◌, length, Result, Ok, Err}
 use Rattle.refusal.specs.declared.Refusal.{Refusal}
 use Rattle.refusal.specs.Grounds.{number_of}
-use Rattle.refusal.specs.declared.Answer.{Answer}
-use Rattle.refusal.specs.declared.Answer.TheVariants.{Done}
 use Rattle.ports.specs.declared.size.Size.{Size}
 use Rattle.ports.specs.declared.size.Block.{Block}
 use Rattle.ports.specs.Block.{size_of, tile_count}
 use Rattle.ports.specs.Lengths.{bits_length, ports}
 use Rattle.config.specs.Blocks.{encoded, tiles_of}
 use Rattle.config.specs.Entry.{read_answer, write_answer}
-use Rattle.compare.specs.declared.Compared.{Compared}
 use Rattle.compare.specs.Lengths.{compare_lent, compare_exact}
 use Rattle.compare.specs.Entry.{compare_answer}
 use Rattle.asc.specs.Area.{area_at}
 use Rattle.asc.specs.Content.{written}
 use Rattle.equations.specs.Settling.{block_list}
-use Rattle.block.specs.declared.Built.{Built}
-use Rattle.block.specs.declared.Built.TheVariants.{Refused}
-use Rattle.block.specs.declared.Followed.{Followed}
 use Rattle.block.specs.declared.lengths.RoomLent.{RoomLent}
 use Rattle.block.specs.Lengths.{RoomLong, build_lent, build_exact, follow_lent, follow_exact}
 use Rattle.block.specs.Building.{build_answer}
 use Rattle.block.specs.Drivers.{follow_answer}
-use Rattle.contention.specs.declared.ContentionList.{ContentionList}
 use Rattle.contention.specs.Lengths.{contention_lent, contention_exact}
 use Rattle.contention.specs.Entry.{contentions_answer, settings_read}
 use Rattle.stepper.specs.Settling.{settled_by, port_values}
@@ -39,22 +32,22 @@ use Rattle.sim.specs.Lengths.{inputs_lent, step_lent, step_exact}
 use Rattle.sim.specs.Stepping.{step_answer}
 
 -- `settings` is the first part of the work room of `build`; `room` has the lengths of the list and of the other parts
-abbrev pub built : Block → (table bits settings : List ℕ) → RoomLent → Built
+abbrev pub built : Block → (table bits settings : List ℕ) → RoomLent → Result ℕ Refusal
 built B table bits settings room = build_answer B table (tiles_of bits) (build_exact B (build_lent table bits settings room))
 
 -- `build` gives none of grounds 1 to n
-abbrev pub Beyond : ℕ → Built → Type 0
-Beyond n answer = (refusal : Refusal) → answer ≡ Refused refusal → n < number_of refusal
+abbrev pub Beyond : ℕ → Result ℕ Refusal → Type 0
+Beyond n answer = (refusal : Refusal) → answer ≡ Err refusal → n < number_of refusal
 
 -- checks 1 to 4: `read` says yes to these bits, the byte for the east column is 0 or 1, and the rest of what is lent to `build` is as long as it
 -- must be
 pub record PassesFour (B : Block) (table bits settings : List ℕ) (room : RoomLent) : Type 0 where
-  pub read_done : read_answer (size_of B) table bits (length settings) ≡ Done
+  pub read_done : read_answer (size_of B) table bits (length settings) ≡ (Ok tt)
   pub east_known : B.east < 2
   pub room_long : RoomLong B room
 
 -- `before` and `after` are the work room of `compare`
-abbrev pub compared : (A B : Size) → (table first second list before after : List ℕ) → Compared
+abbrev pub compared : (A B : Size) → (table first second list before after : List ℕ) → Result ℕ Refusal
 compared A B table first second list before after =
     compare_answer A B table (tiles_of first) (tiles_of second) (compare_exact A (compare_lent table first second before after)) (length list)
 
@@ -66,26 +59,26 @@ abbrev pub list_built : Block → (table bits : List ℕ) → List ℕ
 list_built B table bits = block_list B table (settings_read B table bits)
 
 -- `settings`, `wires`, `heads` and `nexts` are the work room of `contentions`
-abbrev pub contended : Block → (table bits list settings wires heads nexts : List ℕ) → ContentionList
+abbrev pub contended : Block → (table bits list settings wires heads nexts : List ℕ) → Result ℕ Refusal
 contended B table bits list settings wires heads nexts =
     contentions_answer B table bits (contention_exact B (contention_lent table bits settings wires heads nexts)) (length list)
 
 -- `wires`, `sources` and `marks` are the work room of `follow`
-abbrev pub followed : Block → (table settings : List ℕ) → (tile port : ℕ) → (wires sources marks : List ℕ) → Followed
+abbrev pub followed : Block → (table settings : List ℕ) → (tile port : ℕ) → (wires sources marks : List ℕ) → Result Driver Refusal
 followed B table settings tile port wires sources marks =
     follow_answer B table settings tile port (follow_exact B (follow_lent table settings wires sources marks))
 
 -- checks 1, 2, 3 and 9: `write` says yes to these settings, the byte for the east column is 0 or 1, and the work room of `follow` is as long as it
 -- must be
 pub record PassesNine (B : Block) (table settings wires sources marks : List ℕ) : Type 0 where
-  pub write_done : write_answer (size_of B) table settings (bits_length (size_of B)) ≡ Done
+  pub write_done : write_answer (size_of B) table settings (bits_length (size_of B)) ≡ (Ok tt)
   pub east_known : B.east < 2
   pub wires_long : length wires ≡ ports B
   pub sources_long : length sources ≡ ports B
   pub marks_long : length marks ≡ ports B
 
 -- `room` has the lengths of the outputs and of the work room of `step`
-abbrev pub stepped : Block → (table settings list state before after : List ℕ) → StepRoomLent → Answer
+abbrev pub stepped : Block → (table settings list state before after : List ℕ) → StepRoomLent → Result (Unit {0}) Refusal
 stepped B table settings list state before after room =
     step_answer B table settings list state before after (step_exact B (step_lent (inputs_lent table settings list state before after) room))
 

@@ -4,23 +4,22 @@
 use Rattle.std.specs.Prelude.{ℕ, ◌≡◌, ◌⊎◌, ◌≢◌, List, length}
 use Rattle.lists.specs.Tables.{zeros}
 use Rattle.refusal.specs.declared.Refusal.{Refusal}
-use Rattle.refusal.specs.Grounds.{number_of, answer_number, answer_value}
+use Rattle.refusal.specs.Grounds.{number_of, answer_number, answer_value, number_value}
 use Rattle.refusal.specs.Memory.{output, work_room}
 use Rattle.ports.specs.declared.size.Size.{Size}
 use Rattle.ports.specs.declared.size.Block.{Block}
 use Rattle.ports.specs.Block.{tile_count}
-use Rattle.fabric.specs.WireNumber.{wire_number, wire_answer_number, wire_answer_value}
-use Rattle.cell.specs.Lookup.{looked_up, looked_number, looked_value}
-use Rattle.config.specs.Entry.{read_answer, write_answer, bit_count_answer, bit_count_number, bit_count_value}
+use Rattle.fabric.specs.WireNumber.{wire_number}
+use Rattle.cell.specs.Lookup.{looked_up}
+use Rattle.config.specs.Entry.{read_answer, write_answer, bit_count_answer}
 use Rattle.config.specs.Blocks.{decoded, tiles_of}
 use Rattle.compare.specs.Lengths.{compare_lent}
-use Rattle.compare.specs.Entry.{compared_number, compared_value, part_answer}
+use Rattle.compare.specs.Entry.{part_answer}
 use Rattle.block.specs.declared.lengths.RoomLent.{RoomLent}
 use Rattle.block.specs.Lengths.{build_lent, follow_lent}
-use Rattle.block.specs.Building.{built_number, built_value}
-use Rattle.block.specs.Drivers.{followed_number, followed_value}
+use Rattle.block.specs.Drivers.{followed_value}
 use Rattle.contention.specs.Lengths.{contention_lent}
-use Rattle.contention.specs.Entry.{contentions_number, contentions_value, settings_read}
+use Rattle.contention.specs.Entry.{settings_read}
 use Rattle.sim.specs.declared.lengths.StepRoomLent.{StepRoomLent}
 use Rattle.sim.specs.Lengths.{inputs_lent, step_lent}
 use Rattle.words.specs.Answers.{words_answer, bytes_answer}
@@ -40,10 +39,10 @@ use Rattle.theorem.specs.ReportGrounds.{ParseGrounds, ReportSays}
 pub record Demand1 : Type 0 where
   -- "It refuses only on the grounds numbered in document 01 [..], in the orders given there": each call's table of grounds, over the number of its answer
   -- and what comes with it
-  pub wire_number_lem : (B : Block) (tile port : ℕ) → WireGrounds B tile port (wire_answer_number (wire_number B tile port)) (wire_answer_value (wire_number B tile port))
-  pub lookup : (table inputs : ℕ) → LookupGrounds table inputs (looked_number (looked_up table inputs)) (looked_value (looked_up table inputs))
+  pub wire_number_lem : (B : Block) (tile port : ℕ) → WireGrounds B tile port (answer_number (wire_number B tile port)) (number_value (wire_number B tile port))
+  pub lookup : (table inputs : ℕ) → LookupGrounds table inputs (answer_number (looked_up table inputs)) (number_value (looked_up table inputs))
   pub bit_count_lem : (S : Size) (bits : List ℕ) (tile : ℕ)
-      → CountGrounds S bits tile (bit_count_number (bit_count_answer S bits tile)) (bit_count_value (bit_count_answer S bits tile))
+      → CountGrounds S bits tile (answer_number (bit_count_answer S bits tile)) (number_value (bit_count_answer S bits tile))
   pub read : (S : Size) (table bits settings : List ℕ)
       → ReadGrounds S table bits settings (answer_number (read_answer S table bits (length settings))) (answer_value (read_answer S table bits (length settings)))
   pub write : (S : Size) (table settings bits : List ℕ)
@@ -51,8 +50,8 @@ pub record Demand1 : Type 0 where
       (answer_value (write_answer S table settings (length bits)))
   pub compare : (A B : Size) (table first second list before after : List ℕ)
       → CompareGrounds A B table first second (decoded table (tiles_of first) (tile_count A)) (decoded table (tiles_of second) (tile_count A))
-      (compare_lent table first second before after) list (compared_number (compared A B table first second list before after))
-      (compared_value (compared A B table first second list before after))
+      (compare_lent table first second before after) list (answer_number (compared A B table first second list before after))
+      (number_value (compared A B table first second list before after))
   pub tile_part : (A B : Size) (first second : List ℕ) (tile : ℕ)
       → PartGrounds A B first second tile (answer_number (part_answer A B (length first) (length second) tile))
       (answer_value (part_answer A B (length first) (length second) tile))
@@ -70,16 +69,16 @@ pub record Demand1 : Type 0 where
       → BytesGrounds S words bytes (answer_number (bytes_answer S words (length bytes))) (answer_value (bytes_answer S words (length bytes)))
   pub build : (B : Block) (table bits settings : List ℕ) (room : RoomLent)
       → BuildGrounds B table bits (settings_read B table bits) (build_lent table bits settings room)
-      (built_number (built B table bits settings room)) (built_value (built B table bits settings room))
+      (answer_number (built B table bits settings room)) (number_value (built B table bits settings room))
   pub follow : (B : Block) (table settings : List ℕ) (tile port : ℕ) (wires sources marks : List ℕ)
       → FollowGrounds B table settings tile port (follow_lent table settings wires sources marks)
-      (followed_number (followed B table settings tile port wires sources marks)) (followed_value (followed B table settings tile port wires sources marks))
+      (answer_number (followed B table settings tile port wires sources marks)) (followed_value (followed B table settings tile port wires sources marks))
   pub step : (B : Block) (table settings list state before after : List ℕ) (room : StepRoomLent)
       → StepGrounds B table settings list state before after (step_lent (inputs_lent table settings list state before after) room)
       (answer_number (stepped B table settings list state before after room)) (answer_value (stepped B table settings list state before after room))
   pub contentions : (B : Block) (table bits list settings wires heads nexts : List ℕ)
       → ContentionGrounds B table bits (settings_read B table bits) (contention_lent table bits settings wires heads nexts) (length list)
-      (contentions_number (contended B table bits list settings wires heads nexts)) (contentions_value (contended B table bits list settings wires heads nexts))
+      (answer_number (contended B table bits list settings wires heads nexts)) (number_value (contended B table bits list settings wires heads nexts))
   -- the same of the report program: of reading its frames, and of its report, whose last line has the number and the place
   pub parse : (input : List ℕ) → ParseGrounds input (parsed input) (parsed_number (parsed input)) (parsed_place (parsed input))
   pub report : (input : List ℕ) → ReportSays input (report_of input)

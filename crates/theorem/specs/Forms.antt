@@ -1,8 +1,7 @@
 -- Document 02, W7: "Show that both forms carry the same settings and answers, and keep the bytes at the file edge." Over the answers of the calls: each
 -- conversion is the other's inverse, and what is read, written, counted, compared and built of words is what it was of the bytes that they were made of.
 -- Proved, with no other hypothesis, by `same_forms` (proofs/FormsLaws.antt).
-use Rattle.std.specs.Prelude.{ℕ, ◌≡◌, Bool, ◌↔◌, List, length}
-use Rattle.refusal.specs.declared.Answer.TheVariants.{Done}
+use Rattle.std.specs.Prelude.{ℕ, ◌≡◌, Bool, ◌↔◌, List, length, Ok}
 use Rattle.ports.specs.declared.size.Size.{Size}
 use Rattle.ports.specs.declared.size.Block.{Block}
 use Rattle.ports.specs.Block.{size_of, tile_count}
@@ -18,16 +17,16 @@ use Rattle.block.specs.Building.{build_answer}
 
 -- `words_of_bytes` says yes to these bytes, with words lent for it
 abbrev pub Converts : Size → List ℕ → Type 0
-Converts S bytes = (words : List ℕ) × (words_answer S (length bytes) (length words) ≡ Done)
+Converts S bytes = (words : List ℕ) × (words_answer S (length bytes) (length words) ≡ (Ok tt))
 
 pub record SameForms : Type 0 where
   -- the same bit at every position, and "columns 54 to 63 zero"
   pub same_bits : (S : Size) (bytes : List ℕ) → Converts S bytes → SameBits (tile_count S) bytes (words_of (tile_count S) bytes)
   -- there and back; `FitsIn byte_bits` is what a lent &[u8] is: each number is below 256
   pub bytes_back : (S : Size) (bytes : List ℕ) → FitsIn byte_bits bytes → Converts S bytes
-      → (bytes_answer S (words_of (tile_count S) bytes) (length bytes) ≡ Done) × (bytes_of (tile_count S) (words_of (tile_count S) bytes) ≡ bytes)
-  pub words_back : (S : Size) (words bytes : List ℕ) → bytes_answer S words (length bytes) ≡ Done
-      → (words_answer S (length (bytes_of (tile_count S) words)) (length words) ≡ Done) × (words_of (tile_count S) (bytes_of (tile_count S) words) ≡ words)
+      → (bytes_answer S (words_of (tile_count S) bytes) (length bytes) ≡ (Ok tt)) × (bytes_of (tile_count S) (words_of (tile_count S) bytes) ≡ bytes)
+  pub words_back : (S : Size) (words bytes : List ℕ) → bytes_answer S words (length bytes) ≡ (Ok tt)
+      → (words_answer S (length (bytes_of (tile_count S) words)) (length words) ≡ (Ok tt)) × (words_of (tile_count S) (bytes_of (tile_count S) words) ≡ words)
   -- a tile is the same in both, so that whatever is said of the tiles of the one holds of the other's ..
   pub same_tiles : (S : Size) (bytes : List ℕ) → Converts S bytes → tiles_of (words_of (tile_count S) bytes) ≡ tiles_of_bytes bytes
   -- .. which settings they read to, and which position is at fault first
@@ -38,7 +37,7 @@ pub record SameForms : Type 0 where
   -- "the same settings", of every tile; and what is written of them
   pub settings : (S : Size) (table bytes : List ℕ) → Converts S bytes
       → decoded table (tiles_of (words_of (tile_count S) bytes)) (tile_count S) ≡ decoded table (tiles_of_bytes bytes) (tile_count S)
-  pub writes : (S : Size) (table bytes : List ℕ) (settings : ℕ) → Converts S bytes → read_bytes_answer S table bytes settings ≡ Done
+  pub writes : (S : Size) (table bytes : List ℕ) (settings : ℕ) → Converts S bytes → read_bytes_answer S table bytes settings ≡ (Ok tt)
       → encoded table (decoded table (tiles_of_bytes bytes) (tile_count S)) (tile_count S) ≡ words_of (tile_count S) bytes
   -- "and answers": of reading and of the bit count ..
   pub reads : (S : Size) (table bytes : List ℕ) (settings : ℕ) → Converts S bytes

@@ -1,6 +1,6 @@
 -- Which pins can move which lamp (document 02, W13), over the answers of `build`, what the equations allow, what running a list gives and the values
 -- that a step writes. Proved, with no other hypothesis, by `influence` (proofs/InfluenceLaws.antt).
-use Rattle.std.specs.Prelude.{ℕ, ◌<◌, ◌≡◌, ◌≢◌, ◌↔◌, List, get_or}
+use Rattle.std.specs.Prelude.{ℕ, ◌<◌, ◌≡◌, ◌≢◌, ◌↔◌, List, get_or, Ok}
 use Rattle.ports.specs.declared.size.Block.{Block}
 use Rattle.ports.specs.Block.{size_of, block}
 use Rattle.ports.specs.Lengths.{ports}
@@ -9,7 +9,6 @@ use Rattle.fabric.specs.Wire.{wire_of}
 use Rattle.netlist.specs.declared.row.Row.{Row}
 use Rattle.equations.specs.Equations.{OpenWire, Meets, Depends}
 use Rattle.equations.specs.RowMeaning.{RowSays}
-use Rattle.block.specs.declared.Built.TheVariants.{Listed}
 use Rattle.block.specs.declared.lengths.RoomLent.{RoomLent}
 use Rattle.stepper.specs.Settling.{settled_by, port_value}
 use Rattle.contention.specs.Entry.{settings_read}
@@ -57,19 +56,19 @@ pub record SameValue (B C : Block) (t st list u su second state lent other : Lis
 pub record Influence : Type 0 where
   -- "For an accepted block, one state and two sets of lent values of 0 and 1: each wire that is no lent wire where the two differ, and depends at any
   -- distance on none, has the same settled value." It holds of lent numbers above 1 too.
-  pub pins : (B : Block) (table bits settings : List ℕ) (room : RoomLent) (rows : ℕ) → built B table bits settings room ≡ Listed rows
+  pub pins : (B : Block) (table bits settings : List ℕ) (room : RoomLent) (rows : ℕ) → built B table bits settings room ≡ Ok rows
       → (state lent other : List ℕ) (p : ℕ) → p < ports B → OutOfReach B table (settings_read B table bits) lent other (wire_of B p)
       → SameValue B B table (settings_read B table bits) (list_built B table bits) table (settings_read B table bits) (list_built B table bits) state lent other p
   -- "Take two accepted settings of one size and one set of joins, with one state and one set of lent values: if both give the same equation to a wire and
   -- to all it depends on at any distance, its value is the same under both."
-  pub settings : (B : Block) (table bits room-settings : List ℕ) (room : RoomLent) (rows : ℕ) → built B table bits room-settings room ≡ Listed rows
-      → (C : Block) (table' bits' room-settings' : List ℕ) (room' : RoomLent) (rows' : ℕ) → built C table' bits' room-settings' room' ≡ Listed rows'
+  pub settings : (B : Block) (table bits room-settings : List ℕ) (room : RoomLent) (rows : ℕ) → built B table bits room-settings room ≡ Ok rows
+      → (C : Block) (table' bits' room-settings' : List ℕ) (room' : RoomLent) (rows' : ℕ) → built C table' bits' room-settings' room' ≡ Ok rows'
       → SameJoins B C → (state lent : List ℕ) (p : ℕ) → p < ports B
       → SameEquations B C table (settings_read B table bits) table' (settings_read C table' bits') (wire_of B p)
       → SameValue B C table (settings_read B table bits) (list_built B table bits) table' (settings_read C table' bits') (list_built C table' bits') state lent lent p
   -- .. and "all it depends on" is the same under both
-  pub same_reach : (B : Block) (table bits room-settings : List ℕ) (room : RoomLent) (rows : ℕ) → built B table bits room-settings room ≡ Listed rows
-      → (C : Block) (table' bits' room-settings' : List ℕ) (room' : RoomLent) (rows' : ℕ) → built C table' bits' room-settings' room' ≡ Listed rows'
+  pub same_reach : (B : Block) (table bits room-settings : List ℕ) (room : RoomLent) (rows : ℕ) → built B table bits room-settings room ≡ Ok rows
+      → (C : Block) (table' bits' room-settings' : List ℕ) (room' : RoomLent) (rows' : ℕ) → built C table' bits' room-settings' room' ≡ Ok rows'
       → SameJoins B C → (p : ℕ) → p < ports B → SameEquations B C table (settings_read B table bits) table' (settings_read C table' bits') (wire_of B p)
       → (d : ℕ) → Depends B table (settings_read B table bits) (wire_of B p) d ↔ Depends C table' (settings_read C table' bits') (wire_of B p) d
   -- one block has one set of joins, and so have two of one row whose bytes for the east column differ: W2 joins that column's names of two rows

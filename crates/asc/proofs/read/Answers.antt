@@ -1,11 +1,11 @@
 -- `read` meets its contract: no size, a wrong length, or what `read_into` says with rooms of the block's size. Assumes nothing.
+use Rattle.std.specs.Prelude.{Err}
 use Prim.Native.Nat.{◌≤◌}
 use mathlib.Core.Path.{◌≡◌, sym, refl, ◌∙◌}
 use mathlib.Core.Bool.{true}
 use native.Mathlib.Omega.{arith}
 use lib.Seq.{length-take-le}
 use Rattle.refusal.specs.declared.Refusal.TheVariants.{WrongSize, WrongLength}
-use Rattle.refusal.specs.declared.Answer.TheVariants.{Refused}
 use Rattle.asc.specs.Area.{area_at, tiles_of, sized}
 use Rattle.asc.specs.Meaning.{by_size, by_length}
 use Rattle.asc.proofs.AreaLaws.{sized_of, tiles_few}
@@ -13,7 +13,7 @@ use Rattle.asc.proofs.AnswerLaws.{read_told}
 use Rattle.asc.proofs.read.Goals as goal
 
 pub returns-then-not-is_sized : goal.returns-then-not-is_sized
-returns-then-not-is_sized c = let all_clauses = read_told (area_at c.args.s c.args.x c.args.y) c.args.text.now c.args.bits.now c.args.bits.now (Refused WrongSize) (refl, by_size (sym c.is_sized.ensures ∙ c.if-not-is_sized.true)) in record { answer = all_clauses.0; bits = all_clauses.1.0; says = all_clauses.1.1 }
+returns-then-not-is_sized c = let all_clauses = read_told (area_at c.args.s c.args.x c.args.y) c.args.text.now c.args.bits.now c.args.bits.now (Err WrongSize) (refl, by_size (sym c.is_sized.ensures ∙ c.if-not-is_sized.true)) in record { answer = all_clauses.0; bits = all_clauses.1.0; says = all_clauses.1.1 }
 
 pub overflow_mul-n : goal.overflow_mul-n
 overflow_mul-n c =
@@ -35,7 +35,7 @@ pub returns-then-bits-n : goal.returns-then-bits-n
 returns-then-bits-n c =
     let size : sized (area_at c.args.s c.args.x c.args.y) ≡ true =
     sym c.is_sized.ensures ∙ c.if-not-is_sized.false in
-    let all_clauses = read_told (area_at c.args.s c.args.x c.args.y) c.args.text.now c.args.bits.now c.args.bits.now (Refused WrongLength) (refl, by_length size c.if-bits-n.true) in record { answer = all_clauses.0; bits = all_clauses.1.0; says = all_clauses.1.1 }
+    let all_clauses = read_told (area_at c.args.s c.args.x c.args.y) c.args.text.now c.args.bits.now c.args.bits.now (Err WrongLength) (refl, by_length size c.if-bits-n.true) in record { answer = all_clauses.0; bits = all_clauses.1.0; says = all_clauses.1.1 }
 
 pub overflow_mul-digits : goal.overflow_mul-digits
 overflow_mul-digits c =

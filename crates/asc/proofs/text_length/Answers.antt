@@ -1,6 +1,6 @@
 -- `text_length` meets its contract: no size, or the length that is counted. Assumes nothing.
+use Rattle.std.specs.Prelude.{Ok}
 use mathlib.Core.Path.{sym, ap, ◌∙◌}
-use Rattle.asc.specs.declared.TextLength.TheVariants.{Bytes}
 use Rattle.asc.specs.Answers.{length_answer}
 use Rattle.asc.proofs.text_length.Goals as goal
 
@@ -11,4 +11,4 @@ returns-then-not-is_sized c = rw (sym c.is_sized.ensures ∙ c.if-not-is_sized.t
 pub returns : goal.returns
 unfolding length_answer
 returns c =
-    rw (sym c.is_sized.ensures ∙ c.if-not-is_sized.false) (ap Bytes c.file_length.ensures.0)
+    rw (sym c.is_sized.ensures ∙ c.if-not-is_sized.false) (ap Ok c.file_length.ensures.0)

@@ -1,4 +1,5 @@
 -- `config::bit_count` meets its contract: one ground after another, and then the bits of the tile's own part. Assumes nothing.
+use Rattle.std.specs.Prelude.{Ok}
 use mathlib.Core.Path.{sym, ap, ◌∙◌}
 use Prim.Native.Nat.{ℕ, ◌*◌}
 use lib.ListN.{take, drop}
@@ -6,7 +7,6 @@ use Rattle.lists.proofs.PartLaws.{part_size}
 use Rattle.ports.proofs.BlockLaws.{allowed_exact}
 use Rattle.ports.specs.Lengths.{tile_numbers}
 use Rattle.codec.specs.Bits.{bit_count, bit_at}
-use Rattle.config.specs.declared.BitCount.TheVariants.{Set}
 use Rattle.config.proofs.BitCountLaws.{count_size, count_length, count_range, count_set}
 use Rattle.config.proofs.bit_count.Goals as goal
 
@@ -38,4 +38,4 @@ returns c =
     let bits = args.bits.now in
     let tile = args.tile in
     let counted = c.count_bits.ensures ∙ ap (λ (x : ℕ). bit_count (bit_at (take x (drop (tile_numbers * tile) bits)))) (part_size tile_numbers tile) in
-    ap Set counted ∙ count_set args.s args.bits.now args.tile size (c.if-bits-bits_length.false ∙ c.bits_length.ensures) c.if-n-t.false
+    ap Ok counted ∙ count_set args.s args.bits.now args.tile size (c.if-bits-bits_length.false ∙ c.bits_length.ensures) c.if-n-t.false

@@ -24,7 +24,7 @@ returns-in_default c =
 pub slice_bounds-room-end : goal.slice_bounds-room-end
 slice_bounds-room-end c =
     let args = c.args in
-    let answer = sym c.in-Done.is ∙ c.read_checks-can_read.ensures.answer in
+    let answer = sym c.in-Ok.is ∙ c.read_checks-can_read.ensures.answer in
     let passed = read_passed args.s args.table.now args.bits.now (length args.settings.now) (sym answer) in
     let few = tile_count_le args.s passed.size in
     omega (arith, passed.lengths.settings_long, c.read_checks-can_read.auto.room, c.settings_room-room.ensures)
@@ -32,18 +32,18 @@ slice_bounds-room-end c =
 pub slice_bounds-copy-end : goal.slice_bounds-copy-end
 slice_bounds-copy-end c =
     let args = c.args in
-    let answer = sym c.in-Done.is ∙ c.read_checks-can_read.ensures.answer in
+    let answer = sym c.in-Ok.is ∙ c.read_checks-can_read.ensures.answer in
     let passed = read_passed args.s args.table.now args.bits.now (length args.settings.now) (sym answer) in
-    let read = c.read_checks-can_read.ensures.room c.in-Done.is in
+    let read = c.read_checks-can_read.ensures.room c.in-Ok.is in
     let long = ap length read ∙ decoded_length args.table.now args.bits.now (tile_count args.s) ∙ sym passed.lengths.settings_long in
     sym long
 
 pub copy-requires : goal.copy-requires
 copy-requires c =
     let args = c.args in
-    let answer = sym c.in-Done.is ∙ c.read_checks-can_read.ensures.answer in
+    let answer = sym c.in-Ok.is ∙ c.read_checks-can_read.ensures.answer in
     let passed = read_passed args.s args.table.now args.bits.now (length args.settings.now) (sym answer) in
-    let read = c.read_checks-can_read.ensures.room c.in-Done.is in
+    let read = c.read_checks-can_read.ensures.room c.in-Ok.is in
     let long = ap length read ∙ decoded_length args.table.now args.bits.now (tile_count args.s) ∙ sym passed.lengths.settings_long in
     long
 
@@ -51,7 +51,7 @@ copy-requires c =
 pub returns : goal.returns
 returns c =
     let args = c.args in
-    let answer = sym c.in-Done.is ∙ c.read_checks-can_read.ensures.answer in
+    let answer = sym c.in-Ok.is ∙ c.read_checks-can_read.ensures.answer in
     let passed = read_passed args.s args.table.now args.bits.now (length args.settings.now) (sym answer) in
-    let written = c.copy.ensures ∙ c.read_checks-can_read.ensures.room c.in-Done.is in
+    let written = c.copy.ensures ∙ c.read_checks-can_read.ensures.room c.in-Ok.is in
     record { answer = answer; settings = written; says = read_says args.s args.table.now args.bits.now args.settings.now _ _ answer written }

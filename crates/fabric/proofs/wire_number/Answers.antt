@@ -1,8 +1,8 @@
 -- `wire_number` meets its contract: each return is a case of `wire_number`. Assumes nothing.
+use Rattle.std.specs.Prelude.{Ok}
 use mathlib.Core.Path.{sym, ◌∙◌, ap}
 use native.Mathlib.Omega.{arith}
 use Rattle.ports.proofs.BlockLaws.{sized_exact, port_of_lt}
-use Rattle.fabric.specs.declared.WireNumber.TheVariants.{Wire}
 use Rattle.fabric.proofs.WireNumberLaws.{wire_number_size, wire_number_tile, wire_number_port, wire_number_wire, wire_number_joins}
 use Rattle.fabric.proofs.wire_number.Goals as goal
 
@@ -30,4 +30,4 @@ returns c =
     let args = c.args in
     let s = (sized_exact args.b).0 (sym c.is_sized.ensures ∙ c.if-not-is_sized.false) in
     let p = port_of_lt args.b args.tile args.port c.if-b-tile.false c.if-port-ge-PORTS_PER_TILE.false in
-    record { answer = ap Wire c.wire_of.ensures.0 ∙ wire_number_wire args.b args.tile args.port s c.if-b-tile.false c.if-port-ge-PORTS_PER_TILE.false; joins = wire_number_joins args.b args.tile args.port s _ p c.wire_of.ensures.0 }
+    record { answer = ap Ok c.wire_of.ensures.0 ∙ wire_number_wire args.b args.tile args.port s c.if-b-tile.false c.if-port-ge-PORTS_PER_TILE.false; joins = wire_number_joins args.b args.tile args.port s _ p c.wire_of.ensures.0 }

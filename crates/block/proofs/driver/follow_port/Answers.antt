@@ -1,6 +1,6 @@
 -- `driver::follow_port` meets its contract: the maps written are the block's, and the wire asked for is the port's. Assumes nothing.
+use Rattle.std.specs.Prelude.{Ok}
 use Rattle.block.proofs.DriverLaws.{port_contended, port_no_tile, port_no_port, port_driven}
-use Rattle.block.specs.declared.Followed.TheVariants.{Driven}
 use Rattle.drivers.proofs.LeadLaws.{sources_bounded}
 use Rattle.drivers.specs.Following.{Bounded, driver_of}
 use Rattle.equations.specs.Sources.{contended_wire, sources_of}
@@ -75,4 +75,4 @@ returns c =
     let wire = wires_at B c.fill_wires.new.wires c.fill_wires.ensures (port_of tile port) lt in
     let within = wire_within B (port_of tile port) lt in
     let same = ap (λ (s : List ℕ). driver_of B s (get_or c.fill_wires.new.wires (port_of tile port) 0)) c.find_sources-contended.ensures.sources in
-    ap Driven (c.driver_of.ensures.answer ∙ same ∙ ap (driver_of B (sources_of B table st)) wire) ∙ port_driven B table st tile port free in_tile in_port_lem
+    ap Ok (c.driver_of.ensures.answer ∙ same ∙ ap (driver_of B (sources_of B table st)) wire) ∙ port_driven B table st tile port free in_tile in_port_lem

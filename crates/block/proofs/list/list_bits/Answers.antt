@@ -1,7 +1,8 @@
 -- `list::list_bits` meets its contract: the table keeps the rules, the bits decode, and the settings that they read to are routed. Assumes nothing.
+use Rattle.refusal.specs.Grounds.{answer_number}
 use Rattle.block.proofs.BuildingLaws.{bits_table, bits_undecodable, bits_list}
 use Rattle.block.proofs.RoutedLaws.{routed_of_read}
-use Rattle.block.specs.Building.{built_number, list_answer}
+use Rattle.block.specs.Building.{list_answer}
 use Rattle.equations.specs.Settling.{block_list}
 use Rattle.equations.specs.Routed.{Routed}
 use Rattle.routing.proofs.TableCheckLaws.{table_exact}
@@ -70,4 +71,4 @@ returns c =
     let passes = eq-eqb (faulty_part logic_tile table) (part_count logic_tile table) (sym c.check_table-part.ensures.part ∙ c.if-part-parts.false ∙ ap (λ (x : ℕ). 2 + x) c.group_count-parts.ensures) in
     let pass : logic_tile.positions * tiles B ≤ fault_place table (tiles_of bits) (tiles B) = omega (arith, c.read_block-place.ensures.place, c.if-place-n.false) in
     let read = c.read_block-place.ensures.settings (omega (arith, c.read_block-place.ensures.place, first_le (faulty_place table (tiles_of bits)) 0 (logic_tile.positions * tiles B))) in
-    record { answer = c.list_settings.ensures.answer ∙ ap (list_answer B table) read ∙ bits_list B table bits passes pass; list = c.list_settings.ensures.list ∙ ap (λ (s : List ℕ). output (built_number c.list_settings.result) list (block_list B table s)) read }
+    record { answer = c.list_settings.ensures.answer ∙ ap (list_answer B table) read ∙ bits_list B table bits passes pass; list = c.list_settings.ensures.list ∙ ap (λ (s : List ℕ). output (answer_number c.list_settings.result) list (block_list B table s)) read }

@@ -6,5 +6,5 @@ use Rattle.capi.proofs.comparing.ice40_tile_part.Goals as goal
 
 pub overflow_mul-tile : goal.overflow_mul-tile
 overflow_mul-tile c =
-    let small = part_fits _ _ _ _ _ (sym c.part_answer-a.ensures ∙ c.in-Done.is) in
+    let small = part_fits _ _ _ _ _ (sym c.part_answer-a.ensures ∙ c.in-Ok.is) in
     omega (arith, small)

@@ -1,5 +1,6 @@
 -- `blocks::compare_bits` meets its contract: the table keeps the rules, both blocks decode, and the settings that they read to are compared. Assumes
 -- nothing.
+use Rattle.refusal.specs.Grounds.{answer_number}
 use mathlib.Core.Path.{refl, sym, ap, ap₂, ◌∙◌}
 use mathlib.Core.List.{List}
 use Prim.Native.Nat.{ℕ, ◌+◌, ◌*◌, ◌≤◌}
@@ -14,7 +15,7 @@ use Rattle.routing.specs.LogicTile.{logic_tile}
 use Rattle.routing.specs.TableCheck.{breaks, faulty_part, part_count}
 use Rattle.routing.proofs.TableCheckLaws.{table_exact}
 use Rattle.config.specs.Blocks.{faulty_place, fault_place, tiles_of}
-use Rattle.compare.specs.Entry.{compared_number, rows_answer, rows_list}
+use Rattle.compare.specs.Entry.{rows_answer, rows_list}
 use Rattle.compare.proofs.EntryLaws.{bits_table, bits_first, bits_second, bits_rows}
 use Rattle.compare.proofs.blocks.compare_bits.Goals as goal
 
@@ -123,5 +124,5 @@ returns c =
       answer = c.list_settings.ensures.answer ∙ ap₂ (λ (x y : List ℕ). rows_answer x y (tile_count S) list) old new
           ∙ bits_rows S table first second list passes clean clean';
       list = c.list_settings.ensures.list
-          ∙ ap₂ (λ (x y : List ℕ). output (compared_number r) c.args.list.now (rows_list x y (tile_count S) list)) old new;
+          ∙ ap₂ (λ (x y : List ℕ). output (answer_number r) c.args.list.now (rows_list x y (tile_count S) list)) old new;
     }

@@ -1,4 +1,5 @@
 -- `checks::check_settings` meets its contract, ground by ground: the table, then the settings. Assumes nothing.
+use Rattle.std.specs.Prelude.{Ok, Err}
 use borrow.Author.Tests.{eq-eqb, ne_eqb}
 use Rattle.moments.proofs.ChecksLaws.{settings_table, settings_bitless, settings_later}
 use Rattle.lists.proofs.SearchLaws.{first_le}
@@ -6,7 +7,6 @@ use Rattle.routing.specs.LogicTile.{logic_tile}
 use Rattle.routing.specs.TableCheck.{table_ok, breaks, part_count}
 use Rattle.routing.proofs.TableCheckLaws.{table_exact}
 use Rattle.refusal.specs.declared.Refusal.TheVariants.{Table}
-use Rattle.refusal.specs.declared.Answer.TheVariants.{Done, Refused}
 use native.Mathlib.Omega.{arith}
 use mathlib.Core.Path.{◌≡◌, sym, ◌∙◌, ap}
 use mathlib.Core.Bool.{true}
@@ -21,7 +21,7 @@ overflow_cast-result c =
 pub returns-then-part-parts : goal.returns-then-part-parts
 returns-then-part-parts c =
     let a = c.args in
-    ap (λ (p : ℕ). Refused (Table p)) c.faulty_part-part.ensures ∙ settings_table a.table.now a.settings.now a.n Done (ne_eqb _ _ (λ q. c.if-part-parts.true (c.faulty_part-part.ensures ∙ q ∙ sym (ap (λ (g : ℕ). 2 + g) c.group_count-parts.ensures))))
+    ap (λ (p : ℕ). Err (Table p)) c.faulty_part-part.ensures ∙ settings_table a.table.now a.settings.now a.n (Ok tt) (ne_eqb _ _ (λ q. c.if-part-parts.true (c.faulty_part-part.ensures ∙ q ∙ sym (ap (λ (g : ℕ). 2 + g) c.group_count-parts.ensures))))
 
 pub bitless_tile-tile-requires : goal.bitless_tile-tile-requires
 bitless_tile-tile-requires c =
@@ -33,10 +33,10 @@ pub returns-then-tile-n : goal.returns-then-tile-n
 returns-then-tile-n c =
     let a = c.args in
     let ok : table_ok logic_tile a.table.now ≡ true = eq-eqb _ _ (sym c.faulty_part-part.ensures ∙ c.if-part-parts.false ∙ ap (λ (g : ℕ). 2 + g) c.group_count-parts.ensures) in
-    settings_bitless a.table.now a.settings.now a.n Done ok _ c.bitless_tile-tile.ensures c.if-tile-n.true
+    settings_bitless a.table.now a.settings.now a.n (Ok tt) ok _ c.bitless_tile-tile.ensures c.if-tile-n.true
 
 pub returns : goal.returns
 returns c =
     let a = c.args in
     let ok : table_ok logic_tile a.table.now ≡ true = eq-eqb _ _ (sym c.faulty_part-part.ensures ∙ c.if-part-parts.false ∙ ap (λ (g : ℕ). 2 + g) c.group_count-parts.ensures) in
-    settings_later a.table.now a.settings.now a.n Done ok (omega (arith, c.bitless_tile-tile.ensures, c.if-tile-n.false))
+    settings_later a.table.now a.settings.now a.n (Ok tt) ok (omega (arith, c.bitless_tile-tile.ensures, c.if-tile-n.false))

@@ -21,10 +21,10 @@ returns-in_default-bits-clause-answer c =
     let a = c.args in
     let bytes = bytes_answer (a.state.now ++ a.before.now ++ a.after.now) in
     c.check_settled-bits.ensures
-    ∙ settings_yes a.table.now a.settings.now c.tile_count.result bytes (sym c.check_settings-read.ensures ∙ c.in-Done.is)
+    ∙ settings_yes a.table.now a.settings.now c.tile_count.result bytes (sym c.check_settings-read.ensures ∙ c.in-Ok.is)
     ∙ ap (λ (n : ℕ). settings_answer a.table.now a.settings.now n bytes) c.tile_count.ensures.0
 
 pub clock-requires : goal.clock-requires
 clock-requires c =
     let a = c.args in
-    (bytes_clockable a.s a.table.now a.settings.now a.state.now a.before.now a.after.now (length a.next.now) c.requires.0 c.requires.1 (sym c.check_settled-bits.ensures ∙ c.in-Done-bits.is), c.requires.1.next_long)
+    (bytes_clockable a.s a.table.now a.settings.now a.state.now a.before.now a.after.now (length a.next.now) c.requires.0 c.requires.1 (sym c.check_settled-bits.ensures ∙ c.in-Ok-bits.is), c.requires.1.next_long)

@@ -10,9 +10,9 @@ use Rattle.reporting.proofs.blocks.put_built.Goals as goal
 
 pub put_accepted-requires : goal.put_accepted-requires
 put_accepted-requires c =
-    let says = subst (BuildSays c.args.b c.args.table.now c.args.bits.now (build_lent c.args.table.now c.args.bits.now c.args.settings.now (room_lent c.args.list.now c.args.wires.now c.args.sources.now c.args.rows.now c.args.marks.now c.args.queue.now))) c.in-Listed.is c.build-built.ensures.says in
+    let says = subst (BuildSays c.args.b c.args.table.now c.args.bits.now (build_lent c.args.table.now c.args.bits.now c.args.settings.now (room_lent c.args.list.now c.args.wires.now c.args.sources.now c.args.rows.now c.args.marks.now c.args.queue.now))) c.in-Ok.is c.build-built.ensures.says in
     record {
-      sized = (says.0.size, small_tiles c.args.b c.requires.small.0, says.0.rules, listed_decodable _ _ _ _ _ c.build-built.ensures.answer ((build_long_exact c.args.b (build_lent c.args.table.now c.args.bits.now c.args.settings.now (room_lent c.args.list.now c.args.wires.now c.args.sources.now c.args.rows.now c.args.marks.now c.args.queue.now))).1 c.requires.build_long) c.in-Listed.rows_listed c.in-Listed.is);
+      sized = (says.0.size, small_tiles c.args.b c.requires.small.0, says.0.rules, listed_decodable _ _ _ _ _ c.build-built.ensures.answer ((build_long_exact c.args.b (build_lent c.args.table.now c.args.bits.now c.args.settings.now (room_lent c.args.list.now c.args.wires.now c.args.sources.now c.args.rows.now c.args.marks.now c.args.queue.now))).1 c.requires.build_long) c.in-Ok.rows_listed c.in-Ok.is);
       bits_len = (
         c.requires.build_long.bits_long,
         c.build-built.auto.settings ∙ c.requires.build_long.settings_long,
@@ -22,8 +22,8 @@ put_accepted-requires c =
       );
     }
 
-pub returns-in-Refused : goal.returns-in-Refused
-returns-in-Refused c = let all_clauses = puts_line _ _ _ _ _ _ (refused_lines _ _ _ _ _ c.build-built.ensures.answer ((build_long_exact c.args.b (build_lent c.args.table.now c.args.bits.now c.args.settings.now (room_lent c.args.list.now c.args.wires.now c.args.sources.now c.args.rows.now c.args.marks.now c.args.queue.now))).1 c.requires.build_long) c.in-Refused.r c.in-Refused.is) (c.put_refusal.ensures.next, c.put_refusal.ensures.out) in record { next = all_clauses.0; out = all_clauses.1 }
+pub returns-in-Err : goal.returns-in-Err
+returns-in-Err c = let all_clauses = puts_line _ _ _ _ _ _ (refused_lines _ _ _ _ _ c.build-built.ensures.answer ((build_long_exact c.args.b (build_lent c.args.table.now c.args.bits.now c.args.settings.now (room_lent c.args.list.now c.args.wires.now c.args.sources.now c.args.rows.now c.args.marks.now c.args.queue.now))).1 c.requires.build_long) c.in-Err.r c.in-Err.is) (c.put_refusal.ensures.next, c.put_refusal.ensures.out) in record { next = all_clauses.0; out = all_clauses.1 }
 
-pub returns-in-Listed : goal.returns-in-Listed
-returns-in-Listed c = let all_clauses = puts_line _ _ _ _ _ _ (listed_lines _ _ _ _ _ c.build-built.ensures.answer ((build_long_exact c.args.b (build_lent c.args.table.now c.args.bits.now c.args.settings.now (room_lent c.args.list.now c.args.wires.now c.args.sources.now c.args.rows.now c.args.marks.now c.args.queue.now))).1 c.requires.build_long) c.in-Listed.rows_listed c.in-Listed.is) (c.put_accepted.ensures.next, c.put_accepted.ensures.out) in record { next = all_clauses.0; out = all_clauses.1 }
+pub returns-in-Ok : goal.returns-in-Ok
+returns-in-Ok c = let all_clauses = puts_line _ _ _ _ _ _ (listed_lines _ _ _ _ _ c.build-built.ensures.answer ((build_long_exact c.args.b (build_lent c.args.table.now c.args.bits.now c.args.settings.now (room_lent c.args.list.now c.args.wires.now c.args.sources.now c.args.rows.now c.args.marks.now c.args.queue.now))).1 c.requires.build_long) c.in-Ok.rows_listed c.in-Ok.is) (c.put_accepted.ensures.next, c.put_accepted.ensures.out) in record { next = all_clauses.0; out = all_clauses.1 }

@@ -1,13 +1,13 @@
 -- `checked::step_checked` meets its contract: a no keeps the outputs, a yes shows that the list can be run. Assumes nothing.
+use Rattle.std.specs.Prelude.{Ok}
 use mathlib.Core.Path.{◌≡◌, sym, ◌∙◌}
-use Rattle.refusal.specs.declared.Answer.TheVariants.{Done}
 use Rattle.sim.proofs.StepLaws.{inputs_shows, run_shows}
 use Rattle.sim.proofs.checked.step_checked.Goals as goal
 
 pub write_step-requires : goal.write_step-requires
 write_step-requires c =
     let a = c.args in
-    let done : c.check_inputs-r.result ≡ Done = c.in-Done.is in
+    let done : c.check_inputs-r.result ≡ (Ok tt) = c.in-Ok.is in
     let long = c.requires.inputs_long in
     let room = c.requires.step_room_long in
     let passed = inputs_shows a.b a.table.now a.settings.now a.list.now a.state.now a.before.now a.after.now (sym c.check_inputs-r.ensures.answer ∙ done) in

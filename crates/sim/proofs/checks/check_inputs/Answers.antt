@@ -1,9 +1,9 @@
 -- `checks::check_inputs` meets its contract, ground by ground: the table, the settings, then `check_run`. Assumes nothing.
+use Rattle.std.specs.Prelude.{Err}
 use Prim.Native.Nat.{ℕ, ◌+◌}
 use mathlib.Core.Bool.{true}
 use mathlib.Core.Path.{◌≡◌, sym, ◌∙◌, ap}
 use native.Mathlib.Omega.{arith}
-use Rattle.refusal.specs.declared.Answer.TheVariants.{Refused}
 use Rattle.refusal.specs.declared.Refusal.TheVariants.{Table, NoSuchSettings}
 use Rattle.routing.proofs.TableCheckLaws.{table_exact}
 use Rattle.routing.specs.TableCheck.{table_ok, breaks, part_count}
@@ -25,7 +25,7 @@ returns-then-part-parts c =
     let parts = ap (λ (g : ℕ). 2 + g) c.group_count-parts.ensures in
     let found = c.faulty_part-part.ensures in
     record {
-      answer = ap (λ (p : ℕ). Refused (Table p)) found
+      answer = ap (λ (p : ℕ). Err (Table p)) found
           ∙ inputs_table a.b a.table.now a.settings.now a.list.now a.state.now a.before.now a.after.now (ne_eqb _ _ (λ q. c.if-part-parts.true (found ∙ q ∙ sym parts)));
       wires = λ e. absurd (never_done _ e);
       own = λ e. absurd (never_done _ e);
@@ -47,7 +47,7 @@ returns-then-tile-n c =
     let found = c.bitless_tile-tile.ensures in
     let l = c.if-tile-n.true in
     record {
-      answer = ap (λ (i : ℕ). Refused (NoSuchSettings i)) found
+      answer = ap (λ (i : ℕ). Err (NoSuchSettings i)) found
           ∙ inputs_settings a.b a.table.now a.settings.now a.list.now a.state.now a.before.now a.after.now ok (omega arith);
       wires = λ e. absurd (never_done _ e);
       own = λ e. absurd (never_done _ e);

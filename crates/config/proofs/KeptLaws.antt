@@ -10,4 +10,4 @@ use Rattle.refusal.proofs.MemoryLaws.{output_kept}
 
 pub output_not_done : (old new : List ℕ) (a : Result (Unit {0}) Refusal) → (a ≡ (Ok tt) → ⊥) → old ≡ output (answer_number a) old new
 output_not_done old new (Ok _) h = absurd (h refl)
-output_not_done old new (Err r) h = output_kept old new (Err r) r refl
+output_not_done old new (Err r) h = output_kept old new {A = Unit {0}} (Err r) r refl

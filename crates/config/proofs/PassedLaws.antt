@@ -47,7 +47,7 @@ checks_cases true true true false part last P a b c d e = d refl refl refl refl
 checks_cases true true true true part last P a b c d e = e refl refl refl refl
 
 -- a no is not a yes
-pub refused_not_done : {A : Type 0} {r : Refusal} → Err r ≡ (Ok tt) → A
+pub refused_not_done : {A : Type 0} {r : Refusal} → ◌≡◌ {A = Result (Unit {0}) Refusal} (Err r) (Ok tt) → A
 refused_not_done e = let z : ◌≡◌ {A = ℕ} 0 1 = cc in absurd (omega arith)
 
 -- a yes has passed every test

@@ -51,7 +51,7 @@ pub fn read_checks(
     if place < POSITIONS * n {
         return Err(Refusal::Undecodable(place as u32));
     }
-    Answer::(Ok tt)
+    Ok(())
 }
 
 pub fn write_checks(s: Size, table: &[u16], settings: &[u16], bits: usize) -> Result<(), Refusal>
@@ -73,5 +73,5 @@ pub fn write_checks(s: Size, table: &[u16], settings: &[u16], bits: usize) -> Re
     if t < n {
         return Err(Refusal::NoSuchSettings(t as u32));
     }
-    Answer::(Ok tt)
+    Ok(())
 }

@@ -32,10 +32,7 @@ pub fn read(s: Size, table: &[u16], bits: &[u64], settings: &mut [u16]) -> Resul
 {
     let len = settings.len();
     let mut room = room::settings_room();
-    let can_read = checks::read_checks(s, table, bits, len, &mut room);
-    let Ok(()) = can_read else {
-        return can_read;
-    };
+    checks::read_checks(s, table, bits, len, &mut room)?;
     lists::copy(&room[..len], settings);
     Ok(())
 }
@@ -49,10 +46,7 @@ pub fn write(s: Size, table: &[u16], settings: &[u16], bits: &mut [u64]) -> Resu
     ensures says { WriteSays s table.now settings.now bits.old bits.new result }
 {
     let len = bits.len();
-    let can_write = checks::write_checks(s, table, settings, len);
-    let Ok(()) = can_write else {
-        return can_write;
-    };
+    checks::write_checks(s, table, settings, len)?;
     blocks::encode_block(table, settings, bits, (s.h * s.w) as usize);
     Ok(())
 }

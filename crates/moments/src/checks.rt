@@ -70,7 +70,7 @@ pub fn check_lent(state: &[u8], lent: &[u8]) -> Result<(), Refusal>
     if i < state.len() + lent.len() {
         return Err(Refusal::NotABit(i as u32));
     }
-    Answer::(Ok tt)
+    Ok(())
 }
 
 // Ground 10 of a state and two sets of values.
@@ -88,7 +88,7 @@ pub fn check_settled(state: &[u8], before: &[u8], after: &[u8]) -> Result<(), Re
     if j < after.len() {
         return Err(Refusal::NotABit((n + j) as u32));
     }
-    Answer::(Ok tt)
+    Ok(())
 }
 
 // Marks the ports that are their own wires.
@@ -153,5 +153,5 @@ pub fn check_settings(table: &[u16], settings: &[u16], n: usize) -> Result<(), R
     if tile < n {
         return Err(Refusal::NoSuchSettings(tile as u32));
     }
-    Answer::(Ok tt)
+    Ok(())
 }

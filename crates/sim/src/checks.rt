@@ -114,7 +114,7 @@ pub fn check_run(
     if i < state.len() + before.len() + after.len() {
         return Err(Refusal::NotABit(i as u32));
     }
-    Answer::(Ok tt)
+    Ok(())
 }
 
 // Grounds 3, 9, 12 and 10, in this order (`inputs_answer`). On a yes `wires` has the wire of each port, and `own` marks those that are

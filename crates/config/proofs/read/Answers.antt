@@ -14,36 +14,35 @@ use borrow.Author.Rules.{rules}
 use Rattle.config.proofs.read.Goals as goal
 
 -- a no
-pub returns-in_default : goal.returns-in_default
-returns-in_default c =
+pub returns-in_err-read_checks-clause-says : goal.returns-in_err-read_checks-clause-says
+returns-in_err-read_checks-clause-says c =
     let args = c.args in
-    let answer = c.read_checks-can_read.ensures.answer in
     let kept = output_not_done args.settings.now (decoded args.table.now (tiles_of args.bits.now) (tile_count args.s)) _ (search rules) in
-    record { answer = answer; settings = kept; says = read_says args.s args.table.now args.bits.now args.settings.now _ _ answer kept }
+    read_says args.s args.table.now args.bits.now args.settings.now _ _ (search rules) kept
 
 pub slice_bounds-room-end : goal.slice_bounds-room-end
 slice_bounds-room-end c =
     let args = c.args in
-    let answer = sym c.in-Ok.is ∙ c.read_checks-can_read.ensures.answer in
+    let answer = sym c.in_ok-read_checks.was ∙ c.read_checks.ensures.answer in
     let passed = read_passed args.s args.table.now args.bits.now (length args.settings.now) (sym answer) in
     let few = tile_count_le args.s passed.size in
-    omega (arith, passed.lengths.settings_long, c.read_checks-can_read.auto.room, c.settings_room-room.ensures)
+    omega (arith, passed.lengths.settings_long, c.read_checks.auto.room, c.settings_room-room.ensures)
 
 pub slice_bounds-copy-end : goal.slice_bounds-copy-end
 slice_bounds-copy-end c =
     let args = c.args in
-    let answer = sym c.in-Ok.is ∙ c.read_checks-can_read.ensures.answer in
+    let answer = sym c.in_ok-read_checks.was ∙ c.read_checks.ensures.answer in
     let passed = read_passed args.s args.table.now args.bits.now (length args.settings.now) (sym answer) in
-    let read = c.read_checks-can_read.ensures.room c.in-Ok.is in
+    let read = c.read_checks.ensures.room c.in_ok-read_checks.was in
     let long = ap length read ∙ decoded_length args.table.now args.bits.now (tile_count args.s) ∙ sym passed.lengths.settings_long in
     sym long
 
 pub copy-requires : goal.copy-requires
 copy-requires c =
     let args = c.args in
-    let answer = sym c.in-Ok.is ∙ c.read_checks-can_read.ensures.answer in
+    let answer = sym c.in_ok-read_checks.was ∙ c.read_checks.ensures.answer in
     let passed = read_passed args.s args.table.now args.bits.now (length args.settings.now) (sym answer) in
-    let read = c.read_checks-can_read.ensures.room c.in-Ok.is in
+    let read = c.read_checks.ensures.room c.in_ok-read_checks.was in
     let long = ap length read ∙ decoded_length args.table.now args.bits.now (tile_count args.s) ∙ sym passed.lengths.settings_long in
     long
 
@@ -51,7 +50,7 @@ copy-requires c =
 pub returns : goal.returns
 returns c =
     let args = c.args in
-    let answer = sym c.in-Ok.is ∙ c.read_checks-can_read.ensures.answer in
+    let answer = sym c.in_ok-read_checks.was ∙ c.read_checks.ensures.answer in
     let passed = read_passed args.s args.table.now args.bits.now (length args.settings.now) (sym answer) in
-    let written = c.copy.ensures ∙ c.read_checks-can_read.ensures.room c.in-Ok.is in
+    let written = c.copy.ensures ∙ c.read_checks.ensures.room c.in_ok-read_checks.was in
     record { answer = answer; settings = written; says = read_says args.s args.table.now args.bits.now args.settings.now _ _ answer written }

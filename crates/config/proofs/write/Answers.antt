@@ -13,17 +13,16 @@ use borrow.Author.Rules.{rules}
 use Rattle.config.proofs.write.Goals as goal
 
 -- a no
-pub returns-in_default : goal.returns-in_default
-returns-in_default c =
+pub returns-in_err-write_checks-clause-says : goal.returns-in_err-write_checks-clause-says
+returns-in_err-write_checks-clause-says c =
     let args = c.args in
-    let answer = c.write_checks-can_write.ensures in
-    let written = output_not_done args.bits.now (encoded args.table.now args.settings.now (tile_count args.s)) _ (search rules) in
-    record { answer = answer; bits = written; says = write_says args.s args.table.now args.settings.now args.bits.now _ _ answer written }
+    let kept = output_not_done args.bits.now (encoded args.table.now args.settings.now (tile_count args.s)) _ (search rules) in
+    write_says args.s args.table.now args.settings.now args.bits.now _ _ (search rules) kept
 
 pub overflow_mul-s : goal.overflow_mul-s
 overflow_mul-s c =
     let args = c.args in
-    let done = sym c.write_checks-can_write.ensures ∙ c.in-Ok.is in
+    let done = sym c.write_checks.ensures ∙ c.in_ok-write_checks.was in
     let passed = write_passed args.s args.table.now args.settings.now (length args.bits.now) done in
     let few = tile_count_le args.s passed.size in
     omega arith
@@ -31,7 +30,7 @@ overflow_mul-s c =
 pub encode_block-requires : goal.encode_block-requires
 encode_block-requires c =
     let args = c.args in
-    let done = sym c.write_checks-can_write.ensures ∙ c.in-Ok.is in
+    let done = sym c.write_checks.ensures ∙ c.in_ok-write_checks.was in
     let passed = write_passed args.s args.table.now args.settings.now (length args.bits.now) done in
     let few = tile_count_le args.s passed.size in
     (few, passed.rules, passed.lengths.settings_long, passed.lengths.bits_long, write_fit args.s args.table.now args.settings.now (length args.bits.now) done)
@@ -40,6 +39,6 @@ encode_block-requires c =
 pub returns : goal.returns
 returns c =
     let args = c.args in
-    let answer = sym c.in-Ok.is ∙ c.write_checks-can_write.ensures in
+    let answer = sym c.in_ok-write_checks.was ∙ c.write_checks.ensures in
     let written = c.encode_block.ensures in
     record { answer = answer; bits = written; says = write_says args.s args.table.now args.settings.now args.bits.now _ _ answer written }

@@ -1,5 +1,6 @@
 -- The answers of following a driver, ground by ground, each where the grounds before it have passed; and the work room after any answer.
 -- Main laws: `port_driven`, `settings_port`, `follow_settings`; `follow_room`. Assumes nothing.
+use Rattle.drivers.specs.declared.follow.Driver.{Driver}
 use Rattle.refusal.specs.Grounds.{answer_number}
 use Rattle.refusal.specs.declared.Refusal.{Refusal}
 use Rattle.std.specs.Prelude.{Result, Ok, Err}

@@ -1,4 +1,5 @@
 -- Every answer of following says what specs/DriverMeaning.antt has. Main law: `follow_says`. Assumes nothing.
+use Rattle.drivers.specs.declared.follow.Driver.{Driver}
 use Rattle.refusal.specs.declared.Refusal.{Refusal}
 use Rattle.std.specs.Prelude.{Result}
 use Prim.Native.Nat.{ℕ}

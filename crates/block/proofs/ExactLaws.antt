@@ -1,4 +1,5 @@
 -- What an answer of `build` and of `follow` says fits one answer only. Main laws: `list_exact` (grounds 5 to 8), `build_exact_lem`, `follow_exact_lem`. Assumes nothing.
+use Rattle.drivers.specs.declared.follow.Driver.{Driver}
 use Rattle.std.specs.Prelude.{Result, Ok, Err}
 use Prim.Native.Nat.{ℕ, ◌*◌, ◌<◌, ◌≤◌}
 use mathlib.Core.Path.{◌≡◌, sym, ap, ◌∙◌}

@@ -6,6 +6,7 @@ ghost use Rattle.routing.specs.LogicTile.{logic_tile};
 ghost use Rattle.equations.specs.Routed.{Routed};
 ghost use Rattle.block.specs.Drivers.{port_answer, settings_answer};
 
+use drivers::follow::Driver;
 use ports::lengths::PORTS_PER_TILE;
 use ports::size::Block;
 use refusal::Refusal;

@@ -1,4 +1,5 @@
 -- The grounds of `build` and `follow` in their orders. Main laws: `build_order`, `follow_order`; `bits_no`, `bits_yes`, grounds 3 to 8. Assumes nothing.
+use Rattle.drivers.specs.declared.follow.Driver.{Driver}
 use Rattle.std.specs.Prelude.{Result, Ok, Err}
 use Prim.Native.Nat.{ℕ}
 use mathlib.Core.Path.{refl}

@@ -5,6 +5,7 @@
 --   values_stepped, state_stepped == what a yes of `step` writes
 --   file_of == the file of settings that are written to bits, and these to it
 --   PassesFour, PassesNine == checks 1 to 4 of `build`, and 1, 2, 3 and 9 of `follow`, pass
+use Rattle.drivers.specs.declared.follow.Driver.{Driver}
 use Rattle.std.specs.Prelude.{◌≡◌, List, ℕ, ◌<◌, length, Result, Ok, Err}
 use Rattle.refusal.specs.declared.Refusal.{Refusal}
 use Rattle.refusal.specs.Grounds.{number_of}

@@ -51,7 +51,7 @@ returns-then-clocked-tiles c =
     let room = c.requires.room_long in
     let few = tiles_le B ok.size in
     let long : length marks ≡ ports B = omega (arith, room.marks_long, c.clocked_tile-clocked.auto.marks) in
-    let listed = listed_rows B table st ok rows (length marks) c.requires.wires_value.2 long c.schedule-s.result c.schedule-s.ensures.answer c.in-Ok.count c.in-Ok.is c.args.queue.now c.schedule-s.new.queue c.schedule-s.ensures.queue in
+    let listed = listed_rows B table st ok rows (length marks) c.requires.wires_value.2 long c.schedule-s.result c.schedule-s.ensures.answer c.in-Listed.count c.in-Listed.is c.args.queue.now c.schedule-s.new.queue c.schedule-s.ensures.queue in
     let found = c.clocked_tile-clocked.ensures.answer ∙ ap (clocked_tile B st) c.requires.wires_value.1 in
     record { answer = list_clocked B table st c.requires.routed.1 c.requires.routed.2 listed.straight c.clocked_tile-clocked.result found (omega arith); list = refl }
 
@@ -66,12 +66,12 @@ write_list-requires c =
     let room = c.requires.room_long in
     let few = tiles_le B ok.size in
     let long : length marks ≡ ports B = omega (arith, room.marks_long, c.clocked_tile-clocked.auto.marks) in
-    let listed = listed_rows B table st ok rows (length marks) c.requires.wires_value.2 long c.schedule-s.result c.schedule-s.ensures.answer c.in-Ok.count c.in-Ok.is c.args.queue.now c.schedule-s.new.queue c.schedule-s.ensures.queue in
-    let fits : c.in-Ok.count ≤ length c.args.wires.now = omega (arith, listed.fits, room.queue_long, room.wires_long) in
+    let listed = listed_rows B table st ok rows (length marks) c.requires.wires_value.2 long c.schedule-s.result c.schedule-s.ensures.answer c.in-Listed.count c.in-Listed.is c.args.queue.now c.schedule-s.new.queue c.schedule-s.ensures.queue in
+    let fits : c.in-Listed.count ≤ length c.args.wires.now = omega (arith, listed.fits, room.queue_long, room.wires_long) in
     record { count_in_bounds = (listed.fits, fits, omega (arith, room.list_long, room.wires_long)); by_index = listed.inside }
 
-pub overflow_cast-result-in-Ok : goal.overflow_cast-result-in-Ok
-overflow_cast-result-in-Ok c =
+pub overflow_cast-result-in-Listed : goal.overflow_cast-result-in-Listed
+overflow_cast-result-in-Listed c =
     let B = c.args.b in
     let table = c.args.table.now in
     let st = c.args.st.now in
@@ -81,7 +81,7 @@ overflow_cast-result-in-Ok c =
     let room = c.requires.room_long in
     let few = tiles_le B ok.size in
     let long : length marks ≡ ports B = omega (arith, room.marks_long, c.clocked_tile-clocked.auto.marks) in
-    let listed = listed_rows B table st ok rows (length marks) c.requires.wires_value.2 long c.schedule-s.result c.schedule-s.ensures.answer c.in-Ok.count c.in-Ok.is c.args.queue.now c.schedule-s.new.queue c.schedule-s.ensures.queue in
+    let listed = listed_rows B table st ok rows (length marks) c.requires.wires_value.2 long c.schedule-s.result c.schedule-s.ensures.answer c.in-Listed.count c.in-Listed.is c.args.queue.now c.schedule-s.new.queue c.schedule-s.ensures.queue in
     omega (arith, listed.fits, room.queue_long)
 
 -- a loop
@@ -111,6 +111,6 @@ returns-else-clocked-tiles c =
     let room = c.requires.room_long in
     let few = tiles_le B ok.size in
     let long : length marks ≡ ports B = omega (arith, room.marks_long, c.clocked_tile-clocked.auto.marks) in
-    let listed = listed_rows B table st ok rows (length marks) c.requires.wires_value.2 long c.schedule-s.result c.schedule-s.ensures.answer c.in-Ok.count c.in-Ok.is c.args.queue.now c.schedule-s.new.queue c.schedule-s.ensures.queue in
+    let listed = listed_rows B table st ok rows (length marks) c.requires.wires_value.2 long c.schedule-s.result c.schedule-s.ensures.answer c.in-Listed.count c.in-Listed.is c.args.queue.now c.schedule-s.new.queue c.schedule-s.ensures.queue in
     let found = c.clocked_tile-clocked.ensures.answer ∙ ap (clocked_tile B st) c.requires.wires_value.1 in
     record { answer = list_listed B table st c.requires.routed.1 c.requires.routed.2 listed.straight c.clocked_tile-clocked.result found c.if-clocked-tiles.false _ listed.count; list = c.write_list.ensures ∙ listed.writes (length c.args.wires.now) (omega (arith, room.wires_long)) }

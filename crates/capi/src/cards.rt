@@ -9,6 +9,7 @@ ghost use Rattle.capi.specs.Packed.{ground_in, packed_number};
 
 use crate::pack;
 use ports::size::Block;
+use refusal::Refusal;
 
 // W, H, cells in use, flip-flops, leaving wires after their count, and the open wires that these or a flip-flop depend on after theirs, from a block's
 // bits. Grounds 1 to 8, then 15; the value is how many numbers the card has. The output is card, of any length; the rest is work room.

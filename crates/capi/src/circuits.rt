@@ -17,6 +17,7 @@ ghost use Rattle.capi.specs.Packed.{ground_in, packed_answer, packed_number, dri
 use crate::pack;
 use drivers::follow::Driver;
 use ports::size::Block;
+use refusal::Refusal;
 
 // The list of a block's rows in order, from its bits. Grounds 1 to 8; the value is the row count. The output is list; the rest is work room.
 pub fn ice40_build(

@@ -12,6 +12,7 @@ ghost use Rattle.capi.specs.Packed.{ground_in, value_in, packed_number, packed_p
 use crate::pack;
 use ports::lengths::TILE_NUMBERS;
 use ports::size::Size;
+use refusal::Refusal;
 
 // Every difference between two blocks, as rows of five numbers: tile, kind, index, old and new setting. Grounds 1, 14, 2, 3, 4, 15; the value is
 // the number of rows. The output is list, of any length; before and after are work room.

@@ -9,6 +9,7 @@ ghost use Rattle.capi.specs.Packed.{ground_in, packed_number};
 
 use crate::pack;
 use ports::size::Block;
+use refusal::Refusal;
 
 // A row of wire, tile and group for each enabled switch on a wire with two or more, from a block's bits. Grounds 1 to 4, then 15; the value is the
 // number of rows. The output is list, of any length; the rest is work room.

@@ -1,6 +1,7 @@
 -- Ground 10 over joined lists: the first byte above 1, and that there is none. Main laws: `bad_byte_here`, `bad_byte_next`; `none_of_bits`;
 -- `bytes_bad`, `bytes_done`, `bytes_shows`.
-use Rattle.std.specs.Prelude.{Ok, Err}
+use Rattle.refusal.specs.declared.Refusal.{Refusal}
+use Rattle.std.specs.Prelude.{Result, Ok, Err}
 use Prim.Native.Nat.{ℕ, ◌+◌, ◌-◌, ◌<◌, ◌≤◌}
 use mathlib.Core.Path.{◌≡◌, sym, ◌∙◌, ap}
 use mathlib.Core.Bool.{false}
@@ -101,7 +102,7 @@ module _ (xs : List ℕ) where
   pub bytes_shows : bytes_answer xs ≡ (Ok tt) → length xs ≤ bad_byte xs
   unfolding bytes_answer
   bytes_shows e =
-      leb-true (length xs) (bad_byte xs) (unless_passed answer_number (leb (length xs) (bad_byte xs)) _ _ (Ok tt) (λ z. absurd (omega arith)) e).0
+      leb-true (length xs) (bad_byte xs) (unless_passed {A = Result (Unit {0}) Refusal} answer_number (leb (length xs) (bad_byte xs)) _ _ (Ok tt) (λ z. absurd (omega arith)) e).0
 
   -- the first byte above 1, in the paper's words
   pub first_above : bad_byte xs < length xs → FirstAbove xs (bad_byte xs)

@@ -36,8 +36,8 @@ module _ (t st : List ℕ) (n : ℕ) where
   pub settings_shows : (later : Result (Unit {0}) Refusal) → settings_answer t st n later ≡ (Ok tt) → (table_ok logic_tile t ≡ true) × (n ≤ bitless_tile t st n) × (later ≡ (Ok tt))
   unfolding settings_answer
   settings_shows later e =
-      let table = unless_passed answer_number (table_ok logic_tile t) _ _ (Ok tt) (λ z. absurd (omega arith)) e in
-      let settings = unless_passed answer_number (leb n (bitless_tile t st n)) _ _ (Ok tt) (λ z. absurd (omega arith)) table.1 in
+      let table = unless_passed {A = Result (Unit {0}) Refusal} answer_number (table_ok logic_tile t) _ _ (Ok tt) (λ z. absurd (omega arith)) e in
+      let settings = unless_passed {A = Result (Unit {0}) Refusal} answer_number (leb n (bitless_tile t st n)) _ _ (Ok tt) (λ z. absurd (omega arith)) table.1 in
       (table.0, leb-true _ _ settings.0, settings.1)
 
   -- these two alone decide, or leave it to what comes later
@@ -45,8 +45,8 @@ module _ (t st : List ℕ) (n : ℕ) where
   unfolding settings_answer
   settings_no later q e = go (table_ok logic_tile t) (leb n (bitless_tile t st n)) e
     where
-      go : (a b : Bool) → unless a (Err (Table (faulty_part logic_tile t))) (unless b (Err (NoSuchSettings (bitless_tile t st n))) (Ok tt)) ≡ Err q
-          → Err q ≡ unless a (Err (Table (faulty_part logic_tile t))) (unless b (Err (NoSuchSettings (bitless_tile t st n))) later)
+      go : (a b : Bool) → unless {A = Result (Unit {0}) Refusal} a (Err (Table (faulty_part logic_tile t))) (unless b (Err (NoSuchSettings (bitless_tile t st n))) (Ok tt)) ≡ Err q
+          → Err q ≡ unless {A = Result (Unit {0}) Refusal} a (Err (Table (faulty_part logic_tile t))) (unless b (Err (NoSuchSettings (bitless_tile t st n))) later)
       go false b h = sym h
       go true false h = sym h
       go true true h = absurd (never_done q (sym h))

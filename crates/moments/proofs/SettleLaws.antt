@@ -57,7 +57,7 @@ module _ (B : Block) (list state lent : List ℕ) where
     checks_passed : (ports B ≤ bad_row B list) × (bytes_answer (state ++ lent) ≡ (Ok tt))
     unfolding run_answer
     checks_passed =
-        let row = unless_passed answer_number (leb (ports B) (bad_row B list)) _ _ (Ok tt) (λ z. absurd (omega arith)) done in
+        let row = unless_passed {A = Result (Unit {0}) Refusal} answer_number (leb (ports B) (bad_row B list)) _ _ (Ok tt) (λ z. absurd (omega arith)) done in
         (leb-true _ _ row.0, row.1)
 
     run_passed : bad_row B list ≡ ports B

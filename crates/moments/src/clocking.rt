@@ -10,6 +10,7 @@ ghost use Rattle.moments.specs.Lengths.{clock_lent, ClockLong};
 use crate::cells;
 use crate::checks::{check_settings, check_settled};
 use ports::size::{Size, tile_count};
+use refusal::Refusal;
 
 // Grounds 3, 9 and 10, and on a yes what is written.
 pub fn clock_checked(
@@ -27,14 +28,8 @@ pub fn clock_checked(
     ensures next { next.new ≡ output (answer_number result) next.old
         (next_states s settings.now (handed before.now) (handed after.now) state.now) }
 {
-    let read = check_settings(table, settings, tile_count(s));
-    let Ok(()) = read else {
-        return read;
-    };
-    let bits = check_settled(state, before, after);
-    let Ok(()) = bits else {
-        return bits;
-    };
+    check_settings(table, settings, tile_count(s))?;
+    check_settled(state, before, after)?;
     cells::clock(s, settings, before, after, state, next);
     Ok(())
 }

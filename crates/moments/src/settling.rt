@@ -11,6 +11,7 @@ ghost use Rattle.moments.specs.Lengths.{settle_room_lent, settle_lent, SettleLon
 use crate::checks::{check_run, check_settings};
 use crate::spread::settle_ports;
 use ports::size::Block;
+use refusal::Refusal;
 
 // Grounds 3, 9, 12 and 10, and on a yes what is written.
 pub fn settle_checked(
@@ -32,14 +33,8 @@ pub fn settle_checked(
     ensures values { values.new ≡ output (answer_number result) values.old
         (port_values b (settled_by b list.now state.now lent.now)) }
 {
-    let read = check_settings(table, settings, (b.h * b.w) as usize);
-    let Ok(()) = read else {
-        return read;
-    };
-    let run = check_run(b, list, state, lent, wires, own, marks);
-    let Ok(()) = run else {
-        return run;
-    };
+    check_settings(table, settings, (b.h * b.w) as usize)?;
+    check_run(b, list, state, lent, wires, own, marks)?;
     settle_ports(b, list, state, lent, wires, own, values);
     Ok(())
 }

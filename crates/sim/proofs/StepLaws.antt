@@ -30,7 +30,7 @@ use Rattle.sim.specs.Stepping.{bad_byte, run_answer, inputs_answer, step_answer}
 use Rattle.stepper.proofs.SettledLaws.{marks_length}
 use Rattle.sim.proofs.ByteLaws.{bits_of_joined}
 
-pub never_done : (q : Refusal) → Err q ≡ (Ok tt) → ⊥
+pub never_done : (q : Refusal) → ◌≡◌ {A = Result (Unit {0}) Refusal} (Err q) (Ok tt) → ⊥
 never_done q e = let z : ◌≡◌ {A = ℕ} 0 1 = cc in omega arith
 
 -- ---- grounds 12 and 10
@@ -62,8 +62,8 @@ module _ (B : Block) (list state before after : List ℕ) where
     checks_passed : (ports B ≤ bad_row B list) × (length joined ≤ bad_byte joined)
     unfolding run_answer
     checks_passed =
-        let row = unless_passed answer_number (leb (ports B) (bad_row B list)) _ _ (Ok tt) (λ z. absurd (omega arith)) done in
-        let byte = unless_passed answer_number (leb (length joined) (bad_byte joined)) _ _ (Ok tt) (λ z. absurd (omega arith)) row.1 in
+        let row = unless_passed {A = Result (Unit {0}) Refusal} answer_number (leb (ports B) (bad_row B list)) _ _ (Ok tt) (λ z. absurd (omega arith)) done in
+        let byte = unless_passed {A = Result (Unit {0}) Refusal} answer_number (leb (length joined) (bad_byte joined)) _ _ (Ok tt) (λ z. absurd (omega arith)) row.1 in
         (leb-true _ _ row.0, leb-true _ _ byte.0)
 
     run_passed : bad_row B list ≡ ports B
@@ -101,8 +101,8 @@ module _ (B : Block) (t st list state before after : List ℕ) where
       → (table_ok logic_tile t ≡ true) × (tiles B ≤ bitless_tile t st (tiles B)) × (run_answer B list state before after ≡ (Ok tt))
   unfolding inputs_answer
   inputs_shows e =
-      let table = unless_passed answer_number (table_ok logic_tile t) _ _ (Ok tt) (λ z. absurd (omega arith)) e in
-      let settings = unless_passed answer_number (leb (tiles B) (bitless_tile t st (tiles B))) _ _ (Ok tt) (λ z. absurd (omega arith)) table.1 in
+      let table = unless_passed {A = Result (Unit {0}) Refusal} answer_number (table_ok logic_tile t) _ _ (Ok tt) (λ z. absurd (omega arith)) e in
+      let settings = unless_passed {A = Result (Unit {0}) Refusal} answer_number (leb (tiles B) (bitless_tile t st (tiles B))) _ _ (Ok tt) (λ z. absurd (omega arith)) table.1 in
       (table.0, leb-true _ _ settings.0, settings.1)
 
 -- ---- grounds 1 and 2

@@ -10,6 +10,7 @@ ghost use Rattle.sim.specs.Lengths.{inputs_lent, InputsLong, step_room_lent, Ste
 
 use crate::checks::check_inputs;
 use ports::size::Block;
+use refusal::Refusal;
 use stepper::write_step;
 
 // Grounds 3, 9, 12 and 10, and on a yes what is written.
@@ -40,12 +41,9 @@ pub fn step_checked(
         (next_states b settings.now (settled_by b list.now state.now before.now)
         (settled_by b list.now state.now after.now) state.now) }
 {
-    let r = check_inputs(
+    check_inputs(
         b, table, settings, list, state, before, after, wires, own, marks,
-    );
-    let Ok(()) = r else {
-        return r;
-    };
+    )?;
     write_step(
         b, settings, list, state, before, after, wires, own, values, next, first, second,
     );

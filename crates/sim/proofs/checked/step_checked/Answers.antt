@@ -7,13 +7,13 @@ use Rattle.sim.proofs.checked.step_checked.Goals as goal
 pub write_step-requires : goal.write_step-requires
 write_step-requires c =
     let a = c.args in
-    let done : c.check_inputs-r.result ≡ (Ok tt) = c.in-Ok.is in
+    let done : c.check_inputs.result ≡ Ok tt = c.in_ok-check_inputs.was in
     let long = c.requires.inputs_long in
     let room = c.requires.step_room_long in
-    let passed = inputs_shows a.b a.table.now a.settings.now a.list.now a.state.now a.before.now a.after.now (sym c.check_inputs-r.ensures.answer ∙ done) in
+    let passed = inputs_shows a.b a.table.now a.settings.now a.list.now a.state.now a.before.now a.after.now (sym c.check_inputs.ensures.answer ∙ done) in
     let runs = run_shows a.b a.list.now a.state.now a.before.now a.after.now passed.2 long.list_long long.state_long long.before_long long.after_long in (
-      record { size = c.requires.sized; settings_long = long.settings_long; wired = c.check_inputs-r.ensures.wires done },
-      c.check_inputs-r.ensures.own done,
+      record { size = c.requires.sized; settings_long = long.settings_long; wired = c.check_inputs.ensures.wires done },
+      c.check_inputs.ensures.own done,
       runs.0,
       runs.1,
       room.values_long,

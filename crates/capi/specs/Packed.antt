@@ -24,15 +24,8 @@ value_in answer = answer % 2 ^ 32
 abbrev pub packed_answer : Result (Unit {0}) Refusal → ℕ
 packed_answer answer = packed (answer_number answer) (answer_value answer)
 
--- the value of building is the row count
-abbrev pub packed_number : Result ℕ Refusal → ℕ
-packed_number answer = packed (answer_number answer) (number_value answer)
-
--- the value of the listing of contentions is the number of rows
-abbrev pub packed_number : Result ℕ Refusal → ℕ
-packed_number answer = packed (answer_number answer) (number_value answer)
-
--- the value of a shelf card is how many numbers it has
+-- an answer with a number: the row count of building, comparing and the listing of contentions, how many numbers a shelf card has, a wire's number, a
+-- lookup's bit, how many bits are set, how long a file is
 abbrev pub packed_number : Result ℕ Refusal → ℕ
 packed_number answer = packed (answer_number answer) (number_value answer)
 
@@ -46,10 +39,6 @@ followed_code (Err refusal) = followed_value (Err refusal)
 
 abbrev pub packed_followed : Result Driver Refusal → ℕ
 packed_followed answer = packed (answer_number answer) (followed_code answer)
-
--- the value of comparing is the number of rows
-abbrev pub packed_number : Result ℕ Refusal → ℕ
-packed_number answer = packed (answer_number answer) (number_value answer)
 
 -- the value of asking for a tile is the index of the tile's first number in its block
 abbrev pub packed_part : Result (Unit {0}) Refusal → ℕ → ℕ

@@ -55,14 +55,5 @@ pub fn ice40_card(
         marks,
         queue,
     );
-    pack_carded(a)
-}
-
-fn pack_carded(answer: Result<u32, Refusal>) -> u64
-    ensures { (result ≡ packed_number answer) × (ground_in result ≡ answer_number answer) }
-{
-    match answer {
-        Ok(n) => pack::pack(0, n),
-        Err(refusal) => pack::pack_no(refusal),
-    }
+    pack::pack_number(a)
 }

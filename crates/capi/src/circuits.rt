@@ -60,7 +60,7 @@ pub fn ice40_build(
         marks,
         queue,
     );
-    pack_built(a)
+    pack::pack_number(a)
 }
 
 // What drives a port, followed from switch to switch. Grounds 1, 2, 3, 9, 5, 20; the value is 65,536 times 1 for an open wire, 2 and 3
@@ -151,15 +151,6 @@ pub fn ice40_step(
         second,
     );
     pack::pack_answer(a)
-}
-
-fn pack_built(answer: Result<u32, Refusal>) -> u64
-    ensures { (result ≡ packed_number answer) × (ground_in result ≡ answer_number answer) }
-{
-    match answer {
-        Ok(rows) => pack::pack(0, rows),
-        Err(refusal) => pack::pack_no(refusal),
-    }
 }
 
 fn pack_followed(answer: Result<Driver, Refusal>) -> u64

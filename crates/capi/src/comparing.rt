@@ -47,16 +47,7 @@ pub fn ice40_compare(
         before,
         after,
     );
-    pack_compared(a)
-}
-
-fn pack_compared(answer: Result<u32, Refusal>) -> u64
-    ensures { (result ≡ packed_number answer) × (ground_in result ≡ answer_number answer) }
-{
-    match answer {
-        Ok(rows) => pack::pack(0, rows),
-        Err(refusal) => pack::pack_no(refusal),
-    }
+    pack::pack_number(a)
 }
 
 // Where a tile's numbers begin in the block asked for: which is 0 for the first, any other number for the second. Grounds 1, 14, 2, 20. C cannot be

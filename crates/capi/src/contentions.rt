@@ -45,14 +45,5 @@ pub fn ice40_contentions(
         heads,
         nexts,
     );
-    pack_contentions(a)
-}
-
-fn pack_contentions(answer: Result<u32, Refusal>) -> u64
-    ensures { (result ≡ packed_number answer) × (ground_in result ≡ answer_number answer) }
-{
-    match answer {
-        Ok(rows) => pack::pack(0, rows),
-        Err(refusal) => pack::pack_no(refusal),
-    }
+    pack::pack_number(a)
 }

@@ -14,8 +14,7 @@ pub fn ice40_words_of_bytes(w: u32, h: u32, bytes: &[u8], words: &mut [u64]) -> 
     ensures answer { result ≡ packed_answer (words_answer (size w h) (length bytes.now) (length words.old)) }
     ensures words { words.new ≡ output (ground_in result) words.old (words_of (tile_count (size w h)) bytes.now) }
 {
-    let a = words::words_of_bytes(Size { w, h }, bytes, words);
-    pack::pack_answer(a)
+    pack::pack_answer(words::words_of_bytes(Size { w, h }, bytes, words))
 }
 
 // The words of a block as bytes. Grounds 1, 2, 4.
@@ -23,6 +22,5 @@ pub fn ice40_bytes_of_words(w: u32, h: u32, words: &[u64], bytes: &mut [u8]) -> 
     ensures answer { result ≡ packed_answer (bytes_answer (size w h) words.now (length bytes.old)) }
     ensures bytes { bytes.new ≡ output (ground_in result) bytes.old (bytes_of (tile_count (size w h)) words.now) }
 {
-    let a = words::bytes_of_words(Size { w, h }, words, bytes);
-    pack::pack_answer(a)
+    pack::pack_answer(words::bytes_of_words(Size { w, h }, words, bytes))
 }

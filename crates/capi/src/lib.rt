@@ -5,12 +5,11 @@
 // What a call does is the contract of the function that it wraps. The answer's ground, `ground_in`, says what lent memory holds afterwards.
 #![tactic(auto)]
 
-ghost use Rattle.refusal.specs.Grounds.{answer_number, number_value};
 ghost use Rattle.std.specs.Prelude.{◌≡◌};
 ghost use Rattle.ports.specs.Block.{block};
 ghost use Rattle.fabric.specs.WireNumber.{wire_number};
 ghost use Rattle.cell.specs.Lookup.{looked_up};
-ghost use Rattle.capi.specs.Packed.{packed};
+ghost use Rattle.capi.specs.Packed.{packed_number, ground_in};
 
 use ports::size::Block;
 
@@ -27,21 +26,14 @@ pub mod settling;
 // The number of the wire that a port of a tile is on, in a block of w by h tiles; east is 1 where the column to the east of it is logic or
 // RAM, else 0. Grounds 1 and 20.
 pub fn ice40_wire_number(w: u32, h: u32, east: u32, tile: u32, port: u32) -> u64
-    ensures { result ≡ packed (answer_number (wire_number (block w h east) tile port))
-        (number_value (wire_number (block w h east) tile port)) }
+    ensures { result ≡ packed_number (wire_number (block w h east) tile port) }
 {
-    match fabric::wire_number(Block { w, h, east }, tile, port) {
-        Ok(n) => pack::pack(0, n as u32),
-        Err(r) => pack::pack_no(r),
-    }
+    pack::pack_number(fabric::wire_number(Block { w, h, east }, tile, port).map(u32::from))
 }
 
 // The bit of a lookup table at inputs given as one number, in_0 with weight 1. Ground 20.
 pub fn ice40_lookup(table: u16, inputs: u32) -> u64
-    ensures { result ≡ packed (answer_number (looked_up table inputs)) (number_value (looked_up table inputs)) }
+    ensures { result ≡ packed_number (looked_up table inputs) }
 {
-    match cell::logic::lookup(table, inputs) {
-        Ok(b) => pack::pack(0, b as u32),
-        Err(r) => pack::pack_no(r),
-    }
+    pack::pack_number(cell::logic::lookup(table, inputs).map(u32::from))
 }

@@ -1,7 +1,7 @@
 // An answer's number and value, in one number.
 ghost use Rattle.std.specs.Prelude.{◌≡◌, ◌<◌};
-ghost use Rattle.refusal.specs.Grounds.{number_of, place_of, answer_number, answer_value};
-ghost use Rattle.capi.specs.Packed.{packed, ground_in};
+ghost use Rattle.refusal.specs.Grounds.{number_of, place_of, answer_number};
+ghost use Rattle.capi.specs.Packed.{packed, packed_answer, packed_number, ground_in};
 
 use refusal::Refusal;
 
@@ -18,10 +18,19 @@ pub fn pack_no(refusal: Refusal) -> u64
 }
 
 pub fn pack_answer(answer: Result<(), Refusal>) -> u64
-    ensures { (result ≡ packed (answer_number answer) (answer_value answer)) × (ground_in result ≡ answer_number answer) }
+    ensures { (result ≡ packed_answer answer) × (ground_in result ≡ answer_number answer) }
 {
     match answer {
         Ok(()) => pack(0, 0),
+        Err(refusal) => pack_no(refusal),
+    }
+}
+
+pub fn pack_number(answer: Result<u32, Refusal>) -> u64
+    ensures { (result ≡ packed_number answer) × (ground_in result ≡ answer_number answer) }
+{
+    match answer {
+        Ok(n) => pack(0, n),
         Err(refusal) => pack_no(refusal),
     }
 }

@@ -1,12 +1,11 @@
 // Reading and writing a block as an IceStorm ASCII file (document 02, W1).
-ghost use Rattle.refusal.specs.Grounds.{answer_number, number_value};
 ghost use Rattle.std.specs.Prelude.{◌≡◌, length};
 ghost use Rattle.refusal.specs.Memory.{output};
 ghost use Rattle.ports.specs.Block.{size};
 ghost use Rattle.asc.specs.Area.{area_at};
 ghost use Rattle.asc.specs.Content.{written};
 ghost use Rattle.asc.specs.Answers.{read_answer, bits_read, write_answer, length_answer};
-ghost use Rattle.capi.specs.Packed.{packed, packed_answer, ground_in};
+ghost use Rattle.capi.specs.Packed.{packed_answer, packed_number, ground_in};
 
 // Reads the bits of the block whose south-west tile stands at x, y of the chip from a file. Grounds 1, 2, 13.
 #[unsafe(no_mangle)]
@@ -27,7 +26,7 @@ pub extern "C" fn ice40_asc_read(
 // How many bytes the file of such a block has. Ground 1.
 #[unsafe(no_mangle)]
 pub extern "C" fn ice40_asc_length(w: u32, h: u32, x: u32, y: u32) -> u64
-    ensures { result ≡ packed (answer_number (length_answer (area_at (size w h) x y))) (number_value (length_answer (area_at (size w h) x y))) }
+    ensures { result ≡ packed_number (length_answer (area_at (size w h) x y)) }
 {
     capi::files::ice40_asc_length(w, h, x, y)
 }

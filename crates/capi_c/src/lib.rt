@@ -2,12 +2,11 @@
 // stays a library. The archive of this crate is what `make` gives out as libcapi.a and libice40.a.
 #![tactic(auto)]
 
-ghost use Rattle.refusal.specs.Grounds.{answer_number, number_value};
 ghost use Rattle.std.specs.Prelude.{◌≡◌};
 ghost use Rattle.ports.specs.Block.{block};
 ghost use Rattle.fabric.specs.WireNumber.{wire_number};
 ghost use Rattle.cell.specs.Lookup.{looked_up};
-ghost use Rattle.capi.specs.Packed.{packed};
+ghost use Rattle.capi.specs.Packed.{packed_number};
 
 pub mod blocks;
 pub mod cards;
@@ -22,8 +21,7 @@ pub mod settling;
 // RAM, else 0. Grounds 1 and 20.
 #[unsafe(no_mangle)]
 pub extern "C" fn ice40_wire_number(w: u32, h: u32, east: u32, tile: u32, port: u32) -> u64
-    ensures { result ≡ packed (answer_number (wire_number (block w h east) tile port))
-        (number_value (wire_number (block w h east) tile port)) }
+    ensures { result ≡ packed_number (wire_number (block w h east) tile port) }
 {
     capi::ice40_wire_number(w, h, east, tile, port)
 }
@@ -31,7 +29,7 @@ pub extern "C" fn ice40_wire_number(w: u32, h: u32, east: u32, tile: u32, port: 
 // The bit of a lookup table at inputs given as one number, in_0 with weight 1. Ground 20.
 #[unsafe(no_mangle)]
 pub extern "C" fn ice40_lookup(table: u16, inputs: u32) -> u64
-    ensures { result ≡ packed (answer_number (looked_up table inputs)) (number_value (looked_up table inputs)) }
+    ensures { result ≡ packed_number (looked_up table inputs) }
 {
     capi::ice40_lookup(table, inputs)
 }

@@ -94,7 +94,7 @@ pub fn ice40_follow(
         sources,
         marks,
     );
-    pack_followed(a)
+    pack::pack_number(a.map(driver_code))
 }
 
 // One step. Grounds 1, 2, 3, 9, 12, 10. The outputs are values and next; the rest is work room.
@@ -151,15 +151,6 @@ pub fn ice40_step(
         second,
     );
     pack::pack_answer(a)
-}
-
-fn pack_followed(answer: Result<Driver, Refusal>) -> u64
-    ensures { (result ≡ packed_followed answer) × (ground_in result ≡ answer_number answer) }
-{
-    match answer {
-        Ok(driver) => pack::pack(0, driver_code(driver)),
-        Err(refusal) => pack::pack_no(refusal),
-    }
 }
 
 // 65,536 times which end it is, plus the wire.

@@ -32,7 +32,7 @@ accepted_lines B t st = lines_of (sources_of B t st) st (tiles B)
 -- "After a no only the 08 line is printed."
 abbrev pub built_lines : Block → List ℕ → List ℕ → Result ℕ Refusal → List ℕ
 built_lines B t st (Ok rows) = accepted_lines B t st
-built_lines B t st (Err refusal) = answer_line (answer_number (Err refusal)) (number_value (Err refusal))
+built_lines B t st (Err refusal) = answer_line (answer_number {A = ℕ} (Err refusal)) (number_value (Err refusal))
 
 -- the report of a block's tiles; every lent length is exact
 unfoldable pub block_lines : Block → List ℕ → (ℕ → TileBits) → List ℕ

@@ -60,7 +60,7 @@ module _ (B : Block) (t bits settings : List ℕ) (room : RoomLent) where
             (r.0, readable_built B t bits settings room R ∙ r.1),
       )
     where
-      refused : (w : ℕ) → Contention B t st w → (refusal : Refusal) → ListNo B t st refusal → (v : ℕ) × (Err refusal ≡ Err (refusals.Contention v))
+      refused : (w : ℕ) → Contention B t st w → (refusal : Refusal) → ListNo B t st refusal → (v : ℕ) × (◌≡◌ {A = Result ℕ Refusal} (Err refusal) (Err (refusals.Contention v)))
       refused w c refusal (contention v s) = (v, refl)
       refused w c refusal (disabled_carry v f s) = absurd (f w c)
       refused w c refusal (loop v f u s) = absurd (f w c)

@@ -1,4 +1,5 @@
 -- Demand 2 by way of an ASCII file (document 02, W1). Main laws: `file_back`, `filed_reads`, `read_files`. Assumes nothing.
+use Rattle.refusal.specs.Grounds.{answer_number, number_value}
 use Rattle.std.specs.Prelude.{Ok}
 use Prim.Native.Nat.{ℕ}
 use mathlib.Core.Path.{◌≡◌, sym, ap, subst}
@@ -26,7 +27,7 @@ use Rattle.theorem.specs.Calls.{file_of}
 length_passed : (a : Area) (n : ℕ) → files.length_answer a ≡ Ok n → (sized a ≡ true) × (n ≡ text_length a)
 unfolding files.length_answer
 length_passed a n e =
-    let s = unless_passed files.length_number (sized a) _ (Ok (text_length a)) (Ok n) (λ z. absurd (omega arith)) e in (s.0, sym (ap files.length_value s.1))
+    let s = unless_passed answer_number (sized a) _ (Ok (text_length a)) (Ok n) (λ z. absurd (omega arith)) e in (s.0, sym (ap number_value s.1))
 
 module _ (S : Size) (x y : ℕ) where
   abbrev here : Area

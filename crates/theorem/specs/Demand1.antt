@@ -59,7 +59,7 @@ pub record Demand1 : Type 0 where
       → FileReadGrounds (area_at S x y) text bits (answer_number (files.read_answer (area_at S x y) text (length bits)))
       (answer_value (files.read_answer (area_at S x y) text (length bits)))
   pub file_length : (S : Size) (x y : ℕ)
-      → FileLengthGrounds (area_at S x y) (files.length_number (files.length_answer (area_at S x y))) (files.length_value (files.length_answer (area_at S x y)))
+      → FileLengthGrounds (area_at S x y) (answer_number (files.length_answer (area_at S x y))) (number_value (files.length_answer (area_at S x y)))
   pub file_write : (S : Size) (x y : ℕ) (bits text : List ℕ)
       → FileWriteGrounds (area_at S x y) bits text (answer_number (files.write_answer (area_at S x y) bits (length text)))
       (answer_value (files.write_answer (area_at S x y) bits (length text)))

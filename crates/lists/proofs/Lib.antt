@@ -1,6 +1,8 @@
 -- The laws that every loop cites. A search, a count or a fill of another crate is an instance of one of these.
 pub mod CaseLaws  -- cases, lt_or_le, eq_or_ne: a choice with its fact; test_false: a test whose fact does not hold; and_true, and_left, and_right, or_is, or_false_left
 pub mod SearchLaws  -- first_at, first_none, first_true, first_before: what the first is; first_turn_hit, -skip, -end: a turn of a loop that searches; the same for all
+pub mod StdLaws  -- list_all-is, list_any-is, position-is, find_range-is, count_by-is, ..: std's words for a search, a test or a count, as ours
+pub mod BelowLaws  -- below_some, below_none, below_is, below_past: what a search that answers its bound where there is none says as an Option
 pub mod SomeLaws  -- some_is, some_true, some_last: one number passes
 pub mod LowestLaws  -- lowest_exact, lowest_none_exact: the first is the lowest number with a property that a test decides
 pub mod GrowingSearch  -- grow-..: one number more to look at; more-..: a test that passes one number more

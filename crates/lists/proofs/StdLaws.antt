@@ -1,8 +1,8 @@
 -- std's words for what an iterator answers (`position`, `find`, `list_all`, `list_any`, `count_by`, `fold`), as the words of
 -- specs/Search.antt. A test p of the elements is the test `λ k. p (get_or xs k d)` of the places. Main laws: `position-is`, `list_all-is`,
--- `list_any-is`, `count_by-is`; of numbers a .. a + n `find_range-is`, `all_range-is`, `any_range-is`, `count_range-is`; of a list from a
+-- `list_any-is`, `count_by-is`; of numbers a .. a + n `find_range-is`, `found_or`, `all_range-is`, `any_range-is`, `count_range-is`; of a list from a
 -- place on `position_from-is`, `all_from-is`, `any_from-is`, `count_from-is`; `fold_and-is`, `fold_or-is`, `fold_bits-zero`.
-use Prim.Native.Nat.{ℕ, zero, suc, ◌+◌, ◌-◌, ◌≤◌}
+use Prim.Native.Nat.{ℕ, zero, suc, ◌+◌, ◌-◌, ◌<◌, ◌≤◌}
 use mathlib.Core.Path.{◌≡◌, refl, sym, ap, ◌∙◌}
 use mathlib.Core.Bool.{Bool, true, false, cond, not, ◌&&◌, ◌||◌}
 use mathlib.Core.List.{List, [], ◌∷◌}
@@ -11,7 +11,7 @@ use native.Mathlib.Omega.{arith}
 use native.Mathlib.Numerals.{add-one}
 use lib.ListN.{length, get_or, take, drop, length-drop}
 use lib.Seq.{get_or-drop, take_all}
-use Rattle.std.specs.Prelude.{Option, Some, unwrap_or, option_map, position, find, count_by, fold}
+use Rattle.std.specs.Prelude.{Option, Some, None, MatchOption, unwrap_or, option_map, position, find, count_by, fold}
 use Rattle.std.specs.List.{list_all, list_any, range_with_len, position_or_len}
 use Rattle.std.proofs.lemmas.List.Sums.{position_or_len_is, sum_by_more}
 use Rattle.std.proofs.lemmas.List.FromFn.{length-range_with_len, get_or-range_with_len}
@@ -19,7 +19,7 @@ use lib.Bits.{bit_or, or_add_and, and_le_r, or_comm}
 use Rattle.lists.proofs.GrowingSearch.{or_false}
 use Rattle.lists.specs.Search.{first, all_from, some_below, count_below, below}
 use Rattle.lists.proofs.CaseLaws.{lt_or_le}
-use Rattle.lists.proofs.SearchLaws.{first_le, first_true, first_before, first_ext, all_ext}
+use Rattle.lists.proofs.SearchLaws.{first_at, first_none, first_le, first_true, first_before, first_ext, all_ext}
 use Rattle.lists.proofs.CountLaws.{count_ext}
 use Rattle.lists.proofs.BelowLaws.{below_is, below_past, below_or}
 
@@ -158,6 +158,13 @@ module _ (p : ℕ → Bool) where
   find_range-is a (suc n) =
       find_step (p a) a n (first p (suc a) n) (find p (range_with_len (a + 1) n))
       (find_range-is (a + 1) n ∙ ap (λ m. below (a + 1 + n) (first p m n)) (add-one a))
+
+  -- what std's `first_from_Range` says of a `find` over the numbers below n, with n in place of None
+  pub found_or : (n : ℕ) (r : Option ℕ)
+      → MatchOption r ((k : ℕ) → 0 ≤ k → k < n → p k ≡ false) (λ i. (0 ≤ i) × (i < n) × (p i ≡ true) × ((k : ℕ) → 0 ≤ k → k < i → p k ≡ false))
+      → unwrap_or r n ≡ first p 0 n
+  found_or n None h = sym (first_none p n (λ k l. h k (omega arith) l))
+  found_or n (Some i) h = sym (first_at p i n h.1 h.2 (λ k l. h.3 k (omega arith) l))
 
   pub all_range-is : (a n : ℕ) → list_all p (range_with_len a n) ≡ all_from p a n
   unfolding all_from

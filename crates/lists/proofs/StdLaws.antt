@@ -1,19 +1,21 @@
 -- std's words for what an iterator answers (`position`, `find`, `list_all`, `list_any`, `count_by`, `fold`), as the words of
 -- specs/Search.antt. A test p of the elements is the test `λ k. p (get_or xs k d)` of the places. Main laws: `position-is`, `list_all-is`,
 -- `list_any-is`, `count_by-is`; of numbers a .. a + n `find_range-is`, `found_or`, `all_range-is`, `any_range-is`, `count_range-is`; of a list from a
--- place on `position_from-is`, `all_from-is`, `any_from-is`, `count_from-is`; `fold_and-is`, `fold_or-is`, `fold_bits-zero`.
+-- place on `position_from-is`, `all_from-is`, `any_from-is`, `count_from-is`; `fold_and-is`, `fold_or-is`, `fold_bits-zero`; `sum_tests-is`; `copied_at-is`.
 use Prim.Native.Nat.{ℕ, zero, suc, ◌+◌, ◌-◌, ◌<◌, ◌≤◌}
-use mathlib.Core.Path.{◌≡◌, refl, sym, ap, ◌∙◌}
+use mathlib.Core.Path.{◌≡◌, refl, sym, ap, ap₂, ◌∙◌}
 use mathlib.Core.Bool.{Bool, true, false, cond, not, ◌&&◌, ◌||◌}
-use mathlib.Core.List.{List, [], ◌∷◌}
+use mathlib.Core.List.{List, [], ◌∷◌, ◌++◌, append_assoc}
 use mathlib.Core.Logic.{⊎_elim}
 use native.Mathlib.Omega.{arith}
 use native.Mathlib.Numerals.{add-one}
 use lib.ListN.{length, get_or, take, drop, length-drop}
-use lib.Seq.{get_or-drop, take_all}
-use Rattle.std.specs.Prelude.{Option, Some, None, MatchOption, unwrap_or, option_map, position, find, count_by, fold}
+use borrow.Rule.Slice.PartMut.{put_mid}
+use lib.Seq.{sets, sets-eq, get_or-drop, drop-drop, take_all}
+use Rattle.std.specs.Prelude.{Option, Some, None, MatchOption, unwrap_or, option_map, position, find, count_by, sum_by, fold}
+use Rattle.std.specs.Int.{from_bool}
 use Rattle.std.specs.List.{list_all, list_any, range_with_len, position_or_len}
-use Rattle.std.proofs.lemmas.List.Sums.{position_or_len_is, sum_by_more}
+use Rattle.std.proofs.lemmas.List.Sums.{position_or_len_is, sum_by_more, sum_by-cons}
 use Rattle.std.proofs.lemmas.List.FromFn.{length-range_with_len, get_or-range_with_len}
 use lib.Bits.{bit_or, or_add_and, and_le_r, or_comm}
 use Rattle.lists.proofs.GrowingSearch.{or_false}
@@ -218,3 +220,21 @@ fold_bits-at a (x ∷ xs) (suc k) = fold_bits-at (bit_or a x) xs k
 -- an or of 0 is of zeros
 pub fold_bits-zero : (xs : List ℕ) → fold (λ b x. bit_or b x) 0 xs ≡ 0 → (k : ℕ) → get_or xs k 0 ≡ 0
 fold_bits-zero xs e k = omega (arith, fold_bits-at 0 xs k)
+
+-- ---- tests summed as numbers, which vectorises where a filter that is counted does not
+
+pub sum_tests-is : {X : Type 0} (p : X → Bool) (xs : List X) → sum_by (λ x. from_bool (p x)) xs ≡ count_by p xs
+sum_tests-is p [] = refl
+sum_tests-is p (x ∷ xs) =
+    sum_by-cons (λ x. from_bool (p x)) x xs ∙ ap₂ ◌+◌ (go (p x)) (sum_tests-is p xs) ∙ sym (sum_by-cons (λ x. cond (p x) 1 0) x xs)
+  where
+    go : (b : Bool) → from_bool b ≡ cond {A = ℕ} b 1 0
+    go true = refl
+    go false = refl
+
+-- ---- numbers that are copied to a place, as the code lends it, stand there one after another
+
+pub copied_at-is : (xs vs new : List ℕ) (at k : ℕ) → new ≡ vs → k ≡ length vs → at + length vs ≤ length xs → put_mid at k xs new ≡ sets xs at vs
+copied_at-is xs vs new at k q e l =
+    let d : drop k (drop at xs) ≡ drop (at + length vs) xs = drop-drop k at xs ∙ ap (λ n. drop (at + n) xs) e in
+    ap₂ (λ s t. take at xs ++ (s ++ t)) q d ∙ sym (append_assoc (take at xs) vs (drop (at + length vs) xs)) ∙ sym (sets-eq vs xs at l)

@@ -1,9 +1,10 @@
 -- std's words for what an iterator answers (`position`, `find`, `list_all`, `list_any`, `count_by`, `fold`), as the words of
 -- specs/Search.antt. A test p of the elements is the test `λ k. p (get_or xs k d)` of the places. Main laws: `position-is`, `list_all-is`,
 -- `list_any-is`, `count_by-is`; of numbers a .. a + n `find_range-is`, `found_or`, `all_range-is`, `any_range-is`, `count_range-is`; of a list from a
--- place on `position_from-is`, `all_from-is`, `any_from-is`, `count_from-is`; `fold_and-is`, `fold_or-is`, `fold_bits-zero`; `sum_tests-is`; `copied_at-is`.
+-- place on `position_from-is`, `all_from-is`, `any_from-is`, `count_from-is`; `fold_and-is`, `fold_or-is`, `fold_bits-zero`; `sum_tests-is`; `copied_at-is`;
+-- `from_fn-is` of an array.
 use Prim.Native.Nat.{ℕ, zero, suc, ◌+◌, ◌-◌, ◌<◌, ◌≤◌}
-use mathlib.Core.Path.{◌≡◌, refl, sym, ap, ap₂, ◌∙◌}
+use mathlib.Core.Path.{◌≡◌, refl, sym, ap, ap₂, subst, ◌∙◌}
 use mathlib.Core.Bool.{Bool, true, false, cond, not, ◌&&◌, ◌||◌}
 use mathlib.Core.List.{List, [], ◌∷◌, ◌++◌, append_assoc}
 use mathlib.Core.Logic.{⊎_elim}
@@ -14,11 +15,15 @@ use borrow.Rule.Slice.PartMut.{put_mid}
 use lib.Seq.{sets, sets-eq, get_or-drop, drop-drop, take_all}
 use Rattle.std.specs.Prelude.{Option, Some, None, MatchOption, unwrap_or, option_map, position, find, count_by, sum_by, fold}
 use Rattle.std.specs.Int.{from_bool}
+use denote.Param.Members.{Mut, Called}
+use Rattle.std.specs.Array.{IsFromFnResult, IsFromFnResultFrom}
 use Rattle.std.specs.List.{list_all, list_any, range_with_len, position_or_len}
 use Rattle.std.proofs.lemmas.List.Sums.{position_or_len_is, sum_by_more, sum_by-cons}
 use Rattle.std.proofs.lemmas.List.FromFn.{length-range_with_len, get_or-range_with_len}
 use lib.Bits.{bit_or, or_add_and, and_le_r, or_comm}
 use Rattle.lists.proofs.GrowingSearch.{or_false}
+use Rattle.lists.specs.Tables.{tabulate}
+use Rattle.lists.proofs.TableLaws.{tabulate_is}
 use Rattle.lists.specs.Search.{first, all_from, some_below, count_below, below}
 use Rattle.lists.proofs.CaseLaws.{lt_or_le}
 use Rattle.lists.proofs.SearchLaws.{first_at, first_none, first_le, first_true, first_before, first_ext, all_ext}
@@ -238,3 +243,23 @@ pub copied_at-is : (xs vs new : List ℕ) (at k : ℕ) → new ≡ vs → k ≡ 
 copied_at-is xs vs new at k q e l =
     let d : drop k (drop at xs) ≡ drop (at + length vs) xs = drop-drop k at xs ∙ ap (λ n. drop (at + n) xs) e in
     ap₂ (λ s t. take at xs ++ (s ++ t)) q d ∙ sym (append_assoc (take at xs) vs (drop (at + length vs) xs)) ∙ sym (sets-eq vs xs at l)
+
+-- ---- an array of what a closure gives at each place
+
+-- where each call leaves the closure as it was, and computes f
+module _ {A F : Type 0} {g : Mut F (ℕ × Unit {0}) A} (f : ℕ → A) (d : A) (m : ℕ) (closure : F)
+    (gives : (i : ℕ) (y : A) (q : F) → i < m → Called g closure (i, tt) y q → (q ≡ closure) × (y ≡ f i)) where
+  from_fn_at : (xs : List A) (n i : ℕ) → i + n ≤ m → IsFromFnResultFrom g closure xs i n → (k : ℕ) → i ≤ k → k < i + n → get_or xs k d ≡ f k
+  from_fn_at xs zero i e made k h l = absurd (omega arith)
+  from_fn_at xs (suc n) i e made k h l =
+      let called = gives i made.1 made.0 (omega arith) made.3 in
+      ⊎_elim
+      (λ (below : i < k).
+      from_fn_at xs n (i + 1) (omega arith) (subst (λ (s : F). IsFromFnResultFrom g s xs (i + 1) n) called.0 made.4) k (omega arith) (omega arith))
+      (λ (here : k ≤ i).
+      let same : i ≡ k = omega arith in
+      ap (λ (j : ℕ). get_or xs j d) (sym same) ∙ made.2.1 d ∙ called.1 ∙ ap f same)
+      (lt_or_le i k)
+
+  pub from_fn-is : (xs : List A) → IsFromFnResult g closure xs m → xs ≡ tabulate f 0 m
+  from_fn-is xs made = tabulate_is f d m xs made.long (λ k l. from_fn_at xs m 0 (omega arith) made.each k (omega arith) (omega arith))

@@ -1,5 +1,5 @@
 // A cell's settings as a record by value, its lookup table and its carry.
-ghost use Rattle.std.specs.Prelude.{◌≡◌, ℕ, ◌+◌, ◌*◌, ◌<◌, ◌≤◌, cond};
+ghost use Rattle.std.specs.Prelude.{◌≡◌, ℕ, ◌+◌, ◌*◌, ◌<◌, ◌≤◌};
 ghost use Rattle.cell.specs.Settings.{cell_of, flags_of};
 ghost use Rattle.cell.specs.Lookup.{lookup_bit, looked_up, majority};
 ghost use Rattle.cell.specs.Halves.{halved};
@@ -8,7 +8,7 @@ ghost use Rattle.digits.specs.Digits.{digit, is_set};
 use refusal::Refusal;
 
 // The settings of one logic cell.
-#[derive(Clone, Copy)]
+#[derive(Clone, Copy, Default, PartialEq, Eq)]
 pub struct Cell {
     // LUT_INIT, bit 0 with weight 1.
     pub table: u16,
@@ -25,7 +25,7 @@ impl Cell {
         ensures { result ≡ cell_of table flags }
     {
         Cell {
-            table: table,
+            table,
             carry: has(flags, 0),
             flipflop: has(flags, 1),
             set: has(flags, 2),
@@ -37,10 +37,10 @@ impl Cell {
     pub fn flags(self) -> u16
         ensures { result ≡ flags_of self }
     {
-        weight(self.carry, 1)
-            + weight(self.flipflop, 2)
-            + weight(self.set, 4)
-            + weight(self.asynchronous, 8)
+        u16::from(self.carry)
+            + 2 * u16::from(self.flipflop)
+            + 4 * u16::from(self.set)
+            + 8 * u16::from(self.asynchronous)
     }
 }
 
@@ -97,11 +97,12 @@ fn half(bits: u16, choice: u8, n: u8) -> u16
 }
 
 // The carry of a cell: the majority of three bits.
+#[tactic(auto, unfolding(crate::specs::Lookup::majority))]
 pub fn majority_bit(a: u8, b: u8, c: u8) -> u8
     requires { (a < 2) × (b < 2) × (c < 2) }
     ensures { result ≡ majority a b c }
 {
-    if 2 <= a + b + c { 1 } else { 0 }
+    u8::from(2 <= a + b + c)
 }
 
 // Whether flag k is set, by a shifted mask.
@@ -110,12 +111,4 @@ fn has(flags: u16, k: u32) -> bool
     ensures { result ≡ is_set flags k }
 {
     (flags >> k) & 1 == 1
-}
-
-// A flag's weight where it is set.
-fn weight(on: bool, w: u16) -> u16
-    requires { w < 9 }
-    ensures { (result ≡ cond on w 0) × (result ≤ w) }
-{
-    if on { w } else { 0 }
 }

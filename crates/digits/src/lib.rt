@@ -19,7 +19,7 @@ pub fn with_digit(word: u64, k: usize, value: u8) -> u64
     ensures { result ≡ set_digit word k value }
 {
     let old = (word >> k) & 1;
-    word - (old << k) + ((value as u64) << k)
+    word - (old << k) + (u64::from(value) << k)
 }
 
 // The lowest digit that is set, in a word that has one.
@@ -28,7 +28,7 @@ pub fn lowest_digit(word: u64) -> usize
     requires { word ≢ 0 }
     ensures { LowestDigit 64 word result }
 {
-    u64::trailing_zeros(word) as usize
+    word.trailing_zeros() as usize
 }
 
 // A word with 0 for its digit k.

@@ -20,9 +20,9 @@ pub fn plain_row(kind: u16, wire: u16, a: u16) -> Row
     ensures { result ≡ plain_row kind wire a }
 {
     Row {
-        kind: kind,
-        wire: wire,
-        a: a,
+        kind,
+        wire,
+        a,
         b: 0,
         c: 0,
         d: 0,
@@ -57,10 +57,11 @@ fn carry_port(i: u32) -> u32
     requires { i < 8 }
     ensures { (result ≡ carry_port i) × (result < ports_per_tile) }
 {
-    if i < 1 {
-        return ports::CARRY_IN_MUX;
+    if i == 0 {
+        ports::CARRY_IN_MUX
+    } else {
+        ports::COUT + (i - 1)
     }
-    ports::COUT + (i - 1)
 }
 
 // A cell's carry, as the row of wire w.
@@ -90,13 +91,14 @@ pub fn out_row(b: Block, st: &[u16], wires: &[u16], w: u16, tile: usize, i: u32)
 {
     let cell = cell_at(st, tile, i as usize);
     if cell.flipflop {
-        return plain_row(
+        plain_row(
             row::FLIP_FLOP,
             w,
             (CELLS_PER_TILE * tile + i as usize) as u16,
-        );
+        )
+    } else {
+        lookup_row(b, st, wires, w, tile, i)
     }
-    lookup_row(b, st, wires, w, tile, i)
 }
 
 // A cell's cout, as the row of wire w.
@@ -106,9 +108,10 @@ pub fn cout_row(b: Block, st: &[u16], wires: &[u16], w: u16, tile: usize, i: u32
 {
     let cell = cell_at(st, tile, i as usize);
     if cell.carry {
-        return majority_row(b, st, wires, w, tile, i);
+        majority_row(b, st, wires, w, tile, i)
+    } else {
+        plain_row(row::ZERO, w, 0)
     }
-    plain_row(row::ZERO, w, 0)
 }
 
 // A tile's carry_in_mux, as the row of wire w.
@@ -117,10 +120,10 @@ pub fn mux_row(b: Block, st: &[u16], wires: &[u16], w: u16, tile: usize) -> Row
     ensures { result ≡ drive_row b st.now w (CarryMux tile) }
 {
     if tile_setting(st, tile, CARRY_IN_SET) == 1 {
-        return plain_row(row::ONE, w, 0);
+        plain_row(row::ONE, w, 0)
+    } else if tile_setting(st, tile, CARRY_CHAIN) == 1 {
+        plain_row(row::COPY, w, tile_wire(b, wires, tile, ports::CARRY_IN))
+    } else {
+        plain_row(row::ZERO, w, 0)
     }
-    if tile_setting(st, tile, CARRY_CHAIN) == 1 {
-        return plain_row(row::COPY, w, tile_wire(b, wires, tile, ports::CARRY_IN));
-    }
-    plain_row(row::ZERO, w, 0)
 }

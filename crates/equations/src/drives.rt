@@ -1,9 +1,9 @@
 // What drives the wire of a port where no switch does (document 01, 'Cells').
-ghost use Rattle.std.specs.Prelude.{◌≡◌, ◌<◌};
+ghost use Rattle.std.specs.Prelude.{◌≡◌, ℕ, ◌<◌};
 ghost use Rattle.ports.specs.Block.{Sized};
 ghost use Rattle.ports.specs.Lengths.{ports};
 ghost use Rattle.ports.specs.PortNames.{Within};
-ghost use Rattle.equations.specs.declared.drives.Drive.TheVariants.{CellLout, CellCout};
+ghost use Rattle.equations.specs.declared.drives.Drive.{Drive};
 ghost use Rattle.equations.specs.Drives.{output_drive, below_drive, drive_at, drive_of};
 
 use ports::lengths::PORTS_PER_TILE;
@@ -31,64 +31,44 @@ fn output_drive(b: Block, east: u32, north: u32, i: u32) -> Drive
     requires { Sized b }
     ensures { result ≡ output_drive b east north i }
 {
-    if east < 1 {
-        return Drive::Nothing;
+    if (1..=b.w).contains(&east) && (1..=b.h).contains(&north) {
+        Drive::CellOut((north - 1) * b.w + (east - 1), i)
+    } else {
+        Drive::Nothing
     }
-    if north < 1 {
-        return Drive::Nothing;
-    }
-    if b.w < east {
-        return Drive::Nothing;
-    }
-    if b.h < north {
-        return Drive::Nothing;
-    }
-    Drive::CellOut((north - 1) * b.w + (east - 1), i)
 }
 
-// carry_in: cout 7 of the tile to the south, where the block has it.
-fn carry_in_drive(b: Block, x: u32, y: u32) -> Drive
-    requires { Sized b × (x < b.w) × (y < b.h) }
-    ensures { result ≡ below_drive (λ T. CellCout T 7) b x y }
+// What the tile to the south gives, where the block has it.
+fn below_drive<F: Fn(u32) -> Drive>(b: Block, x: u32, y: u32, gives: F) -> Drive
+    requires inside { Sized b × (x < b.w) × (y < b.h) }
+    requires callable { F.IsAlwaysCallable gives }
+    ensures { (f : ℕ → Drive) → ((t : ℕ) (d : Drive) → F.post gives t d → d ≡ f t) → result ≡ below_drive f b x y }
 {
-    if y < 1 {
-        return Drive::Nothing;
+    if y == 0 {
+        Drive::Nothing
+    } else {
+        gives((y - 1) * b.w + x)
     }
-    Drive::CellCout((y - 1) * b.w + x, 7)
-}
-
-// ltin: lout 7 of the tile to the south, where the block has it.
-fn ltin_drive(b: Block, x: u32, y: u32) -> Drive
-    requires { Sized b × (x < b.w) × (y < b.h) }
-    ensures { result ≡ below_drive (λ T. CellLout T 7) b x y }
-{
-    if y < 1 {
-        return Drive::Nothing;
-    }
-    Drive::CellLout((y - 1) * b.w + x, 7)
 }
 
 // What drives the wire of a port of the tile (x, y).
 // Rules out: cen taken as 0 where it has no switch; a neighbour outside the block taken as a cell.
+#[tactic(auto, unfolding(crate::specs::Drives::drive_at))]
 fn drive_at(b: Block, x: u32, y: u32, port: Port) -> Drive
     requires { Sized b × (x < b.w) × (y < b.h) × Within port }
     ensures { result ≡ drive_at b x y port }
 {
     let tile = y * b.w + x;
     match port {
-        Port::Local(_) => Drive::Low,
-        Port::Glb2Local(_) => Drive::Low,
-        Port::In(_, _) => Drive::Low,
+        Port::Local(_) | Port::Glb2Local(_) | Port::In(_, _) | Port::Clk | Port::SR => Drive::Low,
+        Port::Cen => Drive::High,
         Port::Out(i) => Drive::CellOut(tile, i),
         Port::NeighOp(dx, dy, i) => output_drive(b, x + dx, y + dy, i),
-        Port::Clk => Drive::Low,
-        Port::Cen => Drive::High,
-        Port::SR => Drive::Low,
-        Port::CarryIn => carry_in_drive(b, x, y),
+        Port::CarryIn => below_drive(b, x, y, |south| Drive::CellCout(south, 7)),
         Port::CarryInMux => Drive::CarryMux(tile),
         Port::Cout(i) => Drive::CellCout(tile, i),
         Port::Lout(i) => Drive::CellLout(tile, i),
-        Port::Ltin => ltin_drive(b, x, y),
+        Port::Ltin => below_drive(b, x, y, |south| Drive::CellLout(south, 7)),
         _ => Drive::Nothing,
     }
 }
@@ -99,14 +79,14 @@ pub fn drive_of(b: Block, p: u32) -> Drive
     ensures { result ≡ drive_of b p }
 {
     let q = p % PORTS_PER_TILE;
-    // the spans
-    if q < LOCAL {
-        return Drive::Nothing;
+    match q {
+        // the spans
+        ..LOCAL => Drive::Nothing,
+        // local, glb2local and in
+        LOCAL..OUT => Drive::Low,
+        _ => {
+            let tile = p / PORTS_PER_TILE;
+            drive_at(b, tile % b.w, tile / b.w, port_at(q))
+        }
     }
-    // local, glb2local and in
-    if q < OUT {
-        return Drive::Low;
-    }
-    let tile = p / PORTS_PER_TILE;
-    drive_at(b, tile % b.w, tile / b.w, port_at(q))
 }

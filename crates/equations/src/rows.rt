@@ -13,6 +13,7 @@ use netlist::row::Row;
 use ports::size::Block;
 
 // The row of wire w where no switch ends on it.
+#[tactic(auto, unfolding(crate::specs::WireRows::drive_row))]
 fn drive_row(b: Block, st: &[u16], wires: &[u16], w: u16, drive: Drive) -> Row
     requires { Mapped b st.now wires.now × Driven b drive }
     ensures { result ≡ drive_row b st.now w drive }
@@ -35,27 +36,23 @@ pub fn row_of(b: Block, st: &[u16], wires: &[u16], sources: &[u16], p: usize) ->
     requires { Mapped b st.now wires.now × (length sources.now ≡ ports b) × (p < ports b) }
     ensures { result ≡ row_from b st.now sources.now p }
 {
-    if row::wide(wires[p]) != p {
+    if usize::from(wires[p]) != p {
         return row::zero_row();
     }
     let w = p as u16;
-    let source = sources[p];
-    if source != 0 {
-        return plain_row(row::COPY, w, source - 1);
+    match sources[p].checked_sub(1) {
+        Some(source) => plain_row(row::COPY, w, source),
+        None => drive_row(b, st, wires, w, drive_of(b, p as u32)),
     }
-    drive_row(b, st, wires, w, drive_of(b, p as u32))
 }
 
 // Writes the rows of a block, one for each port number.
+#[tactic(auto, using(fabric::proofs::WireLaws::wires_length))]
 pub fn write_rows(b: Block, st: &[u16], wires: &[u16], sources: &[u16], rows: &mut [u16])
     requires { Mapped b st.now wires.now × (length sources.now ≡ ports b) × (length rows.old ≡ row_length * ports b) }
     ensures { rows.new ≡ rows_from b st.now sources.now }
 {
-    let n = wires.len();
-    let mut p = 0;
-    while p < n {
-        let row = row_of(b, st, wires, sources, p);
-        row::write_row(rows, p, row);
-        p += 1;
+    for p in 0..wires.len() {
+        row::write_row(rows, p, row_of(b, st, wires, sources, p));
     }
 }

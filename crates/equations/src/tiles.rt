@@ -10,7 +10,6 @@ ghost use Rattle.equations.specs.Tiles.{TileInside, setting_of, group_of, table_
 use cell::logic::Cell;
 use codec::cells::CELLS_FROM;
 use codec::settings::GROUPS_FROM;
-use netlist::row::wide;
 use ports::lengths::SETTINGS_LENGTH;
 use ports::size::Block;
 
@@ -29,7 +28,7 @@ pub fn group_at(st: &[u16], tile: usize, g: usize) -> usize
     requires { (g < max_groups) × TileInside st.now tile }
     ensures { result ≡ group_of st.now tile g }
 {
-    wide(tile_setting(st, tile, GROUPS_FROM + g))
+    usize::from(tile_setting(st, tile, GROUPS_FROM + g))
 }
 
 // A cell's settings.
@@ -45,6 +44,7 @@ pub fn cell_at(st: &[u16], tile: usize, i: usize) -> Cell
 }
 
 // The wire of port q of a tile.
+#[tactic(auto, using(fabric::proofs::WireLaws::wires_length, fabric::proofs::WireLaws::wires_at))]
 pub fn tile_wire(b: Block, wires: &[u16], tile: usize, q: u32) -> u16
     requires { (wires.now ≡ wires_of b) × (port_of tile q < ports b) }
     ensures { result ≡ wire_of b (port_of tile q) }

@@ -3,6 +3,7 @@ use Prim.Native.Nat.{ℕ, zero, suc, ◌-◌, ◌≤◌, ◌<◌}
 use mathlib.Core.Path.{◌≡◌, refl, sym}
 use mathlib.Core.Bool.{Bool, true, false}
 use native.Mathlib.Omega.{arith}
+use Rattle.std.specs.Prelude.{Some, None, if◌then◌else◌}
 use Rattle.fabric.specs.Span.{walk, edge}
 use Rattle.fabric.specs.SpanWire.{ends}
 
@@ -20,7 +21,7 @@ module _ (on : ℕ → Bool) (next : ℕ → ℕ) where
   walk_stops zero k h = refl
   walk_stops (suc e) k h = rw (h, walk)
 
-  pub walk_end : (e k : ℕ) → e ≤ 0 → edge e k ≡ walk on next e k
+  pub walk_end : (e k : ℕ) → e ≤ 0 → edge 0 k ≡ walk on next e k
   unfolding walk
   walk_end zero k h = refl
   walk_end (suc e) k h = absurd (omega arith)
@@ -29,6 +30,21 @@ module _ (on : ℕ → Bool) (next : ℕ → ℕ) where
   pub walk_step : (e k : ℕ) → 0 < e → on k ≡ true → walk on next (e - 1) (next k) ≡ walk on next e k
   walk_step zero k h l = absurd (omega arith)
   walk_step (suc e) k h l = rw (back_one e) (sym (walk_suc e k l))
+
+  -- the same by what the step finds at the edge before
+  pub walk_none : (e k : ℕ) → None ≡ (if on k then Some (next k) else None) → edge e k ≡ walk on next e k
+  walk_none e k h = go (on k) refl h
+    where
+      go : (b : Bool) → on k ≡ b → None ≡ (if b then Some (next k) else None) → edge e k ≡ walk on next e k
+      go true q f = cc
+      go false q f = walk_stops e k q
+
+  pub walk_some : (e k j : ℕ) → 0 < e → Some j ≡ (if on k then Some (next k) else None) → walk on next (e - 1) j ≡ walk on next e k
+  walk_some e k j l h = go (on k) refl h
+    where
+      go : (b : Bool) → on k ≡ b → Some j ≡ (if b then Some (next k) else None) → walk on next (e - 1) j ≡ walk on next e k
+      go true q f = let d : j ≡ next k = cc in rw d (walk_step e k l q)
+      go false q f = cc
 
   -- what each step back gives, the whole walk gives, up to the edge E
   module _ (rule : ℕ → ℕ → ℕ) (R : ℕ → ℕ → Type 0) (R-refl : (p : ℕ) → R p p) (R-trans : (p q r : ℕ) → R p q → R q r → R p r)

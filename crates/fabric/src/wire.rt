@@ -15,9 +15,10 @@ pub fn below_wire(b: Block, x: u32, y: u32, own: u32, q: u32) -> u32
     ensures { result ≡ below b x y own q }
 {
     if 0 < y {
-        return ports::port_number(b, x, y - 1, q);
+        ports::port_number(b, x, y - 1, q)
+    } else {
+        ports::port_number(b, x, 0, own)
     }
-    ports::port_number(b, x, 0, own)
 }
 
 // The wire of port q of the tile (x, y).

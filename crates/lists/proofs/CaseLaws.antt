@@ -38,6 +38,12 @@ pub and_right : (a b : Bool) → a && b ≡ true → b ≡ true
 and_right true b e = e
 and_right false b e = clash refl (sym e)
 
+pub and_swap : (a b : Bool) → a && b ≡ b && a
+and_swap true true = refl
+and_swap true false = refl
+and_swap false true = refl
+and_swap false false = refl
+
 pub and_true : {a b : Bool} → a ≡ true → b ≡ true → a && b ≡ true
 and_true p q = rw (p, q)
 

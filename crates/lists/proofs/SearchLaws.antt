@@ -74,6 +74,15 @@ first_at p i n h e none = sym (first_from p n i (omega arith) none) ∙ first_hi
 pub first_none : (p : ℕ → Bool) (n : ℕ) → ((k : ℕ) → k < n → p k ≡ false) → first p 0 n ≡ n
 first_none p n none = sym (first_from p n n (omega arith) none) ∙ first_end p n n (omega arith)
 
+-- a search from i on that passes over all before j stands at j
+pub first_past : (p : ℕ → Bool) (n i j : ℕ) → i ≤ j → j ≤ n → ((k : ℕ) → i ≤ k → k < j → p k ≡ false) → first p i (n - i) ≡ first p j (n - j)
+first_past p n i zero l h none = let e : i ≡ 0 = omega arith in rw e refl
+first_past p n i (suc j) l h none =
+    ⊎_elim (λ (e : i ≡ suc j). rw e refl)
+    (λ (lt : i < suc j).
+    first_past p n i j (omega arith) (omega arith) (λ k a b. none k a (omega arith)) ∙ first_skip p j n h (none j (omega arith) (omega arith))
+    ∙ ap (λ (x : ℕ). first p x (n - x)) (add-one j)) (eq-or-lt_of_le l)
+
 -- ---- first: what it says
 
 pub first_le : (p : ℕ → Bool) (i m : ℕ) → first p i m ≤ i + m

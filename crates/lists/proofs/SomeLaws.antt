@@ -10,13 +10,16 @@ use native.Mathlib.Numerals.{add-one}
 use borrow.Author.Tests.{not-true, not-false}
 use Rattle.lists.specs.Search.{all_from, some_below}
 use Rattle.lists.proofs.CaseLaws.{cases, clash, and_false_right}
-use Rattle.lists.proofs.SearchLaws.{all_at, all_not}
+use Rattle.lists.proofs.SearchLaws.{all_at, all_not, all_ext}
 
 pub some_is : (p : ℕ → Bool) (n : ℕ) → some_below p n ≡ true → (i : ℕ) × (i < n) × (p i ≡ true)
 some_is p n e = let f = all_not (λ i. not (p i)) 0 n (not-true _ e) in (f.0, omega arith, not-false _ f.3)
 
 pub some_true : (p : ℕ → Bool) (n i : ℕ) → i < n → p i ≡ true → some_below p n ≡ true
 some_true p n i l e = ⊎_elim (λ a. clash e (not-true _ (all_at (λ i. not (p i)) 0 n i a (omega arith) (omega arith)))) (λ a. rw a) (cases (all_from (λ i. not (p i)) 0 n))
+
+pub some_ext : (p q : ℕ → Bool) (n : ℕ) → ((k : ℕ) → k < n → p k ≡ q k) → some_below p n ≡ some_below q n
+some_ext p q n same = ap not (all_ext (λ k. not (p k)) (λ k. not (q k)) 0 n (λ k a b. ap not (same k (omega arith))))
 
 all_last : (p : ℕ → Bool) (i n : ℕ) → all_from p i (suc n) ≡ all_from p i n && p (i + n)
 unfolding all_from

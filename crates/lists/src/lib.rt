@@ -10,44 +10,28 @@ ghost use Rattle.lists.specs.Tables.{zeros};
 pub fn clear(room: &mut [u16])
     ensures { room.new ≡ zeros (length room.old) }
 {
-    let mut i = 0;
-    while i < room.len() {
-        room[i] = 0;
-        i += 1;
-    }
+    room.fill(0);
 }
 
 // The same for bytes.
 pub fn clear_bytes(room: &mut [u8])
     ensures { room.new ≡ zeros (length room.old) }
 {
-    let mut i = 0;
-    while i < room.len() {
-        room[i] = 0;
-        i += 1;
-    }
+    room.fill(0);
 }
 
 // The same for numbers of 32 bits.
 pub fn clear_numbers(room: &mut [u32])
     ensures { room.new ≡ zeros (length room.old) }
 {
-    let mut i = 0;
-    while i < room.len() {
-        room[i] = 0;
-        i += 1;
-    }
+    room.fill(0);
 }
 
 // The same for words of 64 bits.
 pub fn clear_words(room: &mut [u64])
     ensures { room.new ≡ zeros (length room.old) }
 {
-    let mut i = 0;
-    while i < room.len() {
-        room[i] = 0;
-        i += 1;
-    }
+    room.fill(0);
 }
 
 // The same numbers in a slice of the same length.
@@ -56,11 +40,7 @@ pub fn copy(from: &[u16], to: &mut [u16])
     requires { length from.now ≡ length to.old }
     ensures { to.new ≡ from.now }
 {
-    let mut i = 0;
-    while i < to.len() {
-        to[i] = from[i];
-        i += 1;
-    }
+    to.copy_from_slice(from);
 }
 
 // The same for bytes.
@@ -68,9 +48,5 @@ pub fn copy_bytes(from: &[u8], to: &mut [u8])
     requires { length from.now ≡ length to.old }
     ensures { to.new ≡ from.now }
 {
-    let mut i = 0;
-    while i < to.len() {
-        to[i] = from[i];
-        i += 1;
-    }
+    to.copy_from_slice(from);
 }

@@ -110,94 +110,38 @@ pub enum Port {
 pub fn port_at(q: u32) -> Port
     ensures { result ≡ port_at q }
 {
-    if q < SP4_H_R {
-        return Port::Sp4HL(q);
+    match q {
+        ..SP4_H_R => Port::Sp4HL(q),
+        SP4_H_R..SP4_V_T => Port::Sp4HR(q - SP4_H_R),
+        SP4_V_T..SP4_V_B => Port::Sp4VT(q - SP4_V_T),
+        SP4_V_B..SP4_R_V_B => Port::Sp4VB(q - SP4_V_B),
+        SP4_R_V_B..SP12_H_L => Port::Sp4RVB(q - SP4_R_V_B),
+        SP12_H_L..SP12_H_R => Port::Sp12HL(q - SP12_H_L),
+        SP12_H_R..SP12_V_T => Port::Sp12HR(q - SP12_H_R),
+        SP12_V_T..SP12_V_B => Port::Sp12VT(q - SP12_V_T),
+        SP12_V_B..LOCAL => Port::Sp12VB(q - SP12_V_B),
+        LOCAL..GLB2LOCAL => Port::Local(q - LOCAL),
+        GLB2LOCAL..IN => Port::Glb2Local(q - GLB2LOCAL),
+        IN..OUT => Port::In((q - IN) / 4, (q - IN) % 4),
+        OUT..NEIGH_BNL => Port::Out(q - OUT),
+        NEIGH_BNL..NEIGH_BOT => Port::NeighOp(0, 0, q - NEIGH_BNL),
+        NEIGH_BOT..NEIGH_BNR => Port::NeighOp(1, 0, q - NEIGH_BOT),
+        NEIGH_BNR..NEIGH_LFT => Port::NeighOp(2, 0, q - NEIGH_BNR),
+        NEIGH_LFT..NEIGH_RGT => Port::NeighOp(0, 1, q - NEIGH_LFT),
+        NEIGH_RGT..NEIGH_TNL => Port::NeighOp(2, 1, q - NEIGH_RGT),
+        NEIGH_TNL..NEIGH_TOP => Port::NeighOp(0, 2, q - NEIGH_TNL),
+        NEIGH_TOP..NEIGH_TNR => Port::NeighOp(1, 2, q - NEIGH_TOP),
+        NEIGH_TNR..CLK => Port::NeighOp(2, 2, q - NEIGH_TNR),
+        CLK..CEN => Port::Clk,
+        CEN..S_R => Port::Cen,
+        S_R..GLB_NETWK => Port::SR,
+        GLB_NETWK..CARRY_IN => Port::GlbNetwk(q - GLB_NETWK),
+        CARRY_IN..CARRY_IN_MUX => Port::CarryIn,
+        CARRY_IN_MUX..COUT => Port::CarryInMux,
+        COUT..LOUT => Port::Cout(q - COUT),
+        LOUT..LTIN => Port::Lout(q - LOUT),
+        _ => Port::Ltin,
     }
-    if q < SP4_V_T {
-        return Port::Sp4HR(q - SP4_H_R);
-    }
-    if q < SP4_V_B {
-        return Port::Sp4VT(q - SP4_V_T);
-    }
-    if q < SP4_R_V_B {
-        return Port::Sp4VB(q - SP4_V_B);
-    }
-    if q < SP12_H_L {
-        return Port::Sp4RVB(q - SP4_R_V_B);
-    }
-    if q < SP12_H_R {
-        return Port::Sp12HL(q - SP12_H_L);
-    }
-    if q < SP12_V_T {
-        return Port::Sp12HR(q - SP12_H_R);
-    }
-    if q < SP12_V_B {
-        return Port::Sp12VT(q - SP12_V_T);
-    }
-    if q < LOCAL {
-        return Port::Sp12VB(q - SP12_V_B);
-    }
-    if q < GLB2LOCAL {
-        return Port::Local(q - LOCAL);
-    }
-    if q < IN {
-        return Port::Glb2Local(q - GLB2LOCAL);
-    }
-    if q < OUT {
-        return Port::In((q - IN) / 4, (q - IN) % 4);
-    }
-    if q < NEIGH_BNL {
-        return Port::Out(q - OUT);
-    }
-    if q < NEIGH_BOT {
-        return Port::NeighOp(0, 0, q - NEIGH_BNL);
-    }
-    if q < NEIGH_BNR {
-        return Port::NeighOp(1, 0, q - NEIGH_BOT);
-    }
-    if q < NEIGH_LFT {
-        return Port::NeighOp(2, 0, q - NEIGH_BNR);
-    }
-    if q < NEIGH_RGT {
-        return Port::NeighOp(0, 1, q - NEIGH_LFT);
-    }
-    if q < NEIGH_TNL {
-        return Port::NeighOp(2, 1, q - NEIGH_RGT);
-    }
-    if q < NEIGH_TOP {
-        return Port::NeighOp(0, 2, q - NEIGH_TNL);
-    }
-    if q < NEIGH_TNR {
-        return Port::NeighOp(1, 2, q - NEIGH_TOP);
-    }
-    if q < CLK {
-        return Port::NeighOp(2, 2, q - NEIGH_TNR);
-    }
-    if q < CEN {
-        return Port::Clk;
-    }
-    if q < S_R {
-        return Port::Cen;
-    }
-    if q < GLB_NETWK {
-        return Port::SR;
-    }
-    if q < CARRY_IN {
-        return Port::GlbNetwk(q - GLB_NETWK);
-    }
-    if q < CARRY_IN_MUX {
-        return Port::CarryIn;
-    }
-    if q < COUT {
-        return Port::CarryInMux;
-    }
-    if q < LOUT {
-        return Port::Cout(q - COUT);
-    }
-    if q < LTIN {
-        return Port::Lout(q - LOUT);
-    }
-    Port::Ltin
 }
 
 // The number of port q of the tile (x, y).

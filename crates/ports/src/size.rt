@@ -4,14 +4,14 @@ ghost use Rattle.std.specs.Prelude.{◌≡◌, ◌≤◌};
 ghost use Rattle.ports.specs.Block.{size_of, tile_count, Allowed, allowed, sized};
 
 // W tiles wide and h tiles high.
-#[derive(Clone, Copy)]
+#[derive(Clone, Copy, PartialEq, Eq)]
 pub struct Size {
     pub w: u32,
     pub h: u32,
 }
 
 // All that joins depend on. East is 1 where the column to the east of the block is logic or RAM, else 0.
-#[derive(Clone, Copy)]
+#[derive(Clone, Copy, PartialEq, Eq)]
 pub struct Block {
     pub w: u32,
     pub h: u32,
@@ -28,29 +28,14 @@ pub fn size_of(b: Block) -> Size
 pub fn is_allowed(s: Size) -> bool
     ensures { result ≡ allowed s }
 {
-    if s.w < 1 {
-        return false;
-    }
-    if 8 < s.w {
-        return false;
-    }
-    if s.h < 1 {
-        return false;
-    }
-    if 8 < s.h {
-        return false;
-    }
-    true
+    (1..=8).contains(&s.w) && (1..=8).contains(&s.h)
 }
 
 // The same of a block, whose byte for the east column is 0 or 1.
 pub fn is_sized(b: Block) -> bool
     ensures { result ≡ sized b }
 {
-    if 2 <= b.east {
-        return false;
-    }
-    is_allowed(size_of(b))
+    b.east < 2 && is_allowed(size_of(b))
 }
 
 // How many tiles there are.

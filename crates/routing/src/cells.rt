@@ -21,19 +21,22 @@ pub fn lc_bit(j: usize) -> usize
     ensures { result ≡ get_or lc_bits j 0 }
 {
     if j < FIRST {
-        return ((FIRST_LC_BITS >> (5 * j)) & 31) as usize;
+        ((FIRST_LC_BITS >> (5 * j)) & 31) as usize
+    } else {
+        ((LAST_LC_BITS >> (5 * (j - FIRST))) & 31) as usize
     }
-    ((LAST_LC_BITS >> (5 * (j - FIRST))) & 31) as usize
 }
 
 // The position of bit j of cell i.
+#[tactic(auto, unfolding(crate::specs::LogicTile::cell_position))]
 pub fn cell_position(i: usize, j: usize) -> usize
     requires { (i < 8) × (j < bits_per_cell) }
     ensures { result ≡ cell_position i j }
 {
     let k = lc_bit(j);
     if k < 10 {
-        return COLUMNS * (2 * i) + (36 + k);
+        COLUMNS * (2 * i) + (36 + k)
+    } else {
+        COLUMNS * (2 * i + 1) + (26 + k)
     }
-    COLUMNS * (2 * i + 1) + (26 + k)
 }

@@ -12,15 +12,14 @@ use crate::slots::FIELD_SLOTS;
 use ports::lengths::POSITIONS;
 
 // The cells' own positions claimed in an empty map; no table has a say in them.
+#[tactic(auto, using(crate::proofs::LogicTileLaws::cell_position_lt))]
 pub fn claim_cells(own: &mut [u16])
     requires { own.old ≡ zeros logic_tile.positions }
     ensures { (table : List ℕ) → TableOwned logic_tile table (field_slots logic_tile) own.new }
 {
-    let mut s: usize = 0;
-    while s < FIELD_SLOTS {
+    for s in 0..FIELD_SLOTS {
         let p = cell_position(s / BITS_PER_CELL, s % BITS_PER_CELL);
         own[p] = (s + 1) as u16;
-        s += 1;
     }
 }
 
@@ -31,17 +30,12 @@ pub fn claim(table: &[u16], start: usize, n: usize, slot: usize, own: &mut [u16]
     ensures answer { result ≡ all_from (position_ok logic_tile table.now slot) 0 n }
     ensures map { result ≡ true → TableOwned logic_tile table.now (slot + n) own.new }
 {
-    let mut k = 0;
-    while k < n {
-        let p = table[start + k] as usize;
-        if POSITIONS <= p {
-            return false;
-        }
-        if 0 < own[p] {
+    for k in 0..n {
+        let p = usize::from(table[start + k]);
+        if POSITIONS <= p || 0 < own[p] {
             return false;
         }
         own[p] = (slot + k + 1) as u16;
-        k += 1;
     }
     true
 }

@@ -23,12 +23,10 @@ fn check_group(table: &[u16], g: usize, seen: &mut [u16; PATTERN_COUNT], own: &m
     ensures seen { result ≡ true → MarkedBefore (g + 1) seen.new }
     ensures map { result ≡ true → TableOwned logic_tile table.now (group_slot logic_tile (g + 1)) own.new }
 {
-    if !group_alone_ok(table, g, seen) {
-        return false;
-    }
     let w = width(table, g);
     let start = positions_start(g);
-    claim(table, start, w, GROUP_SLOTS + MAX_POSITIONS * g, own)
+    let slot = GROUP_SLOTS + MAX_POSITIONS * g;
+    group_alone_ok(table, g, seen) && claim(table, start, w, slot, own)
 }
 
 // The groups, after fields and passive list. All of them mark their patterns in one array, which starts as zeros: see `group_alone_ok`.
@@ -41,15 +39,10 @@ fn check_groups(table: &[u16], own: &mut [u16]) -> usize
 {
     let n = group_count(table);
     let mut seen = [0u16; PATTERN_COUNT];
-    let mut g = 0;
-    while g < n {
-        if g == MAX_GROUPS {
-            return 2 + MAX_GROUPS;
-        }
-        if !check_group(table, g, &mut seen, own) {
+    for g in 0..n {
+        if g == MAX_GROUPS || !check_group(table, g, &mut seen, own) {
             return 2 + g;
         }
-        g += 1;
     }
     2 + n
 }
@@ -66,10 +59,7 @@ fn check_parts(table: &[u16], own: &mut [u16]) -> usize
         return 0;
     }
     let n = passive_count(table);
-    if MAX_PASSIVES < n {
-        return 1;
-    }
-    if !claim(table, PASSIVES, n, PASSIVE_SLOTS, own) {
+    if MAX_PASSIVES < n || !claim(table, PASSIVES, n, PASSIVE_SLOTS, own) {
         return 1;
     }
     check_groups(table, own)
@@ -85,13 +75,11 @@ pub fn check_table(table: &[u16], own: &mut [u16]) -> usize
         (slot_count logic_tile) own.new }
     ensures cleared { table_ok logic_tile table.now ≡ false → own.new ≡ zeros logic_tile.positions }
 {
-    lists::clear(own);
+    own.fill(0);
     let part = check_parts(table, own);
-    let parts = 2 + group_count(table);
-    if part == parts {
-        return part;
+    if part != 2 + group_count(table) {
+        own.fill(0);
     }
-    lists::clear(own);
     part
 }
 

@@ -30,39 +30,33 @@ const PATTERNS: usize = 11;
 
 const SOURCES: usize = 12;
 
-fn number(x: u16) -> usize
-    ensures { result ≡ x }
-{
-    x as usize
-}
-
 // The position of field f.
 pub fn field(table: &[u16], f: usize) -> usize
     requires { (length table.now ≡ table_length) × (f < logic_tile.fields) }
     ensures { result ≡ field_at table.now f }
 {
-    number(table[f])
+    usize::from(table[f])
 }
 
 pub fn passive_count(table: &[u16]) -> usize
     requires { length table.now ≡ table_length }
     ensures { result ≡ passive_count logic_tile table.now }
 {
-    number(table[FIELDS])
+    usize::from(table[FIELDS])
 }
 
 pub fn passive(table: &[u16], j: usize) -> usize
     requires { (length table.now ≡ table_length) × (j < max_passives) }
     ensures { result ≡ passive_at logic_tile table.now j }
 {
-    number(table[PASSIVES + j])
+    usize::from(table[PASSIVES + j])
 }
 
 pub fn group_count(table: &[u16]) -> usize
     requires { length table.now ≡ table_length }
     ensures { result ≡ group_count logic_tile table.now }
 {
-    number(table[GROUP_COUNT])
+    usize::from(table[GROUP_COUNT])
 }
 
 // Where the positions of group g stand in the table.
@@ -85,21 +79,21 @@ pub fn width(table: &[u16], g: usize) -> usize
     requires { (length table.now ≡ table_length) × (g < max_groups) }
     ensures { result ≡ width_of logic_tile table.now g }
 {
-    number(table[GROUPS + GROUP_LENGTH * g + WIDTH])
+    usize::from(table[GROUPS + GROUP_LENGTH * g + WIDTH])
 }
 
 pub fn position(table: &[u16], g: usize, k: usize) -> usize
     requires { (length table.now ≡ table_length) × (g < max_groups) × (k < max_positions) }
     ensures { result ≡ position_at logic_tile table.now g k }
 {
-    number(table[GROUPS + GROUP_LENGTH * g + GROUP_POSITIONS + k])
+    usize::from(table[GROUPS + GROUP_LENGTH * g + GROUP_POSITIONS + k])
 }
 
 pub fn entry_count(table: &[u16], g: usize) -> usize
     requires { (length table.now ≡ table_length) × (g < max_groups) }
     ensures { result ≡ entry_count logic_tile table.now g }
 {
-    number(table[GROUPS + GROUP_LENGTH * g + ENTRY_COUNT])
+    usize::from(table[GROUPS + GROUP_LENGTH * g + ENTRY_COUNT])
 }
 
 pub fn pattern(table: &[u16], g: usize, e: usize) -> u16
@@ -123,12 +117,7 @@ pub fn find_entry(table: &[u16], g: usize, wanted: u16) -> usize
     ensures { result ≡ entry_of logic_tile table.now g wanted }
 {
     let n = entry_count(table, g);
-    let mut e = 0;
-    while e < n {
-        if pattern(table, g, e) == wanted {
-            return e;
-        }
-        e += 1;
-    }
-    e
+    (0..n)
+        .find(|e| pattern(table, g, *e) == wanted)
+        .unwrap_or(n)
 }

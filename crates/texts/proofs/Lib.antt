@@ -10,3 +10,4 @@ pub mod SameLaws  -- same_true, same_refl, same_false: the test of two texts
 pub mod WordLaws  -- word_at, word_is: the first word of a line
 pub mod PlainLaws  -- plain_append, plain_check: no line feed inside; split_same: the first line feed parts a text in one way
 pub mod LineEndLaws  -- LineTo: the line from a position up to the next line feed; line_plain, line_split, front_more
+mod PassedLaws  -- passed_plain: eight bytes at a time without a line feed are passed over; line_end_is: where the search behind them ends

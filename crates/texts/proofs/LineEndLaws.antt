@@ -1,7 +1,7 @@
--- The line from a position up to the next line feed (`LineTo`). Main laws: `line_to`, `none_left`, `line_plain`, `line_split`, `front_more`, `first_turn_skip_four`.
+-- The line from a position up to the next line feed (`LineTo`). Main laws: `line_to`, `none_left`, `line_plain`, `line_split`, `front_more`.
 use Prim.Native.Nat.{ℕ, zero, suc, ◌+◌, ◌-◌, ◌<◌, ◌≤◌}
-use mathlib.Core.Path.{◌≡◌, sym, ap, ap₂, ◌∙◌, subst}
-use mathlib.Core.Bool.{Bool, false}
+use mathlib.Core.Path.{◌≡◌, sym, ap, ap₂, ◌∙◌}
+use mathlib.Core.Bool.{Bool}
 use mathlib.Core.Logic.{⊎_elim, ◌≢◌}
 use mathlib.Core.List.{List, [], ◌∷◌, ◌++◌}
 use native.Mathlib.Omega.{arith}
@@ -11,7 +11,7 @@ use lib.ListN.{length, take, drop, get_or, length-drop, take-append-drop}
 use lib.Seq.{length-take-le, take-add, take-append-add, drop-drop, drop-cons, get_or-take, get_or-drop}
 use Rattle.lists.specs.Search.{first}
 use Rattle.lists.proofs.CaseLaws.{cases}
-use Rattle.lists.proofs.SearchLaws.{first_le, first_true, first_before, first_turn_skip}
+use Rattle.lists.proofs.SearchLaws.{first_le, first_true, first_before}
 use Rattle.texts.specs.Lines.{Plain}
 
 -- ---- where a line ends
@@ -81,16 +81,3 @@ module _ (s : List ℕ) (at end : ℕ) (l : LineTo s at end) where
       ap (λ (k : ℕ). take k s) q ∙ take-add at (end - at + 1) s
       ∙ ap (λ (x : List ℕ). take at s ++ x)
       (ap₂ (λ (k : ℕ) (x : List ℕ). take (k + 1) x) (sym line_length) line_split ∙ take-append-add (line_from s at end) (10 ∷ drop (suc end) s) 1)
-
--- ---- a search that takes four bytes a turn
-
-module _ (p : ℕ → Bool) (i n x : ℕ) (inv : first p i (n - i) ≡ x) where
-  step_to : (j k : ℕ) → j + 1 ≡ k → first p j (n - j) ≡ x → j < n → p j ≡ false → first p k (n - k) ≡ x
-  step_to j k e before h q = subst (λ (m : ℕ). first p m (n - m) ≡ x) e (first_turn_skip p j n x before h q)
-
-  pub first_turn_skip_four : 4 ≤ n - i → p i ≡ false → p (i + 1) ≡ false → p (i + 2) ≡ false → p (i + 3) ≡ false → first p (i + 4) (n - (i + 4)) ≡ x
-  first_turn_skip_four h a b c d =
-      let one = first_turn_skip p i n x inv (omega arith) a in
-      let two = step_to (i + 1) (i + 2) (omega arith) one (omega arith) b in
-      let three = step_to (i + 2) (i + 3) (omega arith) two (omega arith) c in
-      step_to (i + 3) (i + 4) (omega arith) three (omega arith) d

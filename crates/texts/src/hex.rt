@@ -5,43 +5,32 @@ ghost use Rattle.texts.specs.Hex.{is_digit, value_of, digit_of, pair_at, quad_at
 use crate::byte_at;
 
 // Rules out: lower case.
+#[tactic(auto, unfolding(crate::specs::Hex::is_digit))]
 pub fn is_digit(c: u8) -> bool
     ensures { result ≡ is_digit c }
 {
-    if c < b'0' {
-        return false;
-    }
-    if c <= b'9' {
-        return true;
-    }
-    if c < b'A' {
-        return false;
-    }
-    c <= b'F'
+    matches!(c, b'0'..=b'9' | b'A'..=b'F')
 }
 
 // What a digit stands for; 0 for any other byte.
+#[tactic(auto, unfolding(crate::specs::Hex::value_of, crate::specs::Hex::is_digit))]
 pub fn value(c: u8) -> u16
     ensures { result ≡ value_of c }
 {
-    if !is_digit(c) {
-        return 0;
+    match c {
+        b'0'..=b'9' => u16::from(c - b'0'),
+        b'A'..=b'F' => u16::from(c - b'A' + 10),
+        _ => 0,
     }
-    if c <= b'9' {
-        return (c - b'0') as u16;
-    }
-    (c - b'A' + 10) as u16
 }
 
 // The lowest digit of a number.
+#[tactic(auto, unfolding(crate::specs::Hex::digit_of))]
 pub fn digit(x: u16) -> u8
     ensures { result ≡ digit_of x }
 {
     let v = (x % 16) as u8;
-    if v < 10 {
-        return b'0' + v;
-    }
-    b'A' + (v - 10)
+    if v < 10 { b'0' + v } else { b'A' + (v - 10) }
 }
 
 // The number of two digits.

@@ -18,10 +18,7 @@ pub const LINE_END: u8 = 10;
 pub fn byte_at(s: &[u8], i: usize) -> u8
     ensures { result ≡ get_or s.now i 0 }
 {
-    if i < s.len() {
-        return s[i];
-    }
-    0
+    s.get(i).copied().unwrap_or(0)
 }
 
 // Puts a piece at a position, and says where the next one goes.
@@ -31,6 +28,6 @@ pub fn put(out: &mut [u8], at: usize, piece: &[u8]) -> usize
     ensures out { out.new ≡ placed at piece.now out.old }
 {
     let end = at + piece.len();
-    lists::copy_bytes(piece, &mut out[at..end]);
+    out[at..end].copy_from_slice(piece);
     end
 }

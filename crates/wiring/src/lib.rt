@@ -20,10 +20,8 @@ fn tiles(b: Block, wires: &mut [u16], y: u32)
     requires { Sized b × (y < b.h) × Wired b (port b 0 y 0) wires.old }
     ensures { Wired b (port b b.w y 0) wires.new }
 {
-    let mut x = 0;
-    while x < b.w {
+    for x in 0..b.w {
         tile(b, wires, x, y);
-        x += 1;
     }
 }
 
@@ -33,9 +31,7 @@ pub fn fill_wires(b: Block, wires: &mut [u16])
     requires { Sized b × (length wires.old ≡ ports b) }
     ensures { wires.new ≡ wires_of b }
 {
-    let mut y = 0;
-    while y < b.h {
+    for y in 0..b.h {
         tiles(b, wires, y);
-        y += 1;
     }
 }

@@ -46,9 +46,9 @@ pub fn row(s: Span, b: Block, wires: &mut [u16], x: u32, y: u32)
     if 0 < x {
         copy(b, wires, x - 1, y, s.far, x, y, s.near, s.through + s.shift);
         far_side(s, b, wires, x, y);
-        return;
+    } else {
+        from_rim(s, b, wires, x, y);
     }
-    from_rim(s, b, wires, x, y);
 }
 
 // sp4_v_t and sp4_v_b. On the rim the right-neighbour names of the tile to the west come first.
@@ -58,13 +58,11 @@ pub fn fill_sp4_column(b: Block, wires: &mut [u16], x: u32, y: u32)
 {
     if 0 < y {
         from_south(SPAN4_COLUMN, b, wires, x, y - 1, ports::SP4_V_T, x, y);
-        return;
-    }
-    if 0 < x {
+    } else if 0 < x {
         from_south(SPAN4_COLUMN, b, wires, x - 1, y, ports::SP4_R_V_B, x, y);
-        return;
+    } else {
+        from_rim(SPAN4_COLUMN, b, wires, x, y);
     }
-    from_rim(SPAN4_COLUMN, b, wires, x, y);
 }
 
 // sp4_r_v_b at the east column, where the column outside runs on: as sp4_v_t from the row to the south.
@@ -93,27 +91,23 @@ pub fn right(b: Block, wires: &mut [u16], x: u32, y: u32)
 {
     if y < 1 {
         own(b, wires, x, y, ports::SP4_R_V_B, 48);
-        return;
-    }
-    if b.w <= x + 1 {
-        if b.east == 1 {
-            outside(b, wires, x, y);
-            return;
-        }
+    } else if x + 1 < b.w {
+        copy(
+            b,
+            wires,
+            x + 1,
+            y - 1,
+            ports::SP4_V_T,
+            x,
+            y,
+            ports::SP4_R_V_B,
+            48,
+        );
+    } else if b.east == 1 {
+        outside(b, wires, x, y);
+    } else {
         own(b, wires, x, y, ports::SP4_R_V_B, 48);
-        return;
     }
-    copy(
-        b,
-        wires,
-        x + 1,
-        y - 1,
-        ports::SP4_V_T,
-        x,
-        y,
-        ports::SP4_R_V_B,
-        48,
-    );
 }
 
 // sp12_v_t and sp12_v_b.
@@ -123,7 +117,7 @@ pub fn fill_sp12_column(b: Block, wires: &mut [u16], x: u32, y: u32)
 {
     if 0 < y {
         from_south(SPAN12_COLUMN, b, wires, x, y - 1, ports::SP12_V_T, x, y);
-        return;
+    } else {
+        from_rim(SPAN12_COLUMN, b, wires, x, y);
     }
-    from_rim(SPAN12_COLUMN, b, wires, x, y);
 }

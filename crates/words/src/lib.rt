@@ -30,10 +30,7 @@ pub fn words_of_bytes(s: Size, bytes: &[u8], words: &mut [u64]) -> Result<(), Re
     if !is_allowed(s) {
         return Err(Refusal::WrongSize);
     }
-    if bytes.len() != bytes_length(s) {
-        return Err(Refusal::WrongLength);
-    }
-    if words.len() != bits_length(s) {
+    if bytes.len() != bytes_length(s) || words.len() != bits_length(s) {
         return Err(Refusal::WrongLength);
     }
     forms::to_words(tile_count(s), bytes, words);
@@ -50,10 +47,7 @@ pub fn bytes_of_words(s: Size, words: &[u64], bytes: &mut [u8]) -> Result<(), Re
     if !is_allowed(s) {
         return Err(Refusal::WrongSize);
     }
-    if bytes.len() != bytes_length(s) {
-        return Err(Refusal::WrongLength);
-    }
-    if words.len() != bits_length(s) {
+    if bytes.len() != bytes_length(s) || words.len() != bits_length(s) {
         return Err(Refusal::WrongLength);
     }
     let i = stray::first_stray(words);

@@ -12,14 +12,10 @@ pub const PAST_COLUMNS: u64 = 18014398509481984;
 pub fn first_stray(words: &[u64]) -> usize
     ensures { result ≡ first_stray words.now }
 {
-    let mut i = 0;
-    while i < words.len() {
-        if PAST_COLUMNS <= words[i] {
-            return i;
-        }
-        i += 1;
-    }
-    i
+    words
+        .iter()
+        .position(|word| *word >= PAST_COLUMNS)
+        .unwrap_or(words.len())
 }
 
 // The position that is at fault for word i of a block.

@@ -1,5 +1,4 @@
--- `ports::port_at` meets its contract: each branch is a range of the table, whose bounds are the branch's own test and the one before.
--- Assumes nothing.
+-- `ports::port_at` meets its contract: each arm is a range of the table. Assumes nothing.
 use Prim.Native.Nat.{ℕ, ◌≤◌}
 use mathlib.Core.Path.{◌≡◌}
 use native.Mathlib.Omega.{arith}
@@ -15,92 +14,92 @@ use Rattle.ports.proofs.port_at.Goals as goal
 port-at-last : (q : ℕ) → ltin ≤ q → Ltin ≡ port_at q
 port-at-last q l = elim (dec_lt q ports_per_tile) [ yes h ↦ port_at_range 29 q l h | no h ↦ port_at_past q (omega arith) ]
 
-pub returns-then-q-lt-SP4_H_R : goal.returns-then-q-lt-SP4_H_R
-returns-then-q-lt-SP4_H_R c = rw sub-zero at (port_at_range 0 c.args.q (omega arith) c.if-q-lt-SP4_H_R.true)
+pub returns-in-0-to-47 : goal.returns-in-0-to-47
+returns-in-0-to-47 c = rw sub-zero at (port_at_range 0 c.args.q (omega arith) (omega arith))
 
-pub returns-then-q-lt-SP4_V_T : goal.returns-then-q-lt-SP4_V_T
-returns-then-q-lt-SP4_V_T c = port_at_range 1 _ c.if-q-lt-SP4_H_R.false c.if-q-lt-SP4_V_T.true
+pub returns-in-48-to-95 : goal.returns-in-48-to-95
+returns-in-48-to-95 c = port_at_range 1 c.args.q (omega arith) (omega arith)
 
-pub returns-then-q-lt-SP4_V_B : goal.returns-then-q-lt-SP4_V_B
-returns-then-q-lt-SP4_V_B c = port_at_range 2 _ c.if-q-lt-SP4_V_T.false c.if-q-lt-SP4_V_B.true
+pub returns-in-96-to-143 : goal.returns-in-96-to-143
+returns-in-96-to-143 c = port_at_range 2 c.args.q (omega arith) (omega arith)
 
-pub returns-then-q-lt-SP4_R_V_B : goal.returns-then-q-lt-SP4_R_V_B
-returns-then-q-lt-SP4_R_V_B c = port_at_range 3 _ c.if-q-lt-SP4_V_B.false c.if-q-lt-SP4_R_V_B.true
+pub returns-in-144-to-191 : goal.returns-in-144-to-191
+returns-in-144-to-191 c = port_at_range 3 c.args.q (omega arith) (omega arith)
 
-pub returns-then-q-lt-SP12_H_L : goal.returns-then-q-lt-SP12_H_L
-returns-then-q-lt-SP12_H_L c = port_at_range 4 _ c.if-q-lt-SP4_R_V_B.false c.if-q-lt-SP12_H_L.true
+pub returns-in-192-to-239 : goal.returns-in-192-to-239
+returns-in-192-to-239 c = port_at_range 4 c.args.q (omega arith) (omega arith)
 
-pub returns-then-q-lt-SP12_H_R : goal.returns-then-q-lt-SP12_H_R
-returns-then-q-lt-SP12_H_R c = port_at_range 5 _ c.if-q-lt-SP12_H_L.false c.if-q-lt-SP12_H_R.true
+pub returns-in-240-to-263 : goal.returns-in-240-to-263
+returns-in-240-to-263 c = port_at_range 5 c.args.q (omega arith) (omega arith)
 
-pub returns-then-q-lt-SP12_V_T : goal.returns-then-q-lt-SP12_V_T
-returns-then-q-lt-SP12_V_T c = port_at_range 6 _ c.if-q-lt-SP12_H_R.false c.if-q-lt-SP12_V_T.true
+pub returns-in-264-to-287 : goal.returns-in-264-to-287
+returns-in-264-to-287 c = port_at_range 6 c.args.q (omega arith) (omega arith)
 
-pub returns-then-q-lt-SP12_V_B : goal.returns-then-q-lt-SP12_V_B
-returns-then-q-lt-SP12_V_B c = port_at_range 7 _ c.if-q-lt-SP12_V_T.false c.if-q-lt-SP12_V_B.true
+pub returns-in-288-to-311 : goal.returns-in-288-to-311
+returns-in-288-to-311 c = port_at_range 7 c.args.q (omega arith) (omega arith)
 
-pub returns-then-q-lt-LOCAL : goal.returns-then-q-lt-LOCAL
-returns-then-q-lt-LOCAL c = port_at_range 8 _ c.if-q-lt-SP12_V_B.false c.if-q-lt-LOCAL.true
+pub returns-in-312-to-335 : goal.returns-in-312-to-335
+returns-in-312-to-335 c = port_at_range 8 c.args.q (omega arith) (omega arith)
 
-pub returns-then-q-lt-GLB2LOCAL : goal.returns-then-q-lt-GLB2LOCAL
-returns-then-q-lt-GLB2LOCAL c = port_at_range 9 _ c.if-q-lt-LOCAL.false c.if-q-lt-GLB2LOCAL.true
+pub returns-in-336-to-367 : goal.returns-in-336-to-367
+returns-in-336-to-367 c = port_at_range 9 c.args.q (omega arith) (omega arith)
 
-pub returns-then-q-lt-IN : goal.returns-then-q-lt-IN
-returns-then-q-lt-IN c = port_at_range 10 _ c.if-q-lt-GLB2LOCAL.false c.if-q-lt-IN.true
+pub returns-in-368-to-371 : goal.returns-in-368-to-371
+returns-in-368-to-371 c = port_at_range 10 c.args.q (omega arith) (omega arith)
 
-pub returns-then-q-lt-OUT : goal.returns-then-q-lt-OUT
-returns-then-q-lt-OUT c = port_at_range 11 _ c.if-q-lt-IN.false c.if-q-lt-OUT.true
+pub returns-in-372-to-403 : goal.returns-in-372-to-403
+returns-in-372-to-403 c = port_at_range 11 c.args.q (omega arith) (omega arith)
 
-pub returns-then-q-lt-NEIGH_BNL : goal.returns-then-q-lt-NEIGH_BNL
-returns-then-q-lt-NEIGH_BNL c = port_at_range 12 _ c.if-q-lt-OUT.false c.if-q-lt-NEIGH_BNL.true
+pub returns-in-404-to-411 : goal.returns-in-404-to-411
+returns-in-404-to-411 c = port_at_range 12 c.args.q (omega arith) (omega arith)
 
-pub returns-then-q-lt-NEIGH_BOT : goal.returns-then-q-lt-NEIGH_BOT
-returns-then-q-lt-NEIGH_BOT c = port_at_range 13 _ c.if-q-lt-NEIGH_BNL.false c.if-q-lt-NEIGH_BOT.true
+pub returns-in-412-to-419 : goal.returns-in-412-to-419
+returns-in-412-to-419 c = port_at_range 13 c.args.q (omega arith) (omega arith)
 
-pub returns-then-q-lt-NEIGH_BNR : goal.returns-then-q-lt-NEIGH_BNR
-returns-then-q-lt-NEIGH_BNR c = port_at_range 14 _ c.if-q-lt-NEIGH_BOT.false c.if-q-lt-NEIGH_BNR.true
+pub returns-in-420-to-427 : goal.returns-in-420-to-427
+returns-in-420-to-427 c = port_at_range 14 c.args.q (omega arith) (omega arith)
 
-pub returns-then-q-lt-NEIGH_LFT : goal.returns-then-q-lt-NEIGH_LFT
-returns-then-q-lt-NEIGH_LFT c = port_at_range 15 _ c.if-q-lt-NEIGH_BNR.false c.if-q-lt-NEIGH_LFT.true
+pub returns-in-428-to-435 : goal.returns-in-428-to-435
+returns-in-428-to-435 c = port_at_range 15 c.args.q (omega arith) (omega arith)
 
-pub returns-then-q-lt-NEIGH_RGT : goal.returns-then-q-lt-NEIGH_RGT
-returns-then-q-lt-NEIGH_RGT c = port_at_range 16 _ c.if-q-lt-NEIGH_LFT.false c.if-q-lt-NEIGH_RGT.true
+pub returns-in-436-to-443 : goal.returns-in-436-to-443
+returns-in-436-to-443 c = port_at_range 16 c.args.q (omega arith) (omega arith)
 
-pub returns-then-q-lt-NEIGH_TNL : goal.returns-then-q-lt-NEIGH_TNL
-returns-then-q-lt-NEIGH_TNL c = port_at_range 17 _ c.if-q-lt-NEIGH_RGT.false c.if-q-lt-NEIGH_TNL.true
+pub returns-in-444-to-451 : goal.returns-in-444-to-451
+returns-in-444-to-451 c = port_at_range 17 c.args.q (omega arith) (omega arith)
 
-pub returns-then-q-lt-NEIGH_TOP : goal.returns-then-q-lt-NEIGH_TOP
-returns-then-q-lt-NEIGH_TOP c = port_at_range 18 _ c.if-q-lt-NEIGH_TNL.false c.if-q-lt-NEIGH_TOP.true
+pub returns-in-452-to-459 : goal.returns-in-452-to-459
+returns-in-452-to-459 c = port_at_range 18 c.args.q (omega arith) (omega arith)
 
-pub returns-then-q-lt-NEIGH_TNR : goal.returns-then-q-lt-NEIGH_TNR
-returns-then-q-lt-NEIGH_TNR c = port_at_range 19 _ c.if-q-lt-NEIGH_TOP.false c.if-q-lt-NEIGH_TNR.true
+pub returns-in-460-to-467 : goal.returns-in-460-to-467
+returns-in-460-to-467 c = port_at_range 19 c.args.q (omega arith) (omega arith)
 
-pub returns-then-q-lt-CLK : goal.returns-then-q-lt-CLK
-returns-then-q-lt-CLK c = port_at_range 20 _ c.if-q-lt-NEIGH_TNR.false c.if-q-lt-CLK.true
+pub returns-in-468-to-475 : goal.returns-in-468-to-475
+returns-in-468-to-475 c = port_at_range 20 c.args.q (omega arith) (omega arith)
 
-pub returns-then-q-lt-CEN : goal.returns-then-q-lt-CEN
-returns-then-q-lt-CEN c = port_at_range 21 _ c.if-q-lt-CLK.false c.if-q-lt-CEN.true
+pub returns-in-476 : goal.returns-in-476
+returns-in-476 c = port_at_range 21 c.args.q (omega arith) (omega arith)
 
-pub returns-then-q-lt-S_R : goal.returns-then-q-lt-S_R
-returns-then-q-lt-S_R c = port_at_range 22 _ c.if-q-lt-CEN.false c.if-q-lt-S_R.true
+pub returns-in-477 : goal.returns-in-477
+returns-in-477 c = port_at_range 22 c.args.q (omega arith) (omega arith)
 
-pub returns-then-q-lt-GLB_NETWK : goal.returns-then-q-lt-GLB_NETWK
-returns-then-q-lt-GLB_NETWK c = port_at_range 23 _ c.if-q-lt-S_R.false c.if-q-lt-GLB_NETWK.true
+pub returns-in-478 : goal.returns-in-478
+returns-in-478 c = port_at_range 23 c.args.q (omega arith) (omega arith)
 
-pub returns-then-q-lt-CARRY_IN : goal.returns-then-q-lt-CARRY_IN
-returns-then-q-lt-CARRY_IN c = port_at_range 24 _ c.if-q-lt-GLB_NETWK.false c.if-q-lt-CARRY_IN.true
+pub returns-in-479-to-486 : goal.returns-in-479-to-486
+returns-in-479-to-486 c = port_at_range 24 c.args.q (omega arith) (omega arith)
 
-pub returns-then-q-lt-CARRY_IN_MUX : goal.returns-then-q-lt-CARRY_IN_MUX
-returns-then-q-lt-CARRY_IN_MUX c = port_at_range 25 _ c.if-q-lt-CARRY_IN.false c.if-q-lt-CARRY_IN_MUX.true
+pub returns-in-487 : goal.returns-in-487
+returns-in-487 c = port_at_range 25 c.args.q (omega arith) (omega arith)
 
-pub returns-then-q-lt-COUT : goal.returns-then-q-lt-COUT
-returns-then-q-lt-COUT c = port_at_range 26 _ c.if-q-lt-CARRY_IN_MUX.false c.if-q-lt-COUT.true
+pub returns-in-488 : goal.returns-in-488
+returns-in-488 c = port_at_range 26 c.args.q (omega arith) (omega arith)
 
-pub returns-then-q-lt-LOUT : goal.returns-then-q-lt-LOUT
-returns-then-q-lt-LOUT c = port_at_range 27 _ c.if-q-lt-COUT.false c.if-q-lt-LOUT.true
+pub returns-in-489-to-496 : goal.returns-in-489-to-496
+returns-in-489-to-496 c = port_at_range 27 c.args.q (omega arith) (omega arith)
 
-pub returns-then-q-lt-LTIN : goal.returns-then-q-lt-LTIN
-returns-then-q-lt-LTIN c = port_at_range 28 _ c.if-q-lt-LOUT.false c.if-q-lt-LTIN.true
+pub returns-in-497-to-504 : goal.returns-in-497-to-504
+returns-in-497-to-504 c = port_at_range 28 c.args.q (omega arith) (omega arith)
 
-pub returns : goal.returns
-returns c = port-at-last _ c.if-q-lt-LTIN.false
+pub returns-in_default : goal.returns-in_default
+returns-in_default c = port-at-last _ (omega arith)

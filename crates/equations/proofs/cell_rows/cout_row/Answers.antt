@@ -12,8 +12,8 @@ returns-then-cell c =
     c.majority_row.ensures ∙ sym (carry_row a.b a.st.now a.w a.tile a.i (on ∙ c.if-cell.true))
 
 -- it is not
-pub returns : goal.returns
-returns c =
+pub returns-else-cell : goal.returns-else-cell
+returns-else-cell c =
     let a = c.args in
     let on = sym (ap (λ (cell : Cell). cell.carry) c.cell_at-cell.ensures) in
     c.plain_row.ensures ∙ sym (no_carry_row a.b a.st.now a.w a.tile a.i (on ∙ c.if-cell.false))

@@ -19,13 +19,13 @@ returns-then-tile_setting-eq1-2 c =
     c.plain_row-then-tile_setting-eq1-2.ensures ∙ ap (plain_row copy_kind a.w) c.tile_wire.ensures
     ∙ sym
     (chain_row a.b a.st.now a.w a.tile (ne_eqb _ _ (λ e. c.if-tile_setting-eq1.false (c.tile_setting.ensures ∙ e)))
-    (eq-eqb _ _ (sym c.tile_setting-2.ensures ∙ c.if-tile_setting-eq1-2.true)))
+    (eq-eqb _ _ (sym c.tile_setting-else-tile_setting-eq1.ensures ∙ c.if-tile_setting-eq1-2.true)))
 
 -- neither
-pub returns : goal.returns
-returns c =
+pub returns-else-tile_setting-eq1-2 : goal.returns-else-tile_setting-eq1-2
+returns-else-tile_setting-eq1-2 c =
     let a = c.args in
-    c.plain_row-2.ensures
+    c.plain_row-else-tile_setting-eq1-2.ensures
     ∙ sym
     (unset_row a.b a.st.now a.w a.tile (ne_eqb _ _ (λ e. c.if-tile_setting-eq1.false (c.tile_setting.ensures ∙ e)))
-    (ne_eqb _ _ (λ e. c.if-tile_setting-eq1-2.false (c.tile_setting-2.ensures ∙ e))))
+    (ne_eqb _ _ (λ e. c.if-tile_setting-eq1-2.false (c.tile_setting-else-tile_setting-eq1.ensures ∙ e))))

@@ -12,8 +12,8 @@ returns-then-cell c =
     c.plain_row.ensures ∙ sym (flop_row a.b a.st.now a.w a.tile a.i (on ∙ c.if-cell.true))
 
 -- the lookup
-pub returns : goal.returns
-returns c =
+pub returns-else-cell : goal.returns-else-cell
+returns-else-cell c =
     let a = c.args in
     let on = sym (ap (λ (cell : Cell). cell.flipflop) c.cell_at-cell.ensures) in
     c.lookup_row.ensures ∙ sym (out_row a.b a.st.now a.w a.tile a.i (on ∙ c.if-cell.false))

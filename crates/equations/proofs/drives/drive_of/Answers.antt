@@ -10,13 +10,12 @@ use native.Mathlib.Omega.{arith}
 use Rattle.equations.proofs.drives.drive_of.Goals as goal
 
 -- a span
-pub returns-then-q-lt-LOCAL : goal.returns-then-q-lt-LOCAL
-returns-then-q-lt-LOCAL c = span_drive c.args.b c.args.p c.requires.1 c.if-q-lt-LOCAL.true
+pub returns-in-0-to-335 : goal.returns-in-0-to-335
+returns-in-0-to-335 c = span_drive c.args.b c.args.p c.requires.1 (omega arith)
 
 -- local, glb2local or in
-pub returns-then-q-lt-OUT : goal.returns-then-q-lt-OUT
-returns-then-q-lt-OUT c =
-    input_drive c.args.b c.args.p c.requires.1 c.if-q-lt-LOCAL.false c.if-q-lt-OUT.true
+pub returns-in-336-to-403 : goal.returns-in-336-to-403
+returns-in-336-to-403 c = input_drive c.args.b c.args.p c.requires.1 (omega arith) (omega arith)
 
 pub drive_at-requires : goal.drive_at-requires
 drive_at-requires c =
@@ -25,8 +24,8 @@ drive_at-requires c =
     (pre.0, tile_column_lt a.b a.p pre.1, tile_row_lt a.b a.p pre.1, name_within _ (a.p % ports_per_tile) (omega arith) c.port_at.ensures)
 
 -- any other port
-pub returns : goal.returns
+pub returns-in_default : goal.returns-in_default
 unfolding drive_of
-returns c =
+returns-in_default c =
     let a = c.args in
     c.drive_at.ensures ∙ ap (drive_at a.b (a.p / ports_per_tile % a.b.w) (a.p / ports_per_tile / a.b.w)) c.port_at.ensures

@@ -1,20 +1,14 @@
--- `table::find_entry` is `entry_of`. Invariant: the search from e on ends where the whole one does. Measure: the entries left.
--- Assumes nothing.
-use Rattle.lists.proofs.SearchLaws.{first_turn_hit, first_turn_skip, first_turn_end}
-use borrow.Author.Tests.{eq-eqb, ne_eqb}
-use native.Mathlib.Omega.{arith}
-use mathlib.Core.Path.{sym, ◌∙◌}
+-- `table::find_entry` is `entry_of`: the first of the group's entries with the pattern. Assumes nothing.
+use Rattle.std.proofs.Common.{◌≡◌, true, false, rules, tests, ap, ◌∙◌}
+use Rattle.std.proofs.lemmas.Iterator.{first_from_Range}
+use Rattle.lists.specs.Search.{first}
+use Rattle.lists.proofs.StdLaws.{found_or}
+use Rattle.routing.specs.LogicTile.{logic_tile}
+use Rattle.routing.specs.Table.{has_pattern}
 use Rattle.routing.proofs.table.find_entry.Goals as goal
 
--- entry e has the pattern
-pub returns-then-pattern-wanted : goal.returns-then-pattern-wanted
-returns-then-pattern-wanted c =
-    first_turn_hit _ _ _ _ c.loop-e.invariant.1 (omega arith) (eq-eqb _ _ (sym c.pattern.ensures ∙ c.if-pattern-wanted.true))
-
-pub loop-e-preserved : goal.loop-e-preserved
-loop-e-preserved c =
-    (omega arith, first_turn_skip _ _ _ _ c.loop-e.invariant.1 (omega arith) (ne_eqb _ _ (λ z. c.if-pattern-wanted.false (c.pattern.ensures ∙ z))))
-
--- none has
 pub returns : goal.returns
-returns c = first_turn_end _ _ _ _ c.loop-e.invariant.1 (omega arith)
+returns c =
+    let p = has_pattern logic_tile c.args.table.now c.args.g c.args.wanted in
+    let found = first_from_Range _ _ _ c.find.result (λ e. p e ≡ true) (λ e. p e ≡ false) c.find.ensures.ran (λ x q k. search (rules, tests)) (λ x q k. search (rules, tests)) in
+    c.unwrap_or.ensures ∙ found_or p c.entry_count-n.result c.find.result found ∙ ap (first p 0) c.entry_count-n.ensures

@@ -1,24 +1,31 @@
--- `lines::line_end` meets its contract. Invariant of both loops: the search from k on finds what the whole one does. Measure: the bytes left. Assumes nothing.
-use native.Mathlib.Omega.{arith}
-use borrow.Author.Tests.{eq-eqb, ne_eqb}
-use Rattle.lists.proofs.SearchLaws.{first_turn_hit, first_turn_skip, first_turn_end}
-use Rattle.texts.proofs.LineEndLaws.{first_turn_skip_four}
+-- `lines::line_end` meets its contract: none of the eights that were passed over has a line feed, and behind them the search looks at each byte. Assumes nothing.
+use Rattle.std.proofs.Common.{rules, ◌≡◌, ◌≤◌, eqb, length, ℕ, ◌*◌, ◌<◌, ◌∙◌, arith, drop, false, List, subst}
+use Rattle.std.specs.Prelude.{position}
+use Rattle.std.specs.Slice.Iter.{chunks_exact_rest, chunks_exact_size}
+use Rattle.std.specs.Iterator.Adapters.{take_while_source}
+use Rattle.std.proofs.lemmas.List.{take_rest}
+use Rattle.std.proofs.lemmas.Iterator.{YieldsList-from_slice}
+use Rattle.std.proofs.lemmas.Iterator.Search.{position_from_yields_List}
+use borrow.Author.Tests.{tests}
+use Rattle.texts.proofs.PassedLaws.{passed_plain, line_end_is, taken_twice}
+use Rattle.texts.proofs.LineEndLaws.{feed}
 use Rattle.texts.proofs.lines.line_end.Goals as goal
 
-pub loop-k-preserved : goal.loop-k-preserved
-loop-k-preserved c =
-    let more = c.loop-k-test.true in (
-      omega arith,
-      first_turn_skip_four _ _ _ _ c.loop-k.invariant.1 more (ne_eqb _ _ c.if-text-k-eq-LINE_END.false) (ne_eqb _ _ c.if-text-k-eq-LINE_END-2.false) (ne_eqb _ _ c.if-text-k-eq-LINE_END-3.false) (ne_eqb _ _ c.if-text-k-eq-LINE_END-4.false),
-    )
-
-pub returns-then-text-k-eq-LINE_END-5 : goal.returns-then-text-k-eq-LINE_END-5
-returns-then-text-k-eq-LINE_END-5 c =
-    first_turn_hit _ _ _ _ c.loop-k-2.invariant c.loop-k-2-test.true (eq-eqb _ _ c.if-text-k-eq-LINE_END-5.true)
-
-pub loop-k-2-preserved : goal.loop-k-2-preserved
-loop-k-2-preserved c =
-    first_turn_skip _ _ _ _ c.loop-k-2.invariant c.loop-k-2-test.true (ne_eqb _ _ c.if-text-k-eq-LINE_END-5.false)
-
 pub returns : goal.returns
-returns c = first_turn_end _ _ _ _ c.loop-k-2.invariant c.loop-k-2-test.false
+returns c =
+    let text = c.args.text.now in
+    let at = c.args.at in
+    let n = c.count-passed.result in
+    let rest : List ℕ = drop at text in
+    let front = take_rest text at in
+    let behind = taken_twice text at (8 * n) in
+    let ran = c.count-passed.ensures.ran in
+    let source : chunks_exact_rest (take_while_source c.take_while.result) ≡ rest = cc in
+    let size : chunks_exact_size (take_while_source c.take_while.result) ≡ 8 = cc in
+    let plain = passed_plain _ _ (λ x b q k. search (rules, tests)) ran.0 c.take_while.result _ c.take_while.ensures.closure size ran.1.1.1 in
+    let none : (k : ℕ) → k < 8 * n → feed rest k ≡ false = λ k l. subst (λ (xs : List ℕ). feed xs k ≡ false) source (plain k (omega (arith, ran.2, l))) in
+    let found : c.position.result ≡ position (λ x. eqb x 10) (drop (8 * n) rest) =
+    position_from_yields_List (λ x. eqb x 10) _ _ _ c.position.ensures.ran (YieldsList-from_slice _ (c.iter.ensures.rest ∙ behind)) (λ x b q k. search (rules, tests)) in
+    let inside : 8 * n ≤ length rest = search rules in
+    let end = line_end_is text at (8 * n) inside none in
+    cc

@@ -1,15 +1,14 @@
--- `lines::word_length` meets its contract. Invariant: the search from k on finds what the whole one does. Measure: the bytes left. Assumes nothing.
-use borrow.Author.Tests.{eq-eqb, ne_eqb}
-use Rattle.lists.proofs.SearchLaws.{first_turn_hit, first_turn_skip, first_turn_end}
+-- `lines::word_length` meets its contract: std's word for the first place, as ours. Assumes nothing.
+use Rattle.std.proofs.Common.{rules, eqb, ap, ◌∙◌, length}
+use Rattle.std.specs.Prelude.{unwrap_or}
+use Rattle.std.proofs.lemmas.Iterator.{YieldsList-from_slice}
+use Rattle.std.proofs.lemmas.Iterator.Search.{position_from_yields_List}
+use borrow.Author.Tests.{tests}
+use Rattle.lists.proofs.StdLaws.{position_or-is}
 use Rattle.texts.proofs.lines.word_length.Goals as goal
 
-pub returns-then-line-k-eq-SPACE : goal.returns-then-line-k-eq-SPACE
-returns-then-line-k-eq-SPACE c =
-    first_turn_hit _ _ _ _ c.loop-k.invariant c.loop-k-test.true (eq-eqb _ _ c.if-line-k-eq-SPACE.true)
-
-pub loop-k-preserved : goal.loop-k-preserved
-loop-k-preserved c =
-    first_turn_skip _ _ _ _ c.loop-k.invariant c.loop-k-test.true (ne_eqb _ _ c.if-line-k-eq-SPACE.false)
-
 pub returns : goal.returns
-returns c = first_turn_end _ _ _ _ c.loop-k.invariant c.loop-k-test.false
+returns c =
+    let line = c.args.line.now in
+    let found = position_from_yields_List (λ x. eqb x 32) _ _ _ c.position.ensures.ran (YieldsList-from_slice line (cc)) (λ x b q k. search (rules, tests)) in
+    c.unwrap_or.ensures ∙ ap (λ o. unwrap_or o (length line)) found ∙ position_or-is (λ x. eqb x 32) 0 line

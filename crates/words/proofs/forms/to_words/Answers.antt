@@ -1,4 +1,4 @@
--- `to_words` meets its contract. Invariant: the first i words are runs of the bytes' bits (`Filled`, `word_is`). Measure: the words left. Assumes nothing.
+-- `to_words` meets its contract. Invariant: the first i words are runs of the bytes' bits (`Filled`, `word_is`). Assumes nothing.
 use Rattle.words.proofs.ConvertLaws.{word_is}
 use Rattle.words.specs.Forms.{words_of}
 use Rattle.words.specs.Packed.{packed}

@@ -1,14 +1,15 @@
--- `first_stray` meets its contract. Invariant: the words from i on decide. Measure: the words left. Assumes nothing.
-use Rattle.lists.proofs.SearchLaws.{first_turn_hit, first_turn_skip, first_turn_end}
-use borrow.Author.Tests.{le-leb, lt-leb}
-use native.Mathlib.Omega.{arith}
+-- `first_stray` meets its contract: std's word for the first place, as ours. Assumes nothing.
+use Rattle.std.proofs.Common.{rules, leb, ◌^◌, ap, ◌∙◌, length}
+use Rattle.std.specs.Prelude.{unwrap_or}
+use Rattle.std.proofs.lemmas.Iterator.{YieldsList-from_slice}
+use Rattle.std.proofs.lemmas.Iterator.Search.{position_from_yields_List}
+use borrow.Author.Tests.{tests}
+use Rattle.lists.proofs.StdLaws.{position_or-is}
+use Rattle.ports.specs.Lengths.{columns}
 use Rattle.words.proofs.stray.first_stray.Goals as goal
 
-pub returns-then-words-i-ge-PAST_COLUMNS : goal.returns-then-words-i-ge-PAST_COLUMNS
-returns-then-words-i-ge-PAST_COLUMNS c = first_turn_hit _ _ _ _ c.loop-i.invariant.1 (omega arith) (le-leb _ _ c.if-words-i-ge-PAST_COLUMNS.true)
-
-pub loop-i-preserved : goal.loop-i-preserved
-loop-i-preserved c = (omega arith, first_turn_skip _ _ _ _ c.loop-i.invariant.1 (omega arith) (lt-leb _ _ c.if-words-i-ge-PAST_COLUMNS.false))
-
 pub returns : goal.returns
-returns c = first_turn_end _ _ _ _ c.loop-i.invariant.1 (omega arith)
+returns c =
+    let words = c.args.words.now in
+    let found = position_from_yields_List (λ word. leb (2 ^ columns) word) _ _ _ c.position.ensures.ran (YieldsList-from_slice words (cc)) (λ x b q k. search (rules, tests)) in
+    c.unwrap_or.ensures ∙ ap (λ o. unwrap_or o (length words)) found ∙ position_or-is (λ word. leb (2 ^ columns) word) 0 words

@@ -1,4 +1,4 @@
--- The members determine the words, so that what `empty`, `insert` and `remove` promise leaves nothing open. Main law: `words_unique`.
+-- The members determine the words, so that what `new`, `insert` and `remove` promise leaves nothing open. Main law: `words_unique`.
 use mathlib.Core.Path.{◌≡◌, sym, ap, ◌∙◌}
 use mathlib.Core.List.{List}
 use mathlib.Core.Logic.{⊎_elim, ◌≢◌}

@@ -3,14 +3,13 @@
 #![tactic(auto)]
 
 ghost use Rattle.std.specs.Prelude.{◌≡◌, true, false, ◌≢◌, ℕ, ◌<◌};
-ghost use Rattle.lists.specs.Search.{first};
-ghost use Rattle.bitset.specs.Bitset.{Bitset, DigitWritten, has, word_digits, word_count, numbers};
+ghost use Rattle.lists.specs.Search.{first, below};
+ghost use Rattle.bitset.specs.Bitset.{DigitWritten, has, word_digits, word_count, numbers};
+
+use std::marker::Model;
 
 // How many words a set has.
-pub const WORDS: usize = 1089;
-
-// Members are below this.
-pub const NUMBERS: usize = 65536;
+const WORDS: usize = 1089;
 
 // How many digits a word has.
 const DIGITS: usize = 64;
@@ -18,12 +17,22 @@ const DIGITS: usize = 64;
 // The first word with members.
 const LEAVES: usize = 65;
 
-// The set with no member.
-pub fn empty() -> [u64; WORDS]
-    ensures kept { Bitset result }
-    ensures none { (m : ℕ) → has result m ≡ false }
-{
-    [0; WORDS]
+// A set of numbers below 65,536.
+#[derive(Drop)]
+pub struct Bitset {
+    words: [u64; WORDS],
+}
+
+// A clause sees the words, and asks of them which numbers are members (`has`).
+impl Model for Bitset {
+    ghost use Rattle.std.specs.Prelude.{List, ℕ};
+    ghost use Rattle.bitset.specs.Bitset.{Bitset};
+
+    ghost Value = { List ℕ };
+
+    ghost view = { λ s. s.words };
+
+    ghost invariant = { λ s. Bitset s.words };
 }
 
 // Digit k of word i becomes 1.
@@ -31,7 +40,7 @@ fn raise(words: &mut [u64; WORDS], i: usize, k: usize)
     requires { (i < word_count) × (k < word_digits) }
     ensures { DigitWritten words.old words.new i k 1 }
 {
-    words[i] = words[i] | (1 << k);
+    words[i] |= 1 << k;
 }
 
 // Digit k of word i becomes 0.
@@ -42,53 +51,59 @@ fn lower(words: &mut [u64; WORDS], i: usize, k: usize)
     words[i] = digits::without_digit(words[i], k);
 }
 
-// n becomes a member.
-// Rules out: touching another number; a member that lowest does not see.
-pub fn insert(words: &mut [u64; WORDS], n: usize)
-    requires { Bitset words.old × (n < numbers) }
-    ensures kept { Bitset words.new }
-    ensures here { has words.new n ≡ true }
-    ensures others { (m : ℕ) → m ≢ n → has words.new m ≡ has words.old m }
-{
-    let u = n / DIGITS;
-    let v = u / DIGITS;
-    raise(words, LEAVES + u, n % DIGITS);
-    raise(words, 1 + v, u % DIGITS);
-    raise(words, 0, v);
-}
+impl Bitset {
+    // The set with no member.
+    pub fn new() -> Self
+        ensures { (m : ℕ) → has result m ≡ false }
+    {
+        Bitset { words: [0; WORDS] }
+    }
 
-// n is no member any more. It need not have been one.
-// Rules out: touching another number; leading lowest to a word that has become 0.
-pub fn remove(words: &mut [u64; WORDS], n: usize)
-    requires { Bitset words.old × (n < numbers) }
-    ensures kept { Bitset words.new }
-    ensures here { has words.new n ≡ false }
-    ensures others { (m : ℕ) → m ≢ n → has words.new m ≡ has words.old m }
-{
-    let u = n / DIGITS;
-    lower(words, LEAVES + u, n % DIGITS);
-    if words[LEAVES + u] != 0 {
-        return;
+    // n becomes a member.
+    // Rules out: touching another number; a member that lowest does not see.
+    pub fn insert(&mut self, n: usize)
+        requires { n < numbers }
+        ensures here { has self.new n ≡ true }
+        ensures others { (m : ℕ) → m ≢ n → has self.new m ≡ has self.old m }
+    {
+        let u = n / DIGITS;
+        let v = u / DIGITS;
+        raise(&mut self.words, LEAVES + u, n % DIGITS);
+        raise(&mut self.words, 1 + v, u % DIGITS);
+        raise(&mut self.words, 0, v);
     }
-    let v = u / DIGITS;
-    lower(words, 1 + v, u % DIGITS);
-    if words[1 + v] != 0 {
-        return;
-    }
-    lower(words, 0, v);
-}
 
-// The lowest member; where there is none, NUMBERS.
-// Rules out: a higher member; a number that is none.
-pub fn lowest(words: &[u64; WORDS]) -> usize
-    requires { Bitset words.now }
-    ensures { result ≡ first (has words.now) 0 numbers }
-{
-    let top = words[0];
-    if top == 0 {
-        return NUMBERS;
+    // n is no member any more. It need not have been one.
+    // Rules out: touching another number; leading lowest to a word that has become 0.
+    pub fn remove(&mut self, n: usize)
+        requires { n < numbers }
+        ensures here { has self.new n ≡ false }
+        ensures others { (m : ℕ) → m ≢ n → has self.new m ≡ has self.old m }
+    {
+        let u = n / DIGITS;
+        lower(&mut self.words, LEAVES + u, n % DIGITS);
+        if self.words[LEAVES + u] != 0 {
+            return;
+        }
+        let v = u / DIGITS;
+        lower(&mut self.words, 1 + v, u % DIGITS);
+        if self.words[1 + v] != 0 {
+            return;
+        }
+        lower(&mut self.words, 0, v);
     }
-    let v = digits::lowest_digit(top);
-    let u = DIGITS * v + digits::lowest_digit(words[1 + v]);
-    DIGITS * u + digits::lowest_digit(words[LEAVES + u])
+
+    // The lowest member.
+    // Rules out: a higher member; a number that is none.
+    pub fn lowest(&self) -> Option<usize>
+        ensures { result ≡ below numbers (first (has self.now) 0 numbers) }
+    {
+        let top = self.words[0];
+        if top == 0 {
+            return None;
+        }
+        let v = digits::lowest_digit(top);
+        let u = DIGITS * v + digits::lowest_digit(self.words[1 + v]);
+        Some(DIGITS * u + digits::lowest_digit(self.words[LEAVES + u]))
+    }
 }

@@ -17,105 +17,85 @@ const HEAD: usize = 69;
 const GROUP: usize = 75;
 
 // Number k of those before the groups; `count` is the group count.
+#[tactic(auto, using(crate::proofs::BoundLaws::passive_count_lt, crate::proofs::BoundLaws::group_count_le), unfolding(crate::specs::Contents::head_number))]
 fn head_number(s: &[u8], count: usize, k: usize) -> u16
     requires { (count ≡ group_count s.now) × (k < 69) }
     ensures { result ≡ head_number s.now k }
 {
-    if k < 3 {
-        return quad(s, 2 + 4 * k);
-    }
     let passives = lines::passive_count(s);
-    if k == 3 {
-        return passives as u16;
+    match k {
+        0..3 => quad(s, 2 + 4 * k),
+        3 => passives as u16,
+        4..68 if k - 4 < passives => quad(s, 19 + 4 * (k - 4)),
+        4..68 => 0,
+        _ => count as u16,
     }
-    if k < 68 {
-        if k - 4 < passives {
-            return quad(s, 19 + 4 * (k - 4));
-        }
-        return 0;
-    }
-    count as u16
 }
 
 fn fill_head(s: &[u8], count: usize, head: &mut [u16])
     requires { (count ≡ group_count s.now) × (length head.old ≡ 69) }
     ensures { head.new ≡ tabulate (head_number s.now) 0 69 }
 {
-    let mut k = 0;
-    while k < HEAD {
-        head[k] = head_number(s, count, k);
-        k += 1;
+    for (k, number) in head.iter_mut().enumerate() {
+        *number = head_number(s, count, k);
     }
 }
 
 // Number e of a group's entries, patterns and sources in turn.
+#[tactic(auto, unfolding(crate::specs::Contents::entry_number))]
 fn entry_number(s: &[u8], at: usize, e: usize) -> u16
     requires { (at < 2 ^ 29) × (e < 64) }
     ensures { result ≡ entry_number s.now at e }
 {
     let from = at + 6 * (e / 2);
     if e % 2 == 0 {
-        return pair(s, from);
+        pair(s, from)
+    } else {
+        quad(s, from + 2)
     }
-    quad(s, from + 2)
 }
 
 // Number k of a group whose frame begins at a position.
+#[tactic(auto, using(crate::proofs::BoundLaws::position_count_lt, crate::proofs::BoundLaws::entry_count_lt), unfolding(crate::specs::Contents::group_number))]
 fn group_number(s: &[u8], at: usize, k: usize) -> u16
     requires { (at < 2 ^ 28) × (k < 75) }
     ensures { result ≡ group_number s.now at k }
 {
-    if k == 0 {
-        return quad(s, at + 2);
-    }
     let positions = lines::position_count(s, at);
-    if k == 1 {
-        return positions as u16;
-    }
-    if k < 10 {
-        if k - 2 < positions {
-            return quad(s, at + 8 + 4 * (k - 2));
-        }
-        return 0;
-    }
     let entries = lines::entry_count(s, at);
-    if k == 10 {
-        return entries as u16;
+    match k {
+        0 => quad(s, at + 2),
+        1 => positions as u16,
+        2..10 if k - 2 < positions => quad(s, at + 8 + 4 * (k - 2)),
+        2..10 => 0,
+        10 => entries as u16,
+        _ if (k - 11) / 2 < entries => entry_number(s, at + 10 + 4 * positions, k - 11),
+        _ => 0,
     }
-    if (k - 11) / 2 < entries {
-        return entry_number(s, at + 10 + 4 * positions, k - 11);
-    }
-    0
 }
 
 fn fill_group(s: &[u8], at: usize, group: &mut [u16])
     requires { (at < 2 ^ 28) × (length group.old ≡ 75) }
     ensures { group.new ≡ tabulate (group_number s.now at) 0 75 }
 {
-    let mut k = 0;
-    while k < GROUP {
-        group[k] = group_number(s, at, k);
-        k += 1;
+    for (k, number) in group.iter_mut().enumerate() {
+        *number = group_number(s, at, k);
     }
 }
 
+#[tactic(auto, using(crate::proofs::BoundLaws::passive_count_lt, crate::proofs::BoundLaws::group_digits_le, crate::proofs::BoundLaws::group_count_le, crate::proofs::FillLaws::filling_at_le))]
 fn fill_groups(s: &[u8], count: usize, rest: &mut [u16])
     requires { (count ≡ group_count s.now) × (length rest.old ≡ 75 * 512) }
     ensures { rest.new ≡ joined (group_numbers s.now) 512 }
 {
     let mut at = 20 + 4 * lines::passive_count(s);
-    let mut g = 0;
-    while g < 512 {
+    for g in 0..count {
         let from = GROUP * g;
         let to = from + GROUP;
-        if g < count {
-            fill_group(s, at, &mut rest[from..to]);
-            at += lines::group_digits(s, at) + 1;
-        } else {
-            lists::clear(&mut rest[from..to]);
-        }
-        g += 1;
+        fill_group(s, at, &mut rest[from..to]);
+        at += lines::group_digits(s, at) + 1;
     }
+    rest[GROUP * count..].fill(0);
 }
 
 // The routing table of an input that was parsed.
@@ -123,35 +103,32 @@ pub fn fill_table(s: &[u8], table: &mut [u16])
     requires { length table.old ≡ table_length }
     ensures { table.new ≡ table_of s.now }
 {
-    let found = count_groups(s);
-    let count = found.count;
+    let count = count_groups(s).count;
     fill_head(s, count, &mut table[..HEAD]);
     fill_groups(s, count, &mut table[HEAD..]);
 }
 
+#[tactic(auto, using(texts::proofs::HexLaws::pair_lt))]
 fn fill_tile(s: &[u8], at: usize, tile: &mut [u8])
     requires { (at < 2 ^ 28) × (length tile.old ≡ tile_bytes) }
     ensures { tile.new ≡ tabulate (λ j. pair_at s.now (at + 2 + 2 * j)) 0 tile_bytes }
 {
-    let mut j = 0;
-    while j < TILE_BYTES {
-        tile[j] = pair(s, at + 2 + 2 * j) as u8;
-        j += 1;
+    for (j, byte) in tile.iter_mut().enumerate() {
+        *byte = pair(s, at + 2 + 2 * j) as u8;
     }
 }
 
 // The bits of the n tiles of an input that was parsed.
+#[tactic(auto, using(crate::proofs::BoundLaws::size_at_le, crate::proofs::BoundLaws::size_digits_le))]
 pub fn fill_bits(s: &[u8], n: usize, bits: &mut [u8])
     requires { (n ≤ 9) × (length bits.old ≡ tile_bytes * n) }
     ensures { bits.new ≡ bits_of s.now n }
 {
     let found = count_groups(s);
     let start = found.end + lines::size_digits(s, found.end) + 1;
-    let mut t = 0;
-    while t < n {
+    for t in 0..n {
         let from = TILE_BYTES * t;
         let to = from + TILE_BYTES;
         fill_tile(s, start + 219 * t, &mut bits[from..to]);
-        t += 1;
     }
 }

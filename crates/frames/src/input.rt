@@ -1,6 +1,6 @@
 // An input of frames, line by line: the block's size, or the first line that is not as it should be.
 ghost use Rattle.std.specs.Prelude.{◌≡◌, ℕ, ◌+◌, ◌*◌, ◌^◌, ◌<◌, ◌≤◌, length, not};
-ghost use Rattle.lists.specs.Search.{first};
+ghost use Rattle.lists.specs.Search.{below, first};
 ghost use Rattle.refusal.specs.declared.Refusal.TheVariants.{Line};
 ghost use Rattle.frames.specs.Lines.{east_at, tile_line};
 ghost use Rattle.frames.specs.Input.{group_count, size_at, width, height, small, tiles_from, Opened, parsed};
@@ -25,45 +25,37 @@ pub struct Groups {
     pub end: usize,
 }
 
+// "at most 512 groups"
+const GROUPS: usize = 512;
+
 // The frames 03 behind a good line 02.
+#[tactic(auto, using(crate::proofs::BoundLaws::passive_count_lt, crate::proofs::BoundLaws::group_digits_le, crate::proofs::InputLaws::counting_le))]
 pub fn count_groups(s: &[u8]) -> Groups
     ensures count { result.count ≡ group_count s.now }
     ensures end { result.end ≡ size_at s.now }
 {
-    let mut at = 20 + 4 * lines::passive_count(s);
-    let mut g = 0;
-    while g < 512 {
-        if !lines::group_line(s, at) {
-            break;
+    let mut end = 20 + 4 * lines::passive_count(s);
+    for count in 0..GROUPS {
+        if !lines::group_line(s, end) {
+            return Groups { count, end };
         }
-        at += lines::group_digits(s, at) + 1;
-        g += 1;
+        end += lines::group_digits(s, end) + 1;
     }
-    Groups { count: g, end: at }
+    Groups { count: GROUPS, end }
 }
 
 fn is_small(n: u16) -> bool
     ensures { result ≡ small n }
 {
-    if n < 1 {
-        return false;
-    }
-    n <= 3
+    matches!(n, 1..=3)
 }
 
-// How many frames 05 stand from a position on, of n that are due.
-fn tile_count(s: &[u8], at: usize, n: usize) -> usize
+// The first frame 05 that is missing, of n that are due from a position on.
+fn missing_tile(s: &[u8], at: usize, n: usize) -> Option<usize>
     requires { (at < 2 ^ 29) × (n ≤ 9) }
-    ensures { result ≡ first (λ t. not (tile_line s.now (at + 219 * t))) 0 n }
+    ensures { result ≡ below n (first (λ t. not (tile_line s.now (at + 219 * t))) 0 n) }
 {
-    let mut t = 0;
-    while t < n {
-        if !lines::tile_line(s, at + 219 * t) {
-            break;
-        }
-        t += 1;
-    }
-    t
+    (0..n).find(|t| !lines::tile_line(s, at + 219 * *t))
 }
 
 fn line(n: usize) -> Parsed
@@ -74,24 +66,25 @@ fn line(n: usize) -> Parsed
 }
 
 // Behind a good block frame that has g groups before it, from a position on: the tiles that are due, and nothing more.
+#[tactic(auto, using(crate::proofs::BoundLaws::size_at_le, crate::proofs::BoundLaws::size_digits_le, crate::proofs::BoundLaws::group_count_le, crate::proofs::ParsedLaws::due_le))]
 fn parse_tiles(s: &[u8], g: usize, from: usize, w: u16, h: u16, east: u16) -> Parsed
     requires { Opened s.now × (g ≡ group_count s.now) × (from ≡ tiles_from s.now) × (w ≡ width s.now) × (h ≡ height s.now) ×
         (east ≡ east_at s.now (size_at s.now)) }
     ensures { result ≡ parsed s.now }
 {
-    let due = (h * w) as usize;
-    let tiles = tile_count(s, from, due);
-    if tiles < due {
-        return line(4 + g + tiles);
+    let due = usize::from(h * w);
+    if let Some(t) = missing_tile(s, from, due) {
+        return line(4 + g + t);
     }
     if s.len() != from + 219 * due {
         return line(4 + g + due);
     }
-    Parsed::Block(w as u32, h as u32, east as u32)
+    Parsed::Block(u32::from(w), u32::from(h), u32::from(east))
 }
 
 // Reads an input of frames. Grounds 11 and 1 as they are met.
 // Rules out: passing over an empty line; a second block frame; a last line that is not ended; a tile too few or too many.
+#[tactic(auto, using(crate::proofs::BoundLaws::size_at_le, crate::proofs::BoundLaws::size_digits_le, crate::proofs::BoundLaws::group_count_le))]
 pub fn parse(s: &[u8]) -> Parsed
     ensures answer { result ≡ parsed s.now }
     ensures says { ParsedSays s.now result }
@@ -102,18 +95,13 @@ pub fn parse(s: &[u8]) -> Parsed
     if !lines::passive_line(s) {
         return line(2);
     }
-    let found = count_groups(s);
-    let g = found.count;
-    let at = found.end;
+    let Groups { count: g, end: at } = count_groups(s);
     if !lines::size_line(s, at) {
         return line(3 + g);
     }
     let w = pair(s, at + 2);
     let h = pair(s, at + 4);
-    if !is_small(w) {
-        return Parsed::Refused(Refusal::WrongSize);
-    }
-    if !is_small(h) {
+    if !is_small(w) || !is_small(h) {
         return Parsed::Refused(Refusal::WrongSize);
     }
     let from = at + lines::size_digits(s, at) + 1;

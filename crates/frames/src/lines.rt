@@ -16,29 +16,17 @@ fn digits_at(s: &[u8], at: usize, n: usize) -> bool
     requires { (at < 2 ^ 31) × (n < 2 ^ 31) }
     ensures { result ≡ digits_at s.now at n }
 {
-    let mut k = 0;
-    while k < n {
-        if !is_digit(byte_at(s, at + k)) {
-            return false;
-        }
-        k += 1;
-    }
-    true
+    (0..n).all(|k| is_digit(byte_at(s, at + k)))
 }
 
 // The frame's number, n digits with it, and the line end.
 // Rules out: a line that is not ended; one digit more or less; lower case.
+#[tactic(auto, unfolding(crate::specs::Lines::is_line))]
 fn is_line(s: &[u8], at: usize, kind: u16, n: usize) -> bool
     requires { (at < 2 ^ 31) × (n < 2 ^ 31) }
     ensures { result ≡ is_line s.now at kind n }
 {
-    if pair(s, at) != kind {
-        return false;
-    }
-    if byte_at(s, at + n) != LINE_END {
-        return false;
-    }
-    digits_at(s, at, n)
+    pair(s, at) == kind && byte_at(s, at + n) == LINE_END && digits_at(s, at, n)
 }
 
 pub fn fields_line(s: &[u8]) -> bool
@@ -50,35 +38,35 @@ pub fn fields_line(s: &[u8]) -> bool
 pub fn passive_count(s: &[u8]) -> usize
     ensures { result ≡ passive_count s.now }
 {
-    pair(s, 17) as usize
+    usize::from(pair(s, 17))
 }
 
+#[tactic(auto, unfolding(crate::specs::Lines::passive_line))]
 pub fn passive_line(s: &[u8]) -> bool
     ensures { result ≡ passive_line s.now }
 {
     let count = passive_count(s);
-    if count > 64 {
-        return false;
-    }
-    is_line(s, 15, 2, 4 + 4 * count)
+    count <= 64 && is_line(s, 15, 2, 4 + 4 * count)
 }
 
 pub fn position_count(s: &[u8], at: usize) -> usize
     requires { at < 2 ^ 30 }
     ensures { result ≡ position_count s.now at }
 {
-    pair(s, at + 6) as usize
+    usize::from(pair(s, at + 6))
 }
 
+#[tactic(auto, using(crate::proofs::BoundLaws::position_count_lt))]
 pub fn entry_count(s: &[u8], at: usize) -> usize
     requires { at < 2 ^ 30 }
     ensures { result ≡ entry_count s.now at }
 {
     let positions = position_count(s, at);
-    pair(s, at + 8 + 4 * positions) as usize
+    usize::from(pair(s, at + 8 + 4 * positions))
 }
 
 // How many digits a group's frame has.
+#[tactic(auto, using(crate::proofs::BoundLaws::position_count_lt, crate::proofs::BoundLaws::entry_count_lt), unfolding(crate::specs::Lines::group_digits))]
 pub fn group_digits(s: &[u8], at: usize) -> usize
     requires { at < 2 ^ 30 }
     ensures { result ≡ group_digits s.now at }
@@ -86,51 +74,43 @@ pub fn group_digits(s: &[u8], at: usize) -> usize
     10 + 4 * position_count(s, at) + 6 * entry_count(s, at)
 }
 
+#[tactic(auto, using(crate::proofs::BoundLaws::group_digits_le), unfolding(crate::specs::Lines::group_line))]
 pub fn group_line(s: &[u8], at: usize) -> bool
     requires { at < 2 ^ 30 }
     ensures { result ≡ group_line s.now at }
 {
-    if position_count(s, at) > 8 {
-        return false;
-    }
-    if entry_count(s, at) > 32 {
-        return false;
-    }
-    is_line(s, at, 3, group_digits(s, at))
+    position_count(s, at) <= 8 && entry_count(s, at) <= 32 && is_line(s, at, 3, group_digits(s, at))
 }
 
 // How many digits the block frame has: the byte for the east column may be left out.
+#[tactic(auto, unfolding(crate::specs::Lines::size_digits))]
 pub fn size_digits(s: &[u8], at: usize) -> usize
     requires { at < 2 ^ 30 }
     ensures { result ≡ size_digits s.now at }
 {
-    if byte_at(s, at + 6) == LINE_END {
-        return 6;
-    }
-    8
+    if byte_at(s, at + 6) == LINE_END { 6 } else { 8 }
 }
 
 // That byte, 0 where it is left out.
+#[tactic(auto, unfolding(crate::specs::Lines::east_at))]
 pub fn east(s: &[u8], at: usize) -> u16
     requires { at < 2 ^ 30 }
     ensures { result ≡ east_at s.now at }
 {
     if byte_at(s, at + 6) == LINE_END {
-        return 0;
+        0
+    } else {
+        pair(s, at + 6)
     }
-    pair(s, at + 6)
 }
 
 // Rules out: a byte that is neither 00 nor 01; a second one.
-#[tactic(auto, using(crate::proofs::BoundLaws::size_line_over))]
+#[tactic(auto, using(crate::proofs::BoundLaws::size_digits_le), unfolding(crate::specs::Lines::size_line))]
 pub fn size_line(s: &[u8], at: usize) -> bool
     requires { at < 2 ^ 30 }
     ensures { result ≡ size_line s.now at }
 {
-    if east(s, at) > 1 {
-        return false;
-    }
-    is_line(s, at, 4, size_digits(s, at))
+    east(s, at) <= 1 && is_line(s, at, 4, size_digits(s, at))
 }
 
 pub fn tile_line(s: &[u8], at: usize) -> bool

@@ -173,6 +173,13 @@ module _ (p : ℕ → Bool) where
   found_or n None h = sym (first_none p n (λ k l. h k (omega arith) l))
   found_or n (Some i) h = sym (first_at p i n h.1 h.2 (λ k l. h.3 k (omega arith) l))
 
+  -- the same, where None is an answer of its own
+  pub found_below : (n : ℕ) (r : Option ℕ)
+      → MatchOption r ((k : ℕ) → 0 ≤ k → k < n → p k ≡ false) (λ i. (0 ≤ i) × (i < n) × (p i ≡ true) × ((k : ℕ) → 0 ≤ k → k < i → p k ≡ false))
+      → r ≡ below n (first p 0 n)
+  found_below n None h = sym (below_past n (first p 0 n) (let e = first_none p n (λ k l. h k (omega arith) l) in omega arith))
+  found_below n (Some i) h = sym (ap (below n) (first_at p i n h.1 h.2 (λ k l. h.3 k (omega arith) l)) ∙ below_is n i h.1)
+
   pub all_range-is : (a n : ℕ) → list_all p (range_with_len a n) ≡ all_from p a n
   unfolding all_from
   all_range-is a zero = refl

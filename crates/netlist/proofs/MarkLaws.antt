@@ -110,6 +110,11 @@ module _ (m : List ℕ) where
   pub only_listed_false : (w : ℕ) → get_or m w 0 ≢ 1 → listed (only_listed m) w ≡ false
   only_listed_false w ne = listed_false (only_listed m) w (only_listed_zero w ne)
 
+  -- the test in one equation
+  pub listed_only : (w : ℕ) → listed (only_listed m) w ≡ eqb (get_or m w 0) 1
+  listed_only w =
+      ⊎_elim (λ e. only_listed_true w e ∙ sym (eq-eqb _ _ e)) (λ ne. only_listed_false w ne ∙ sym (ne_eqb _ _ ne)) (eq_or_ne (get_or m w 0) 1)
+
   -- a wire that is not listed may remember anything
   pub only_listed_wait : (d v : ℕ) → get_or m d 0 ≢ 1 → v ≢ 1 → only_listed (set m d v) ≡ only_listed m
   unfolding only_listed

@@ -1,18 +1,22 @@
 -- Rows in a list: one read where it was written and elsewhere, and a list filled row by row. Main laws: `row_set_same`, `row_set_other`,
--- `row_rows`; `written_start`, `-step`, `-end`.
+-- `row_rows`; `written_start`, `-step`, `-end`, `-zeros`.
 use mathlib.Core.Path.{◌≡◌, refl, sym, ap, ◌∙◌}
 use mathlib.Core.Logic.{◌⊎◌, inl, inr, ◌≢◌}
 use mathlib.Core.List.{List, [], ◌∷◌}
-use Prim.Native.Nat.{ℕ, zero, suc, ◌+◌, ◌*◌, ◌<◌, ◌≤◌}
+use Prim.Native.Nat.{ℕ, zero, suc, ◌+◌, ◌-◌, ◌*◌, ◌<◌, ◌≤◌}
 use native.Mathlib.Omega.{arith}
 use native.Mathlib.Nat.{add-zero}
 use borrow.Author.Count.{below_more}
 use lib.ListN.{length, get_or, set, drop, length-set}
+use borrow.Rule.Slice.PartMut.{put_mid, mid_of}
 use lib.Seq.{get_or-set_same, get_or-set_other, get_or-take, get_or-drop, ext_get_or, sets, length-sets}
 use Rattle.lists.specs.Parts.{part}
+use Rattle.lists.specs.Tables.{zeros}
+use Rattle.lists.proofs.TableLaws.{zeros_at}
+use Rattle.lists.proofs.FillLaws.{zeroed_length, zeroed_front, zeroed_back}
 use Rattle.lists.proofs.PartLaws.{part_joined, part_length, joined_is, joined_length}
 use Rattle.lists.proofs.CaseLaws.{lt_or_le, eq_or_ne}
-use Rattle.netlist.specs.Rows.{row_length, row_at, Inside, set_row, numbers_of, rows_of}
+use Rattle.netlist.specs.Rows.{row_length, row_at, Inside, set_row, numbers_of, rows_of, zero_row}
 use Rattle.netlist.specs.declared.row.Row.{Row}
 
 -- ---- rows are equal by their numbers
@@ -141,3 +145,33 @@ module _ (f : ℕ → Row) (n : ℕ) where
       (joined_is row_length n (λ i. numbers_of (f i)) list h.long
       (λ k lk. ext_get_or 0 (numbers_of (f k)) (part row_length k list) (sym (part_length row_length k n list h.long (omega arith)))
       (λ j lj. ap (λ (r : Row). get_or (numbers_of r) j 0) (sym (h.written k (omega arith))) ∙ row_number list k j lj ∙ sym (part_number list k j lj))))
+
+  -- zeros behind the first i rows, where f has the unused row
+  module _ (i : ℕ) (list tail : List ℕ) (h : RowsWritten i list) (is : tail ≡ zeros (length (mid_of (row_length * i) (length list - row_length * i) list)))
+      (unused : (k : ℕ) → i ≤ k → f k ≡ zero_row) where
+    abbrev filled : List ℕ
+    filled = put_mid (row_length * i) (length list - row_length * i) list tail
+
+    whole : row_length * i + (length list - row_length * i) ≡ length list
+    whole = let e = h.long in let u = h.upto in omega arith
+
+    inside : row_length * i + (length list - row_length * i) ≤ length list
+    inside = let e = whole in omega arith
+
+    row_filled : (k : ℕ) → (k < i) ⊎ (i ≤ k) → row_at filled k ≡ f k
+    row_filled k (inl l) =
+        row_same filled list k k (λ j lj. zeroed_front list tail (row_length * i) (length list - row_length * i) inside is (row_length * k + j) (omega arith)) ∙ h.written k l
+    row_filled k (inr l) =
+        row_ext (row_at filled k) zero_row
+        (λ j lj. row_number filled k j lj ∙ zeroed_back list tail (row_length * i) (length list - row_length * i) whole is (row_length * k + j) (omega arith) ∙ sym (zeros_at row_length j))
+        ∙ sym (unused k l)
+
+    pub written_zeros : filled ≡ rows_of f n
+    written_zeros =
+        written_end n filled
+        (record {
+          upto = omega arith;
+          long = zeroed_length list tail (row_length * i) (length list - row_length * i) inside is ∙ h.long;
+          written = λ k l. row_filled k (lt_or_le k i);
+        })
+        (omega arith)

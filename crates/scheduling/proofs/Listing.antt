@@ -16,12 +16,12 @@ use Rattle.lists.proofs.TableLaws.{zeros_length}
 use Rattle.netlist.specs.Graph.{Graph}
 use Rattle.netlist.specs.Marks.{marks_after, unmarked, only_listed, max_wires}
 use Rattle.netlist.specs.Order.{next, order_from, order, order_marks}
-use Rattle.bitset.specs.Bitset.{Bitset, has}
+use Rattle.bitset.specs.Bitset.{has}
 use Rattle.scheduling.specs.Waiting.{Among, Chain}
-use Rattle.scheduling.specs.Due.{due_from, due_with, Resting, Found, Asleep, Woken}
-use Rattle.scheduling.specs.declared.order.Look.{Look}
+use Rattle.scheduling.specs.Due.{is_due, is_due_with, Resting, Found, Asleep, Woken}
+use Rattle.scheduling.specs.declared.order.Due.{Due}
 use Rattle.netlist.proofs.MarkLaws.{unmarked_zeros, only_listed_true, only_listed_list, only_listed_zeros}
-use Rattle.netlist.proofs.ReadyLaws.{ready_unlisted, next_le, next_ready, next_unmarked, order_from_step, order_from_end}
+use Rattle.netlist.proofs.ReadyLaws.{ready_unlisted, next_ready, next_unmarked, order_from_step, order_from_end}
 use Rattle.scheduling.proofs.WatchLaws.{watched_start, watched_list}
 use Rattle.scheduling.proofs.DueLaws.{due_asleep, due_lt, due_other, due_here}
 
@@ -80,95 +80,92 @@ module _ (g : Graph) (n : ℕ) where
       }
 
   -- the same of marks that also say who waits
-  pub record Going (out₀ m links woken out : List ℕ) (count from : ℕ) : Type 0 where
+  pub record Going (out₀ m links : List ℕ) (due : Due) (out : List ℕ) (count : ℕ) : Type 0 where
     pub listing : Listing out₀ (only_listed m) out count
-    pub resting : Resting g n m links woken from
+    pub resting : Resting g n m links due
 
-  pub going_start : (out links woken : List ℕ) → length links ≡ n → Bitset woken → ((k : ℕ) → has woken k ≡ false) → Going out (zeros n) links woken out 0 0
-  going_start out links woken e bits none = record {
+  pub going_start : (out links woken : List ℕ) → length links ≡ n → ((k : ℕ) → has woken k ≡ false)
+      → Going out (zeros n) links (record { woken = woken; from = 0 }) out 0
+  going_start out links woken e none = record {
     listing = rw (only_listed_zeros n) (listing_start out);
     resting = record {
-      watched = watched_start g n links (due_from woken 0) e (λ k l. or_right (has woken k) _ (rw (le-ltb k 0 (omega arith))));
-      early = record { bits = bits; upto = omega arith; early = λ k t. clash t (none k) };
+      watched = watched_start g n links (is_due (record { woken = woken; from = 0 })) e (λ k l. or_right (has woken k) _ (rw (le-ltb k 0 (omega arith))));
+      early = record { upto = omega arith; early = λ k t. clash t (none k) };
     };
   }
 
-  -- a search gave a wire, and left marks m of m₁, links and who is woken
-  module _ (out₀ m₁ links₁ woken₁ out : List ℕ) (count from : ℕ) (h : Going out₀ m₁ links₁ woken₁ out count from)
-      (m links woken : List ℕ) (look : Look) (found : Found g n m₁ m links woken look) where
-    abbrev w : ℕ
-    w = look.wire
-
+  -- a search gave wire w, or n, and left marks m of m₁, links and who is due
+  module _ (out₀ m₁ links₁ : List ℕ) (due₁ : Due) (out : List ℕ) (count : ℕ) (h : Going out₀ m₁ links₁ due₁ out count)
+      (m links : List ℕ) (due : Due) (w : ℕ) (found : Found g n m₁ m links due w) where
     is_next : w ≡ next g n (only_listed m)
     is_next = found.is_next ∙ ap (next g n) (sym found.kept)
 
     same : Listing out₀ (only_listed m) out count
     same = rw found.kept h.listing
 
-    going_lt : w ≢ n → w < n
-    going_lt ne = let b = next_le g n (only_listed m) in let q = is_next in omega arith
-
-    lt_next : w ≢ n → next g n (only_listed m) < n
-    lt_next ne = rw (← is_next) (going_lt ne)
+    lt_next : w < n → next g n (only_listed m) < n
+    lt_next l = rw (← is_next) l
 
     -- w is a wire, and there is room for it
-    pub going_within : w ≢ n → (w < n) × ((length m ≡ n) × ((count < n) × (length out ≡ length out₀)))
-    going_within ne =
+    pub going_within : w < n → (length m ≡ n) × ((count < n) × (length out ≡ length out₀))
+    going_within l =
         let s = same in
-        (going_lt ne, (found.watched.long, (omega (arith, next_unmarked g n (only_listed m) s.long (lt_next ne)), s.room)))
+        (found.watched.long, (omega (arith, next_unmarked g n (only_listed m) s.long (lt_next l)), s.room))
 
-    going_new : w ≢ n → get_or m w 0 ≢ 1
-    going_new ne e = clash (only_listed_true m w e) (rw is_next (ready_unlisted g (only_listed m) _ (next_ready g n (only_listed m) (lt_next ne))))
+    going_new : w < n → get_or m w 0 ≢ 1
+    going_new l e = clash (only_listed_true m w e) (rw is_next (ready_unlisted g (only_listed m) _ (next_ready g n (only_listed m) (lt_next l))))
 
     -- a wire that waits was looked at and is not woken
-    waiting : (k : ℕ) → due_with woken look k ≡ false → due_from woken look.from k ≡ false
-    waiting k f = sym (due_other woken look k (λ q. clash (due_here woken look k q) f)) ∙ f
+    waiting : (k : ℕ) → is_due_with due w k ≡ false → is_due due k ≡ false
+    waiting k f = sym (due_other due w k (λ q. clash (due_here due w k q) f)) ∙ f
 
     -- those that wait for w are asleep
-    pub going_asleep : w ≢ n → n ≤ max_wires → Asleep links (get_or m w 0) woken
-    going_asleep ne few =
-        let own = found.watched.chains w (going_lt ne) (going_new ne) in
+    pub going_asleep : w < n → n ≤ max_wires → Asleep links (get_or m w 0) due.woken
+    going_asleep l few =
+        let own = found.watched.chains w l (going_new l) in
         let e = found.watched.linked in
         record {
-          bits = found.early.bits;
           few = omega arith;
           members = own.0;
           chain = own.1.0;
-          asleep = λ k a. let f = own.1.1 k a in (let l = f.0 in omega arith, due_asleep woken look.from k (waiting k f.1.0));
+          asleep = λ k a. let f = own.1.1 k a in (let lk = f.0 in omega arith, due_asleep due k (waiting k f.1.0));
         }
 
     -- w is listed, and those that waited for it are woken
-    module _ (ne : w ≢ n) (fits : n ≤ length out₀) (woken' : List ℕ) (wake : Woken links (get_or m w 0) woken woken') where
-      more : (k : ℕ) → k < n → k ≢ w → due_with woken look k ≡ true → due_from woken' look.from k ≡ true
-      more k l other t =
-          ⊎_elim (λ a. or_left _ _ (wake.kept k a)) (λ b. or_right (has woken' k) _ b) (or_is (has woken k) _ (sym (due_other woken look k other) ∙ t))
+    module _ (l : w < n) (fits : n ≤ length out₀) (woken' : List ℕ) (wake : Woken links (get_or m w 0) due.woken woken') where
+      abbrev due' : Due
+      due' = record { woken = woken'; from = due.from }
 
-      only : (ks : List ℕ) → Chain links (get_or m w 0) ks → (k : ℕ) → k < n → due_from woken' look.from k ≡ true
-          → (due_with woken look k ≡ true) ⊎ Among k ks
-      only ks c k l t =
-          ⊎_elim (λ a. ⊎_elim (λ b. inl (or_right (eqb k w) _ (or_left (has woken k) _ b))) inr (wake.only ks c k a))
-          (λ b. inl (or_right (eqb k w) _ (or_right (has woken k) _ b))) (or_is (has woken' k) _ t)
+      more : (k : ℕ) → k < n → k ≢ w → is_due_with due w k ≡ true → is_due due' k ≡ true
+      more k lk other t =
+          ⊎_elim (λ a. or_left _ _ (wake.kept k a)) (λ b. or_right (has woken' k) _ b) (or_is (has due.woken k) _ (sym (due_other due w k other) ∙ t))
 
-      early : (k : ℕ) → has woken' k ≡ true → k < look.from
+      only : (ks : List ℕ) → Chain links (get_or m w 0) ks → (k : ℕ) → k < n → is_due due' k ≡ true
+          → (is_due_with due w k ≡ true) ⊎ Among k ks
+      only ks c k lk t =
+          ⊎_elim (λ a. ⊎_elim (λ b. inl (or_right (eqb k w) _ (or_left (has due.woken k) _ b))) inr (wake.only ks c k a))
+          (λ b. inl (or_right (eqb k w) _ (or_right (has due.woken k) _ b))) (or_is (has woken' k) _ t)
+
+      early : (k : ℕ) → has woken' k ≡ true → k < due.from
       early k t =
-          let own = found.watched.chains w (going_lt ne) (going_new ne) in
-          ⊎_elim (λ a. found.early.early k a) (λ a. due_lt woken look.from k (waiting k (own.1.1 k a).1.0)) (wake.only own.0 own.1.0 k t)
+          let own = found.watched.chains w l (going_new l) in
+          ⊎_elim (λ a. found.early.early k a) (λ a. due_lt due k (waiting k (own.1.1 k a).1.0)) (wake.only own.0 own.1.0 k t)
 
-      pub going_step : Going out₀ (set m w 1) links woken' (set out count w) (count + 1) look.from
+      pub going_step : Going out₀ (set m w 1) links due' (set out count w) (count + 1)
       going_step = record {
         listing =
             rw (only_listed_list m w)
             (subst (λ (x : ℕ). Listing out₀ (set (only_listed m) x 1) (set out count x) (count + 1)) (sym is_next)
-            (step out₀ (only_listed m) out count fits same (lt_next ne)));
+            (step out₀ (only_listed m) out count fits same (lt_next l)));
         resting = record {
           watched =
-              watched_list g n m links (due_with woken look) found.watched (due_from woken' look.from) w (going_lt ne) (going_new ne) more
+              watched_list g n m links (is_due_with due w) found.watched (is_due due') w l (going_new l) more
               (λ ks c k a. or_left _ _ (wake.all ks c k a)) only;
-          early = record { bits = wake.bits; upto = found.early.upto; early = early };
+          early = record { upto = found.early.upto; early = early };
         };
       }
 
-    pub going_end : n ≤ length out₀ → w ≡ n → (count ≡ length (order g n)) × ((out ≡ order g n ++ drop count out₀) × (only_listed m ≡ order_marks g n))
+    pub going_end : n ≤ length out₀ → n ≤ w → (count ≡ length (order g n)) × ((out ≡ order g n ++ drop count out₀) × (only_listed m ≡ order_marks g n))
     going_end fits q =
         let p = only_listed m in
         let stop : n ≤ next g n p = let r = is_next in omega arith in

@@ -1,15 +1,16 @@
 -- What the code that builds the list needs: whether a wire is left over, and that the rows written are those of the order.
 use mathlib.Core.Path.{◌≡◌, sym, ap, fun_ext, ◌∙◌}
-use mathlib.Core.Bool.{Bool, true, not, ◌&&◌}
-use mathlib.Core.Logic.{◌⊎◌, inl, inr, ◌≢◌}
+use mathlib.Core.Bool.{Bool, not, ◌&&◌}
+use mathlib.Core.Logic.{◌⊎◌, inl, inr}
 use mathlib.Core.List.{List, ◌++◌}
 use Prim.Native.Nat.{ℕ, ◌*◌, ◌<◌, ◌≤◌}
 use native.Mathlib.Omega.{arith}
 use borrow.Author.Tests.{lt-ltb, le-ltb, not-true, not-false}
 use lib.ListN.{length, get_or, length-append, get_or-append}
-use Rattle.lists.specs.Search.{first}
+use Rattle.std.specs.Prelude.{Option, Some, None}
+use Rattle.lists.specs.Search.{first, below}
+use Rattle.lists.proofs.BelowLaws.{below_first_some, below_first_none}
 use Rattle.lists.proofs.CaseLaws.{lt_or_le, and_left, and_right}
-use Rattle.lists.proofs.SearchLaws.{first_le, first_true, first_before}
 use Rattle.netlist.specs.Graph.{Graph, DependsOn, Closed}
 use Rattle.netlist.specs.Marks.{listed}
 use Rattle.netlist.specs.Order.{order, order_marks, AllListed}
@@ -29,31 +30,28 @@ answers_unique g n (Listed k) (Loop w) p q = absurd (p.1.1 w q.0 (q.1.here q.0))
 answers_unique g n (Loop v) (Listed l) p q = absurd (q.1.1 v p.0 (p.1.here p.0))
 answers_unique g n (Loop v) (Loop w) p q = ap Loop (lowest_loop_unique g n v w p.1 q.1)
 
--- ---- r is the first wire that is left over, or n
+-- ---- the first wire that is left over
 
-module _ (g : Graph) (n r many : ℕ) (m : List ℕ) (cl : Closed g n) (is : m ≡ order_marks g n) (long : many ≡ n)
-    (at : r ≡ first (λ w. g.wire w && not (listed m w)) 0 many) where
+module _ (g : Graph) (n many : ℕ) (m : List ℕ) (cl : Closed g n) (is : m ≡ order_marks g n) (long : many ≡ n) where
   abbrev over : ℕ → Bool
   over w = g.wire w && not (listed (order_marks g n) w)
 
-  found : r ≡ first over 0 n
-  found =
-      at ∙ ap (λ (k : ℕ). first (λ w. g.wire w && not (listed m w)) 0 k) long
-      ∙ ap (λ (t : List ℕ). first (λ w. g.wire w && not (listed t w)) 0 n) is
+  found : (r : Option ℕ) → r ≡ below many (first (λ w. g.wire w && not (listed m w)) 0 many) → below n (first over 0 n) ≡ r
+  found r at =
+      sym
+      (at ∙ ap (λ (k : ℕ). below k (first (λ w. g.wire w && not (listed m w)) 0 k)) long
+      ∙ ap (λ (t : List ℕ). below n (first (λ w. g.wire w && not (listed t w)) 0 n)) is)
 
-  pub none_left : r ≡ n → AllListed g n × ((v : ℕ) → v < n → DependsOn g v v → ⊥)
-  none_left e = (all, listed_no_loop g n cl all)
+  pub none_left : None ≡ below many (first (λ w. g.wire w && not (listed m w)) 0 many) → AllListed g n × ((v : ℕ) → v < n → DependsOn g v v → ⊥)
+  none_left at = (all, listed_no_loop g n cl all)
     where
       all : AllListed g n
-      all w l iw = not-false _ (rw iw at (first_before over 0 n w (omega arith) (let q = found in omega arith)))
+      all w l iw = not-false _ (rw iw at (below_first_none over n (found None at) w l))
 
-  pub one_left : r ≢ n → Looped g n
-  one_left ne =
-      let q = found in
-      let u = first_le over 0 n in
-      let l : r < n = omega arith in
-      let t : over r ≡ true = rw q (first_true over 0 n (omega arith)) in
-      stuck_loop g n (order_marks g n) cl (order_ended g n).1 r l (and_left (g.wire r) _ t) (not-true _ (and_right (g.wire r) _ t))
+  pub one_left : {r : ℕ} → Some r ≡ below many (first (λ w. g.wire w && not (listed m w)) 0 many) → Looped g n
+  one_left {r} at =
+      let h = below_first_some over n r (found (Some r) at) in
+      stuck_loop g n (order_marks g n) cl (order_ended g n).1 r h.0 (and_left (g.wire r) _ h.1) (not-true _ (and_right (g.wire r) _ h.1))
 
 -- ---- the rows of a list, from the wires in order
 

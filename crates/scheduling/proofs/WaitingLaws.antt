@@ -14,8 +14,7 @@ use Rattle.netlist.specs.Marks.{only_listed}
 use Rattle.netlist.specs.Order.{ready}
 use Rattle.netlist.specs.Rows.{row_at, operand_of, arity_of, graph_of}
 use Rattle.netlist.specs.declared.row.Row.{Row}
-use Rattle.netlist.proofs.GraphLaws.{row_arity}
-use Rattle.scheduling.specs.Waiting.{Among, Chain, Stuck}
+use Rattle.scheduling.specs.Waiting.{Among, Chain, Stuck, StuckRow}
 use Rattle.netlist.proofs.MarkLaws.{only_listed_false}
 use Rattle.netlist.proofs.ReadyLaws.{ready_waiting}
 
@@ -78,15 +77,11 @@ module _ (g : Graph) (m : List ℕ) (k : ℕ) where
   }
 
 -- where a row's wire is stuck
-module _ (rows : List ℕ) (w : ℕ) (row : Row) (is : row ≡ row_at rows w) (count : ℕ) (many : count ≡ arity_of row) where
-  pub row_stuck : (m : List ℕ) (j d : ℕ) → j < count → d ≡ operand_of row j → ((k : ℕ) → k < j → get_or m (operand_of row k) 0 ≡ 1) → get_or m d 0 ≢ 1
-      → Stuck (graph_of rows) m w d
-  row_stuck m j d l e before new =
-      let q = row_arity rows w row is count many in
-      record {
-        place = j;
-        within = omega arith;
-        here = ap (λ (r : Row). operand_of r j) (sym is) ∙ sym e;
-        before = λ k lk. subst (λ (x : Row). get_or m (operand_of x k) 0 ≡ 1) is (before k lk);
-        new = new;
-      }
+pub row_stuck : (rows : List ℕ) (w : ℕ) (row : Row) → row ≡ row_at rows w → (m : List ℕ) (d : ℕ) → StuckRow row m d → Stuck (graph_of rows) m w d
+row_stuck rows w row is m d s = record {
+  place = s.place;
+  within = subst (λ (r : Row). s.place < arity_of r) is s.within;
+  here = subst (λ (r : Row). operand_of r s.place ≡ d) is (sym s.here);
+  before = λ k lk. subst (λ (r : Row). get_or m (operand_of r k) 0 ≡ 1) is (s.before k lk);
+  new = s.new;
+}

@@ -11,7 +11,7 @@ use lib.ListN.{length, get_or}
 use Rattle.lists.specs.Search.{count_below}
 use Rattle.lists.proofs.CaseLaws.{cases, clash, eq_or_ne}
 use Rattle.lists.proofs.CountLaws.{count_lt}
-use Rattle.bitset.specs.Bitset.{Bitset, has, numbers}
+use Rattle.bitset.specs.Bitset.{has, numbers}
 use Rattle.scheduling.specs.Waiting.{Among, Chain}
 use Rattle.scheduling.specs.Due.{Asleep, Woken}
 use Rattle.scheduling.proofs.WaitingLaws.{chain_unique}
@@ -50,7 +50,6 @@ module _ (links : List ℕ) (mark : ℕ) (woken₀ : List ℕ) where
   module _ (woken : List ℕ) (at : ℕ) (h : Waking links mark woken₀ woken at) where
     pub waking_end : at ≤ 1 → Woken links mark woken₀ woken
     waking_end l = record {
-      bits = h.rest.bits;
       kept = h.kept;
       all = λ ks c k m.
           ⊎_elim (λ t. t) (λ r. absurd (subst (Among k) (chain_none links at h.rest.members h.rest.chain l) r)) (h.all ks c k m);
@@ -71,7 +70,7 @@ module _ (links : List ℕ) (mark : ℕ) (woken₀ : List ℕ) where
       waking_within = let a = waking_lt.0 in let b = h.rest.few in omega arith
 
       -- the first of the rest is woken
-      module _ (woken' : List ℕ) (bits : Bitset woken') (here : has woken' (at - 2) ≡ true) (others : (k : ℕ) → k ≢ at - 2 → has woken' k ≡ has woken k) where
+      module _ (woken' : List ℕ) (here : has woken' (at - 2) ≡ true) (others : (k : ℕ) → k ≢ at - 2 → has woken' k ≡ has woken k) where
         still : (k : ℕ) → has woken k ≡ true → has woken' k ≡ true
         still k t = others k (λ q. clash t (rw q waking_lt.1)) ∙ t
 
@@ -84,7 +83,6 @@ module _ (links : List ℕ) (mark : ℕ) (woken₀ : List ℕ) where
         pub waking_step : Waking links mark woken₀ woken' (get_or links (at - 2) 0)
         waking_step = record {
           rest = record {
-            bits = bits;
             few = h.rest.few;
             members = more.0;
             chain = more.1.1.1;

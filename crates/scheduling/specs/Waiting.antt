@@ -4,6 +4,8 @@
 -- waits. `links` continues in the same way: at a wire that waits it has the one that came before it to wait for the same.
 use Rattle.std.specs.Prelude.{◌≡◌, Bool, false, ◌⊎◌, ◌≢◌, List, [], ◌∷◌, ℕ, ◌+◌, ◌<◌, length, get_or}
 use Rattle.netlist.specs.Graph.{Graph}
+use Rattle.netlist.specs.Rows.{operand_of, arity_of}
+use Rattle.netlist.specs.declared.row.Row.{Row}
 
 -- k is one of a list
 abbrev pub Among : ℕ → List ℕ → Type 0
@@ -21,6 +23,14 @@ pub record Stuck (g : Graph) (marks : List ℕ) (k d : ℕ) : Type 0 where
   pub within : place < g.arity k
   pub here : g.operand k place ≡ d
   pub before : (j : ℕ) → j < place → get_or marks (g.operand k j) 0 ≡ 1
+  pub new : get_or marks d 0 ≢ 1
+
+-- the same by k's row, in its own words
+pub record StuckRow (row : Row) (marks : List ℕ) (d : ℕ) : Type 0 where
+  pub place : ℕ
+  pub within : place < arity_of row
+  pub here : d ≡ operand_of row place
+  pub before : (j : ℕ) → j < place → get_or marks (operand_of row j) 0 ≡ 1
   pub new : get_or marks d 0 ≢ 1
 
 -- why k need not be looked at: it is no wire, or listed, or waits for one that is not listed

@@ -1,100 +1,97 @@
 // The order of the rows: always the lowest wire that is not listed and waits for none. A wire that is not ready waits for one that it reads,
 // and is looked at again only when that one is listed.
-ghost use Rattle.std.specs.Prelude.{◌≡◌, ◌*◌, ◌≤◌, ◌++◌, length, drop};
+ghost use Rattle.std.specs.Prelude.{◌≡◌, ℕ, ◌*◌, ◌<◌, ◌≤◌, ◌++◌, length, drop, get_or, MatchOption};
 ghost use Rattle.netlist.specs.Graph.{Closed};
 ghost use Rattle.netlist.specs.Order.{order, order_marks};
-ghost use Rattle.netlist.specs.Rows.{row_length, graph_of};
+ghost use Rattle.netlist.specs.Rows.{row_length, graph_of, operand_of, arity_of};
 ghost use Rattle.netlist.specs.Marks.{only_listed, max_wires};
 ghost use Rattle.scheduling.specs.Due.{Early, Taken, Resting, Found, Asleep, Woken};
+ghost use Rattle.scheduling.specs.Waiting.{StuckRow};
 
-use bitset::{NUMBERS, WORDS};
-use netlist::row::{arity, operand, row_at, wide};
+use bitset::Bitset;
+use netlist::row::{Row, arity, operand, row_at};
 
-// The wire to look at, and the number from which on none was looked at.
-#[derive(Clone, Copy)]
-pub struct Look {
-    pub wire: usize,
-    pub from: usize,
-}
-
-// Takes the lowest wire that is due to be looked at, or n where none is.
-// Rules out: going on from `from` while a wire below it is due.
-fn take(woken: &mut [u64; WORDS], from: usize, n: usize) -> Look
-    requires { Early n woken.old from × (n ≤ max_wires) }
-    ensures { Taken n woken.old from woken.new result }
-{
-    let w = bitset::lowest(woken);
-    if w < NUMBERS {
-        bitset::remove(woken, w);
-        return Look {
-            wire: w,
-            from: from,
-        };
-    }
-    if from == n {
-        return Look { wire: n, from: n };
-    }
-    Look {
-        wire: from,
-        from: from + 1,
-    }
-}
-
-// The lowest wire that is not listed and reads only wires that are, or the number of indices. The search goes through the wires that are due
-// and is left from its inner loop at the first whose operands are all listed; any other waits for its first operand that is not.
-// Rules out: a wire that reads one not listed; a later one where a lower is ready.
-fn next_ready(
-    rows: &[u16],
-    marks: &mut [u16],
-    links: &mut [u16],
-    woken: &mut [u64; WORDS],
+// Which wires are due to be looked at: those that were woken, and those from `from` on, which were never looked at.
+#[derive(Drop)]
+struct Due {
+    woken: Bitset,
     from: usize,
-) -> Look
+}
+
+impl Due {
+    // Takes the lowest of n wires that is due.
+    // Rules out: going on from `from` while a wire below it is due.
+    fn take(&mut self, n: usize) -> Option<usize>
+        requires { Early n self.old × (n ≤ max_wires) }
+        ensures { MatchOption result (Taken n self.old self.new n) (λ w. (w < n) × Taken n self.old self.new w) }
+    {
+        match self.woken.lowest() {
+            Some(w) => {
+                self.woken.remove(w);
+                Some(w)
+            }
+            None if self.from < n => {
+                self.from += 1;
+                Some(self.from - 1)
+            }
+            None => None,
+        }
+    }
+}
+
+// The first wire that a row reads and that is not listed.
+fn first_waiting(row: Row, marks: &[u16]) -> Option<usize>
+    requires { (j : ℕ) → j < arity_of row → operand_of row j < length marks.now }
+    ensures { MatchOption result ((j : ℕ) → j < arity_of row → get_or marks.now (operand_of row j) 0 ≡ 1)
+        (λ d. StuckRow row marks.now d) }
+{
+    for j in 0..arity(row) {
+        let d = usize::from(operand(row, j));
+        if marks[d] != 1 {
+            return Some(d);
+        }
+    }
+    None
+}
+
+// The lowest wire that is not listed and reads only wires that are. The search goes through the wires that are due; one that is not ready
+// waits for its first operand that is not listed.
+// Rules out: a wire that reads one not listed; a later one where a lower is ready.
+fn next_ready(rows: &[u16], marks: &mut [u16], links: &mut [u16], due: &mut Due) -> Option<usize>
     requires rows_len { length rows.now ≡ row_length * length marks.old }
     requires closed { Closed (graph_of rows.now) (length marks.old) × (length marks.old ≤ max_wires) }
-    requires resting { Resting (graph_of rows.now) (length marks.old) marks.old links.old woken.old from }
-    ensures { Found (graph_of rows.now) (length marks.old) marks.old marks.new
-        links.new woken.new result }
+    requires resting { Resting (graph_of rows.now) (length marks.old) marks.old links.old due.old }
+    ensures { MatchOption result
+        (Found (graph_of rows.now) (length marks.old) marks.old marks.new links.new due.new (length marks.old))
+        (λ w. (w < length marks.old) × Found (graph_of rows.now) (length marks.old) marks.old marks.new links.new due.new w) }
 {
     let n = marks.len();
-    let mut look = take(woken, from, n);
-    'search: while look.wire < n {
-        let w = look.wire;
-        if marks[w] != 1 {
-            let row = row_at(rows, w);
-            if row.kind != 0 {
-                let count = arity(row);
-                let mut j = 0;
-                loop {
-                    if j == count {
-                        break 'search;
-                    }
-                    let d = wide(operand(row, j));
-                    if marks[d] != 1 {
-                        links[w] = marks[d];
-                        marks[d] = (w + 2) as u16;
-                        break;
-                    }
-                    j += 1;
+    while let Some(w) = due.take(n) {
+        let row = row_at(rows, w);
+        if marks[w] != 1 && row.kind != 0 {
+            match first_waiting(row, marks) {
+                Some(d) => {
+                    links[w] = marks[d];
+                    marks[d] = (w + 2) as u16;
                 }
+                None => return Some(w),
             }
         }
-        look = take(woken, look.from, n);
     }
-    look
+    None
 }
 
-// The wires of a chain are due again.
+// The wires of a chain are due again. It is walked along the links.
 // Rules out: leaving the last one asleep.
-fn wake(links: &[u16], woken: &mut [u64; WORDS], mark: u16)
+fn wake(links: &[u16], woken: &mut Bitset, mark: u16)
     requires { Asleep links.now mark woken.old }
     ensures { Woken links.now mark woken.old woken.new }
 {
-    let mut k = wide(mark);
+    let mut k = usize::from(mark);
     while 1 < k {
         let w = k - 2;
-        bitset::insert(woken, w);
-        k = wide(links[w]);
+        woken.insert(w);
+        k = usize::from(links[w]);
     }
 }
 
@@ -108,21 +105,16 @@ pub fn list_wires(rows: &[u16], marks: &mut [u16], links: &mut [u16], out: &mut 
     ensures out { out.new ≡ order (graph_of rows.now) (length marks.old) ++ drop result out.old }
     ensures marks { only_listed marks.new ≡ order_marks (graph_of rows.now) (length marks.old) }
 {
-    let n = marks.len();
-    lists::clear(marks);
-    let mut woken = bitset::empty();
+    marks.fill(0);
+    let mut due = Due {
+        woken: Bitset::new(),
+        from: 0,
+    };
     let mut count = 0;
-    let mut from = 0;
-    loop {
-        let look = next_ready(rows, marks, links, &mut woken, from);
-        let w = look.wire;
-        if w == n {
-            break;
-        }
-        from = look.from;
+    while let Some(w) = next_ready(rows, marks, links, &mut due) {
         let mark = marks[w];
         marks[w] = 1;
-        wake(links, &mut woken, mark);
+        wake(links, &mut due.woken, mark);
         out[count] = w as u16;
         count += 1;
     }

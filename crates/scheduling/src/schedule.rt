@@ -1,6 +1,6 @@
 // Rows by wire into the list of rows in order, or the finding that there is a loop.
 ghost use Rattle.std.specs.Prelude.{◌≡◌, ℕ, ◌+◌, ◌*◌, ◌<◌, ◌≤◌, not, ◌&&◌, length, get_or};
-ghost use Rattle.lists.specs.Search.{first};
+ghost use Rattle.lists.specs.Search.{first, below};
 ghost use Rattle.netlist.specs.Graph.{Closed};
 ghost use Rattle.netlist.specs.Marks.{listed, only_listed, max_wires};
 ghost use Rattle.netlist.specs.Rows.{row_length, rows_of, Inside, graph_of};
@@ -9,7 +9,7 @@ ghost use Rattle.scheduling.specs.Scheduling.{Answers, Queued};
 
 use crate::order::list_wires;
 use loops::lowest_loop;
-use netlist::row::{row_at, wide, write_row, zero_row};
+use netlist::row::{ROW_LENGTH, row_at, write_row};
 
 // The rows are listed, so many; or the lowest wire that depends on itself.
 #[derive(Clone, Copy)]
@@ -18,23 +18,13 @@ pub enum Scheduled {
     Loop(usize),
 }
 
-// The lowest wire that is not listed, or the number of indices.
-fn first_unlisted(rows: &[u16], marks: &[u16]) -> usize
+// The lowest wire that is not listed.
+fn first_unlisted(rows: &[u16], marks: &[u16]) -> Option<usize>
     requires { length rows.now ≡ row_length * length marks.now }
-    ensures { result ≡ first (λ w. (graph_of rows.now).wire w && not (listed (only_listed marks.now) w)) 0
-        (length marks.now) }
+    ensures { result ≡ below (length marks.now) (first (λ w. (graph_of rows.now).wire w && not (listed (only_listed marks.now) w)) 0
+        (length marks.now)) }
 {
-    let mut w = 0;
-    while w < marks.len() {
-        if marks[w] != 1 {
-            let row = row_at(rows, w);
-            if row.kind != 0 {
-                return w;
-            }
-        }
-        w += 1;
-    }
-    w
+    (0..marks.len()).find(|w| marks[*w] != 1 && row_at(rows, *w).kind != 0)
 }
 
 // Writes the rows of the first `count` wires, and zeros behind them, n rows in all.
@@ -43,16 +33,11 @@ pub fn write_list(rows: &[u16], wires: &[u16], count: usize, n: usize, list: &mu
     requires by_index { (i : ℕ) → i < count → Inside rows.now (get_or wires.now i 0) }
     ensures { list.new ≡ rows_of (row_in_order rows.now wires.now count) n }
 {
-    let mut k = 0;
-    while k < count {
-        let row = row_at(rows, wide(wires[k]));
+    for k in 0..count {
+        let row = row_at(rows, usize::from(wires[k]));
         write_row(list, k, row);
-        k += 1;
     }
-    while k < n {
-        write_row(list, k, zero_row());
-        k += 1;
-    }
+    list[ROW_LENGTH * count..].fill(0);
 }
 
 // The order of a block's rows, left at the front of `queue`, or the lowest wire that depends on itself. `write_list` then writes the
@@ -66,12 +51,9 @@ pub fn schedule(rows: &[u16], marks: &mut [u16], queue: &mut [u16], links: &mut 
     ensures answer { Answers (graph_of rows.now) (length marks.old) result }
     ensures queue { Queued (graph_of rows.now) (length marks.old) queue.old queue.new result }
 {
-    let n = marks.len();
     let count = list_wires(rows, marks, links, queue);
-    let waiting = first_unlisted(rows, marks);
-    if waiting == n {
-        return Scheduled::Listed(count);
+    match first_unlisted(rows, marks) {
+        None => Scheduled::Listed(count),
+        Some(_) => Scheduled::Loop(lowest_loop(rows, marks, queue, links)),
     }
-    let w = lowest_loop(rows, marks, queue, links);
-    Scheduled::Loop(w)
 }

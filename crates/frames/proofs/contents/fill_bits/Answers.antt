@@ -1,5 +1,4 @@
--- `contents::fill_bits` meets its contract. Invariant: the first t parts are the tiles' bytes, and the length is the old one. Measure: the tiles
--- that are left. Assumes nothing.
+-- `contents::fill_bits` meets its contract. Invariant: the first t parts are the tiles' bytes, and the length is the old one. Assumes nothing.
 use Rattle.ports.specs.Lengths.{tile_bytes}
 use Rattle.frames.proofs.BoundLaws.{size_at_le, size_digits_le}
 use Rattle.frames.specs.Lines.{size_digits}
@@ -15,33 +14,9 @@ use Prim.Native.Nat.{◌+◌, ◌*◌, ◌≤◌}
 use mathlib.Core.Path.{◌≡◌, ap, ◌∙◌}
 use Rattle.frames.proofs.contents.fill_bits.Goals as goal
 
-pub size_digits-requires : goal.size_digits-requires
-size_digits-requires c = let s = c.args.s.now in omega (arith, c.count_groups-found.ensures.end, size_at_le s)
-
-pub overflow_add-start : goal.overflow_add-start
-overflow_add-start c =
-    let from_le : c.count_groups-found.result.end + c.size_digits.result ≤ 1312280 =
-    let s = c.args.s.now in
-    omega (arith, c.count_groups-found.ensures.end, c.size_digits.ensures, size_at_le s, size_digits_le s c.count_groups-found.result.end) in
-    let from = from_le in omega arith
-
-pub overflow_add-start-2 : goal.overflow_add-start-2
-overflow_add-start-2 c =
-    let from_le : c.count_groups-found.result.end + c.size_digits.result ≤ 1312280 =
-    let s = c.args.s.now in
-    omega (arith, c.count_groups-found.ensures.end, c.size_digits.ensures, size_at_le s, size_digits_le s c.count_groups-found.result.end) in
-    let from = from_le in omega arith
-
 pub loop-t-init : goal.loop-t-init
 unfolding joined
 loop-t-init c = search rules
-
-pub overflow_add-start-in-loop-t : goal.overflow_add-start-in-loop-t
-overflow_add-start-in-loop-t c =
-    let from_le : c.count_groups-found.result.end + c.size_digits.result ≤ 1312280 =
-    let s = c.args.s.now in
-    omega (arith, c.count_groups-found.ensures.end, c.size_digits.ensures, size_at_le s, size_digits_le s c.count_groups-found.result.end) in
-    let from = from_le in omega arith
 
 pub fill_tile-requires : goal.fill_tile-requires
 fill_tile-requires c =

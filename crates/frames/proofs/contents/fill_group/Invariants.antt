@@ -1,11 +1,7 @@
--- `contents::fill_group` meets its contract. Invariant: the first k numbers are the group's (`Filled`). Measure: the numbers left. Assumes nothing.
+-- `contents::fill_group` meets its contract. Invariant: the first k numbers are the group's (`Filled`). Assumes nothing.
 use Rattle.frames.specs.Contents.{group_number}
 use Rattle.lists.proofs.TableLaws.{Filled}
-use Prim.Native.Nat.{◌-◌}
 use Rattle.frames.proofs.contents.fill_group.Given as goal
 
 abbrev pub invariant-loop-k : goal.invariant-loop-k
 invariant-loop-k l = Filled (group_number l.s l.at) 0 75 l.k l.group
-
-abbrev pub decreases-loop-k : goal.decreases-loop-k
-decreases-loop-k l = 75 - l.k

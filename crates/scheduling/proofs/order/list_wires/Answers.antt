@@ -5,63 +5,48 @@ use Rattle.scheduling.specs.Due.{Found}
 use Rattle.netlist.specs.Rows.{graph_of}
 use lib.ListN.{length}
 use native.Mathlib.Omega.{arith}
-use mathlib.Core.List.{List}
-use mathlib.Core.Logic.{◌≢◌}
 use mathlib.Core.Path.{◌≡◌, sym, subst}
 use Prim.Native.Nat.{ℕ, ◌<◌}
-use Rattle.scheduling.proofs.order.list_wires.Goals.{After-next_ready-look}
+use mathlib.Core.List.{List}
+use Rattle.scheduling.proofs.order.list_wires.Goals.{In-Some}
 use Rattle.scheduling.proofs.order.list_wires.Goals as goal
 
 -- what the search gave, over the number of wires
-found : (c : After-next_ready-look)
-    → Found (graph_of c.args.rows.now) (length c.args.marks.now)
-    c.loop-woken.marks c.next_ready-look.new.marks c.next_ready-look.new.links c.next_ready-look.new.woken c.next_ready-look.result
-found c =
-    subst (λ (k : ℕ). Found (graph_of c.args.rows.now) k c.loop-woken.marks c.next_ready-look.new.marks c.next_ready-look.new.links
-    c.next_ready-look.new.woken c.next_ready-look.result) c.loop-woken.invariant.resting.watched.long c.next_ready-look.ensures
+found : (c : In-Some)
+    → (c.in-Some.w < length c.args.marks.now)
+    × Found (graph_of c.args.rows.now) (length c.args.marks.now) c.loop-w.marks c.next_ready.new.marks c.next_ready.new.links c.next_ready.new.due c.in-Some.w
+found c = rw c.loop-w.invariant.resting.watched.long at c.in-Some.ensures
 
--- a wire was found: it is one of the block, and there is room for it
-within : (c : After-next_ready-look)
-    → c.next_ready-look.result.wire ≢ length c.args.marks.now
-    → (c.next_ready-look.result.wire < length c.args.marks.now)
-    × ((length c.next_ready-look.new.marks ≡ length c.args.marks.now)
-    × ((c.loop-woken.count < length c.args.marks.now) × (length c.loop-woken.out ≡ length c.args.out.now)))
-within c other = going_within _ _ _ _ _ _ _ _ _ c.loop-woken.invariant _ _ _ _ (found c) other
+-- the wire is one of the block, and there is room for it
+within : (c : In-Some)
+    → (length c.next_ready.new.marks ≡ length c.args.marks.now)
+    × ((c.loop-w.count < length c.args.marks.now) × (length c.loop-w.out ≡ length c.args.out.now))
+within c = let f = found c in going_within _ _ _ _ _ _ _ _ c.loop-w.invariant _ _ _ _ f.1 f.0
 
-pub loop-woken-init : goal.loop-woken-init
-loop-woken-init c =
-    subst (λ (t : List ℕ). Going (graph_of c.args.rows.now) (length c.args.marks.now) c.args.out.now t c.args.links.now
-    c.empty-woken.result c.args.out.now 0 0) (sym c.clear.ensures)
-    (going_start _ _ _ _ _ c.requires.links_len.0 c.empty-woken.ensures.kept c.empty-woken.ensures.none)
-
-pub offset_bounds-marks-w : goal.offset_bounds-marks-w
-offset_bounds-marks-w c = let l = within (goal.at.offset_bounds-marks-w c).After-next_ready-look c.if-w-n.false in omega arith
-
-pub bounds-marks-w : goal.bounds-marks-w
-bounds-marks-w c = let l = within (goal.at.bounds-marks-w c).After-next_ready-look c.if-w-n.false in omega arith
-
-pub offset_bounds-marks-w-in-loop-woken : goal.offset_bounds-marks-w-in-loop-woken
-offset_bounds-marks-w-in-loop-woken c = let l = within (goal.at.offset_bounds-marks-w-in-loop-woken c).After-next_ready-look c.if-w-n.false in omega arith
-
-pub bounds-marks-w-in-loop-woken : goal.bounds-marks-w-in-loop-woken
-bounds-marks-w-in-loop-woken c = let l = within (goal.at.bounds-marks-w-in-loop-woken c).After-next_ready-look c.if-w-n.false in omega arith
+pub loop-w-init : goal.loop-w-init
+loop-w-init c =
+    subst (λ (t : List ℕ). Going (graph_of c.args.rows.now) (length c.args.marks.now) c.args.out.now t c.args.links.now (record { woken = c.new.result; from = 0 })
+    c.args.out.now 0) (sym (c.fill.ensures.after (λ y e. e)))
+    (going_start _ _ _ _ _ c.requires.links_len.0 c.new.ensures)
 
 pub wake-requires : goal.wake-requires
 wake-requires c =
-    going_asleep _ _ _ _ _ _ _ _ _ c.loop-woken.invariant _ _ _ _ (found (goal.at.wake-requires c).After-next_ready-look) c.if-w-n.false c.requires.links_len.2
-
-pub overflow_cast-out : goal.overflow_cast-out
-overflow_cast-out c = let l = within (goal.at.overflow_cast-out c).After-next_ready-look c.if-w-n.false in omega arith
+    let f = found (goal.at.wake-requires c).In-Some in
+    going_asleep _ _ _ _ _ _ _ _ c.loop-w.invariant _ _ _ _ f.1 f.0 c.requires.links_len.2
 
 pub bounds-out-count : goal.bounds-out-count
-bounds-out-count c = let l = within (goal.at.bounds-out-count c).After-next_ready-look c.if-w-n.false in omega arith
+bounds-out-count c = let l = within (goal.at.bounds-out-count c).In-Some in omega arith
 
-pub loop-woken-smaller : goal.loop-woken-smaller
-loop-woken-smaller c = let l = within (goal.at.loop-woken-smaller c).After-next_ready-look c.if-w-n.false in omega arith
+pub loop-w-smaller : goal.loop-w-smaller
+loop-w-smaller c = let l = within (goal.at.loop-w-smaller c).In-Some in omega arith
 
-pub loop-woken-preserved : goal.loop-woken-preserved
-loop-woken-preserved c =
-    going_step _ _ _ _ _ _ _ _ _ c.loop-woken.invariant _ _ _ _ (found (goal.at.loop-woken-preserved c).After-next_ready-look) c.if-w-n.false c.requires.links_len.1 _ c.wake.ensures
+pub loop-w-preserved : goal.loop-w-preserved
+loop-w-preserved c =
+    let f = found (goal.at.loop-w-preserved c).In-Some in
+    going_step _ _ _ _ _ _ _ _ c.loop-w.invariant _ _ _ _ f.1 f.0 c.requires.links_len.1 _ c.wake.ensures
 
 pub returns : goal.returns
-returns c = let all_clauses = going_end _ _ _ _ _ _ _ _ _ c.loop-woken.invariant _ _ _ _ (found (goal.at.returns c).After-next_ready-look) c.requires.links_len.1 c.if-w-n.true in record { count = all_clauses.0; out = all_clauses.1.0; marks = all_clauses.1.1 }
+returns c =
+    let f = rw c.loop-w.invariant.resting.watched.long at c.in_default.ensures in
+    let all_clauses = going_end _ _ _ _ _ _ _ _ c.loop-w.invariant _ _ _ _ f c.requires.links_len.1 (omega arith) in
+    record { count = all_clauses.0; out = all_clauses.1.0; marks = all_clauses.1.1 }

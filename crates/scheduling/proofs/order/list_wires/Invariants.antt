@@ -2,11 +2,12 @@
 -- (`Going`). Measure: the wires that could still be listed. Assumes nothing.
 use Rattle.scheduling.proofs.Listing.{Going}
 use Rattle.netlist.specs.Rows.{graph_of}
+use lib.ListN.{length}
 use Prim.Native.Nat.{◌-◌}
 use Rattle.scheduling.proofs.order.list_wires.Given as goal
 
-abbrev pub invariant-loop-woken : goal.invariant-loop-woken
-invariant-loop-woken l = Going (graph_of l.rows) l.n l.initial.out l.marks l.links l.woken l.out l.count l.from
+abbrev pub invariant-loop-w : goal.invariant-loop-w
+invariant-loop-w l = Going (graph_of l.rows) (length l.fn.marks) l.fn.out l.marks l.links l.due l.out l.count
 
-abbrev pub decreases-loop-woken : goal.decreases-loop-woken
-decreases-loop-woken l = l.n - l.count
+abbrev pub decreases-loop-w : goal.decreases-loop-w
+decreases-loop-w l = length l.fn.marks - l.count

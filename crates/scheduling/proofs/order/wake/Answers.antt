@@ -4,12 +4,10 @@ use native.Mathlib.Omega.{arith}
 use Rattle.scheduling.proofs.order.wake.Goals as goal
 
 pub loop-k-init : goal.loop-k-init
-loop-k-init c =
-    rw c.wide-k.ensures (waking_start _ _ _ c.requires)
+loop-k-init c = rw c.from-k.ensures (waking_start _ _ _ c.requires)
 
 pub insert-requires : goal.insert-requires
-insert-requires c =
-    (c.loop-k.invariant.rest.bits, waking_within _ _ _ _ _ c.loop-k.invariant (omega arith))
+insert-requires c = waking_within _ _ _ _ _ c.loop-k.invariant (omega arith)
 
 pub offset_bounds-links-w : goal.offset_bounds-links-w
 offset_bounds-links-w c =
@@ -22,11 +20,11 @@ bounds-links-w c =
 
 pub loop-k-smaller : goal.loop-k-smaller
 loop-k-smaller c =
-    waking_less _ _ _ _ _ c.loop-k.invariant (omega arith) _ c.insert.ensures.kept c.insert.ensures.here c.insert.ensures.others
+    waking_less _ _ _ _ _ c.loop-k.invariant (omega arith) _ c.insert.ensures.here c.insert.ensures.others
 
 pub loop-k-preserved : goal.loop-k-preserved
 loop-k-preserved c =
-    rw c.wide-k-in-loop-k.ensures (waking_step _ _ _ _ _ c.loop-k.invariant (omega arith) _ c.insert.ensures.kept c.insert.ensures.here c.insert.ensures.others)
+    rw c.from-k-in-loop-k.ensures (waking_step _ _ _ _ _ c.loop-k.invariant (omega arith) _ c.insert.ensures.here c.insert.ensures.others)
 
 pub returns : goal.returns
 returns c = waking_end _ _ _ _ _ c.loop-k.invariant c.loop-k-test.false

@@ -1,29 +1,20 @@
--- `schedule::first_unlisted` meets its contract. Invariant: the search from w on is the whole search. Measure: the indices left. Assumes nothing.
-use Rattle.netlist.proofs.GraphLaws.{row_wire_true, row_wire_false}
-use Rattle.netlist.proofs.MarkLaws.{only_listed_true, only_listed_false}
-use Rattle.netlist.specs.Rows.{graph_of}
+-- `schedule::first_unlisted` meets its contract: the two tests are those of a wire that is not listed. Assumes nothing.
+use Rattle.std.proofs.Common.{rules, refl}
+use borrow.Author.Tests.{tests}
+use mathlib.Core.Bool.{not, ◌&&◌}
+use lib.Dec.{eqb}
+use lib.ListN.{get_or}
+use Rattle.lists.proofs.CaseLaws.{and_swap}
+use Rattle.lists.proofs.RangeLaws.{find_below}
+use Rattle.netlist.specs.Rows.{row_at, graph_of}
 use Rattle.netlist.specs.Marks.{listed, only_listed}
-use Rattle.lists.proofs.SearchLaws.{first_turn_hit, first_turn_skip, first_turn_end}
-use Rattle.lists.proofs.CaseLaws.{and_true, and_false_left, and_false_right}
-use mathlib.Core.Bool.{not}
-use Rattle.scheduling.proofs.schedule.first_unlisted.Goals.{then-marks-w-ne1+else-row-ne0, else-marks-w-ne1}
+use Rattle.netlist.proofs.MarkLaws.{listed_only}
 use Rattle.scheduling.proofs.schedule.first_unlisted.Goals as goal
 
-pub returns-then-row-ne0 : goal.returns-then-row-ne0
-returns-then-row-ne0 c =
-    first_turn_hit _ _ _ _ c.loop-w.invariant c.loop-w-test.true
-    (and_true (row_wire_true _ _ _ c.row_at-row.ensures c.if-row-ne0.true)
-    (rw (only_listed_false c.args.marks.now c.loop-w.w c.if-marks-w-ne1.true)))
-
-pub loop-w-preserved : goal.loop-w-preserved
-loop-w-preserved c =
-    first_turn_skip _ _ _ _ c.loop-w.invariant c.loop-w-test.true
-    (elim c.if-marks-w-ne1.branch [
-      | then-marks-w-ne1+else-row-ne0 x ↦ and_false_left ((graph_of c.args.rows.now).wire c.loop-w.w)
-          (not (listed (only_listed c.args.marks.now) c.loop-w.w)) (row_wire_false _ _ _ x.row_at-row.ensures x.if-row-ne0.false)
-      | else-marks-w-ne1 x ↦ and_false_right ((graph_of c.args.rows.now).wire c.loop-w.w)
-          (not (listed (only_listed c.args.marks.now) c.loop-w.w)) (rw (only_listed_true c.args.marks.now c.loop-w.w x.if-marks-w-ne1.false))
-    ])
-
 pub returns : goal.returns
-returns c = first_turn_end _ _ _ _ c.loop-w.invariant c.loop-w-test.false
+returns c =
+    let rows = c.args.rows.now in
+    let marks = c.args.marks.now in
+    find_below (λ w. not (eqb (get_or marks w 0) 1) && not (eqb (row_at rows w).kind 0)) (λ w. (graph_of rows).wire w && not (listed (only_listed marks) w))
+    _ _ _ _ refl c.find.ensures.ran (λ x b q k. search (rules, tests))
+    (λ w l. rw (listed_only marks w) (and_swap (not (eqb (get_or marks w 0) 1)) (not (eqb (row_at rows w).kind 0))))

@@ -19,21 +19,21 @@ long : (c : After-list_wires-count) → length c.list_wires-count.new.marks ≡ 
 long c = omega arith
 
 -- all are listed
-pub returns-then-waiting-n-clause-answer : goal.returns-then-waiting-n-clause-answer
-returns-then-waiting-n-clause-answer c =
-    let e = long (goal.at.returns-then-waiting-n-clause-answer c).After-list_wires-count in
+pub returns-in-None-clause-answer : goal.returns-in-None-clause-answer
+returns-in-None-clause-answer c =
+    let e = long (goal.at.returns-in-None-clause-answer c).After-list_wires-count in
     let listed = c.list_wires-count.ensures in
-    (listed.count, none_left _ _ _ _ _ c.requires.closed listed.marks e c.first_unlisted-waiting.ensures c.if-waiting-n.true)
+    (listed.count, none_left _ _ _ _ c.requires.closed listed.marks e c.in-None.ensures)
 
-pub lowest_loop-w-requires-clause-settled : goal.lowest_loop-w-requires-clause-settled
-lowest_loop-w-requires-clause-settled c =
+pub lowest_loop-requires-clause-settled : goal.lowest_loop-requires-clause-settled
+lowest_loop-requires-clause-settled c =
     let rows = c.args.rows.now in
     subst (λ (t : List ℕ). Settled (graph_of rows) t) (sym c.list_wires-count.ensures.marks) (settled_end (graph_of rows) (length c.args.marks.now))
 
 -- one is left over
-pub returns-clause-answer : goal.returns-clause-answer
-returns-clause-answer c =
-    let e = long (goal.at.returns-clause-answer c).After-list_wires-count in
-    let low = subst (λ (k : ℕ). LowestLoop (graph_of c.args.rows.now) k c.lowest_loop-w.result) e c.lowest_loop-w.ensures.answer in
-    let loop = one_left _ _ _ _ _ c.requires.closed c.list_wires-count.ensures.marks e c.first_unlisted-waiting.ensures c.if-waiting-n.false in
+pub returns-in-Some-clause-answer : goal.returns-in-Some-clause-answer
+returns-in-Some-clause-answer c =
+    let e = long (goal.at.returns-in-Some-clause-answer c).After-list_wires-count in
+    let low = subst (λ (k : ℕ). LowestLoop (graph_of c.args.rows.now) k c.lowest_loop.result) e c.lowest_loop.ensures.answer in
+    let loop = one_left _ _ _ _ c.requires.closed c.list_wires-count.ensures.marks e c.in-Some.ensures in
     (lowest_loop_lt _ _ _ low loop, low)

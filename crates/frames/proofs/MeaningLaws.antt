@@ -1,4 +1,7 @@
 -- Every answer to an input says what specs/Meaning.antt has it say. Main laws: `parsed_says`; `east_few`. Assumes nothing.
+use Rattle.ports.specs.declared.size.Block.{Block}
+use Rattle.refusal.specs.declared.Refusal.{Refusal}
+use Rattle.std.specs.Prelude.{Result}
 use Prim.Native.Nat.{ℕ, ◌+◌, ◌-◌, ◌<◌, ◌≤◌}
 use mathlib.Core.Path.{◌≡◌, refl, sym, subst}
 use mathlib.Core.Bool.{true, false, ◌&&◌}
@@ -15,7 +18,6 @@ use Rattle.frames.specs.Frames.{group, size, tile, Proper, east_of}
 use Rattle.frames.specs.Lines.{fields_line, passive_line, size_line}
 use Rattle.frames.specs.Input.{group_count, size_at, width, height, east, small, tiles_due, tile_at, tile_count, parsed}
 use Rattle.frames.specs.Whole.{Small}
-use Rattle.frames.specs.declared.input.Parsed.{Parsed}
 use Rattle.frames.specs.Meaning.{begun, with_fields, with_groups, tiles_left, nothing, LineSays, SizeSays, BlockSays, wrong_size, bad_line, ParsedSays}
 use Rattle.frames.proofs.SmallLaws.{small_of, small_passes}
 use Rattle.frames.proofs.FrameLaws.{extra_read, east_read, size_reads}
@@ -108,7 +110,7 @@ module _ (s : List ℕ) where
       (λ e. block_yes one two three few all (eqb-true (length s) (tile_at s (tiles_due s)) e)))))))
 
   -- an answer that is the right one says what it should
-  pub says_too : (r : Parsed) → r ≡ parsed s → (r ≡ parsed s) × ParsedSays s r
+  pub says_too : (r : Result Block Refusal) → r ≡ parsed s → (r ≡ parsed s) × ParsedSays s r
   says_too r e = (e, subst (ParsedSays s) (sym e) parsed_says)
 
 -- what a yes says of the column to the east is 0 or 1

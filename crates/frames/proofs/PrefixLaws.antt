@@ -1,5 +1,7 @@
 -- An input of any length has the answer of its first 131,072 bytes: a good beginning ends before, and nothing behind it is looked at. Main law:
 -- `parsed_prefix`.
+use Rattle.ports.specs.Block.{block}
+use Rattle.std.specs.Prelude.{Ok, Err}
 use Prim.Native.Nat.{ℕ, zero, suc, ◌+◌, ◌*◌, ◌<◌, ◌≤◌}
 use mathlib.Core.Path.{◌≡◌, refl, sym, ap, ap₂, ◌∙◌}
 use mathlib.Core.Bool.{Bool, true, false, not, cond, ◌&&◌}
@@ -15,7 +17,6 @@ use Rattle.lists.proofs.CaseLaws.{lt_or_le}
 use Rattle.lists.proofs.SearchLaws.{first_at, first_none, first_ext}
 use Rattle.refusal.specs.Grounds.{unless}
 use Rattle.refusal.specs.declared.Refusal.TheVariants.{Line}
-use Rattle.frames.specs.declared.input.Parsed.TheVariants.{Block, Refused}
 use Rattle.texts.specs.Hex.{pair_at}
 use Rattle.frames.specs.Lines.{is_line, group_digits, group_line, size_digits, east_at, size_line, tile_line}
 use Rattle.frames.specs.Input.{group_at, group_count, size_at, width, height, east, small, tiles_due, tiles_from, tile_at, tile_count, parsed}
@@ -137,13 +138,13 @@ module _ (s t : List ℕ) (same : Agree s t 131072) where
     parsed_same =
         unless_same (line_same s t 131072 same 0 1 14 (omega arith)) refl
         (λ one. unless_same (passive_same s t 131072 same (omega arith)) refl
-        (λ two. unless_same size_line_same (ap (λ (g : ℕ). Refused (Line (3 + g))) (sym group_count_same))
+        (λ two. unless_same size_line_same (ap (λ (g : ℕ). Err (Line (3 + g))) (sym group_count_same))
         (λ three. unless_same (ap₂ (λ (w h : ℕ). small w && small h) width_same height_same) refl
         (λ e. let few = small_due (width s) (height s) (small_of (width s) (height s) e) in
-        unless_same (ap₂ leb due_same (tile_count_same few)) (ap₂ (λ (g k : ℕ). Refused (Line (4 + g + k))) (sym group_count_same) (tile_count_same few))
+        unless_same (ap₂ leb due_same (tile_count_same few)) (ap₂ (λ (g k : ℕ). Err (Line (4 + g + k))) (sym group_count_same) (tile_count_same few))
         (λ all. unless_same (ends (tile_at s (tiles_due s)) (omega (arith, size_at_le s, size_digits_le s (size_at s))) ∙ ap (eqb (length t)) (end_same few))
-        (ap₂ (λ (g k : ℕ). Refused (Line (4 + g + k))) (sym group_count_same) due_same)
-        (λ e. ap₂ (λ (w h : ℕ). Block w h (east s)) width_same height_same ∙ ap (Block (width t) (height t)) east_same))))))
+        (ap₂ (λ (g k : ℕ). Err (Line (4 + g + k))) (sym group_count_same) due_same)
+        (λ e. ap₂ (λ (w h : ℕ). Ok (block w h (east s))) width_same height_same ∙ ap (λ (e : ℕ). Ok (block (width t) (height t) e)) east_same))))))
 
 -- "a file of any size must be answered"
 pub parsed_prefix : (s : List ℕ) (n : ℕ) → 131072 ≤ n → parsed (take n s) ≡ parsed s

@@ -1,14 +1,15 @@
 -- An input of frames: where each line begins, how many there are, and what is answered ("One 01, one 02, the 03s, one 04, the 05s."). A
 -- line that is malformed, out of turn, missing or extra is always the first one behind the frames that came in their turn, so its place is
 -- one more than their number.
-use Rattle.std.specs.Prelude.{ℕ, zero, suc, ◌+◌, ◌*◌, ◌≡◌, Bool, true, not, ◌&&◌, List, eqb, leb, length}
+use Rattle.ports.specs.Block.{block}
+use Rattle.ports.specs.declared.size.Block.{Block}
+use Rattle.refusal.specs.declared.Refusal.{Refusal}
+use Rattle.std.specs.Prelude.{ℕ, zero, suc, ◌+◌, ◌*◌, ◌≡◌, Bool, true, not, ◌&&◌, List, eqb, leb, length, Result, Ok, Err}
 use Rattle.lists.specs.Search.{first}
 use Rattle.refusal.specs.Grounds.{unless, number_of, place_of}
 use Rattle.refusal.specs.declared.Refusal.TheVariants.{WrongSize, Line}
 use Rattle.texts.specs.Hex.{pair_at}
 use Rattle.frames.specs.Lines.{fields_line, passive_count, passive_line, group_digits, group_line, size_digits, east_at, size_line, tile_line}
-use Rattle.frames.specs.declared.input.Parsed.{Parsed}
-use Rattle.frames.specs.declared.input.Parsed.TheVariants.{Block, Refused}
 
 -- where group g begins: behind the lines 01 and 02 and the groups before it
 unfoldable pub group_at : List ℕ → ℕ → ℕ
@@ -57,22 +58,13 @@ pub record Opened (s : List ℕ) : Type 0 where
   pub few : small (width s) && small (height s) ≡ true
 
 -- "11: line malformed, out of turn, missing or extra: line, from 1", and "1 on reading the block frame"
-unfoldable pub parsed : List ℕ → Parsed
+unfoldable pub parsed : List ℕ → Result Block Refusal
 parsed s =
-    unless (fields_line s) (Refused (Line 1))
-    (unless (passive_line s) (Refused (Line 2))
-    (unless (size_line s (size_at s)) (Refused (Line (3 + group_count s)))
-    (unless (small (width s) && small (height s)) (Refused WrongSize)
-    (unless (leb (tiles_due s) (tile_count s)) (Refused (Line (4 + group_count s + tile_count s)))
-    (unless (eqb (length s) (tile_at s (tiles_due s))) (Refused (Line (4 + group_count s + tiles_due s)))
-    (Block (width s) (height s) (east s)))))))
+    unless (fields_line s) (Err (Line 1))
+    (unless (passive_line s) (Err (Line 2))
+    (unless (size_line s (size_at s)) (Err (Line (3 + group_count s)))
+    (unless (small (width s) && small (height s)) (Err WrongSize)
+    (unless (leb (tiles_due s) (tile_count s)) (Err (Line (4 + group_count s + tile_count s)))
+    (unless (eqb (length s) (tile_at s (tiles_due s))) (Err (Line (4 + group_count s + tiles_due s)))
+    (Ok (block (width s) (height s) (east s))))))))
 
--- the paper's number of an answer, 0 for a yes
-abbrev pub parsed_number : Parsed → ℕ
-parsed_number (Block w h e) = 0
-parsed_number (Refused refusal) = number_of refusal
-
--- the place that comes with it in a frame 08; a yes has the block, and frame 08 says 0
-abbrev pub parsed_place : Parsed → ℕ
-parsed_place (Block w h e) = 0
-parsed_place (Refused refusal) = place_of refusal

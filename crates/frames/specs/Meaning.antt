@@ -1,14 +1,13 @@
 -- What each answer to an input says, in the paper's words. `parsed_says` (proofs/MeaningLaws.antt) shows it of every input, and `parsed_exact`
 -- (proofs/ExactLaws.antt) that it fits no other answer.
-use Rattle.std.specs.Prelude.{ℕ, suc, ◌+◌, ◌*◌, ◌<◌, ◌≡◌, ◌≢◌, List, [], ◌∷◌, ◌++◌, length}
+use Rattle.ports.specs.declared.size.Block.{Block}
+use Rattle.std.specs.Prelude.{ℕ, suc, ◌+◌, ◌*◌, ◌<◌, ◌≡◌, ◌≢◌, List, [], ◌∷◌, ◌++◌, length, Result, Ok, Err}
 use Rattle.refusal.specs.declared.Refusal.{Refusal}
 use Rattle.refusal.specs.declared.Refusal.TheVariants.{WrongSize, Line}
 use Rattle.texts.specs.Pieces.{Stands}
 use Rattle.frames.specs.Frames.{Group, Frame, fields, passives, group, size, tile, line, Proper, east_of}
 use Rattle.frames.specs.Whole.{Input, Small, Whole, Holds, flat}
 use Rattle.frames.specs.Contents.{table_of, bits_of}
-use Rattle.frames.specs.declared.input.Parsed.{Parsed}
-use Rattle.frames.specs.declared.input.Parsed.TheVariants.{Block, Refused}
 
 -- how far an input has come: no frame yet; the fields; the passive list and g groups; the size, with so many tiles to come
 pub data Stage : Type 0 where
@@ -83,6 +82,6 @@ pub data ParsedNo (s : List ℕ) : Refusal → Type 0 where
   bad_line : (n : ℕ) → LineSays s n → ParsedNo s (Line n)
 
 -- what an answer to an input says
-abbrev pub ParsedSays : List ℕ → Parsed → Type 0
-ParsedSays s (Block w h e) = BlockSays s w h e
-ParsedSays s (Refused refusal) = ParsedNo s refusal
+abbrev pub ParsedSays : List ℕ → Result Block Refusal → Type 0
+ParsedSays s (Ok b) = BlockSays s b.w b.h b.east
+ParsedSays s (Err refusal) = ParsedNo s refusal

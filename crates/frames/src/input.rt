@@ -1,22 +1,15 @@
 // An input of frames, line by line: the block's size, or the first line that is not as it should be.
-ghost use Rattle.std.specs.Prelude.{◌≡◌, ℕ, ◌+◌, ◌*◌, ◌^◌, ◌<◌, ◌≤◌, length, not};
+ghost use Rattle.std.specs.Prelude.{Err, ◌≡◌, ℕ, ◌+◌, ◌*◌, ◌^◌, ◌<◌, ◌≤◌, length, not};
 ghost use Rattle.lists.specs.Search.{below, first};
 ghost use Rattle.refusal.specs.declared.Refusal.TheVariants.{Line};
 ghost use Rattle.frames.specs.Lines.{east_at, tile_line};
 ghost use Rattle.frames.specs.Input.{group_count, size_at, width, height, small, tiles_from, Opened, parsed};
 ghost use Rattle.frames.specs.Meaning.{ParsedSays};
-ghost use Rattle.frames.specs.declared.input.Parsed.TheVariants.{Refused};
 
 use crate::lines;
+use ports::size::Block;
 use refusal::Refusal;
 use texts::hex::pair;
-
-// W, H and what is said of the column to the east, or why there is no block.
-#[derive(Clone, Copy)]
-pub enum Parsed {
-    Block(u32, u32, u32),
-    Refused(Refusal),
-}
 
 // How many groups stand in an input, and where the line behind them begins.
 #[derive(Clone, Copy)]
@@ -58,16 +51,16 @@ fn missing_tile(s: &[u8], at: usize, n: usize) -> Option<usize>
     (0..n).find(|t| !lines::tile_line(s, at + 219 * *t))
 }
 
-fn line(n: usize) -> Parsed
+fn line(n: usize) -> Result<Block, Refusal>
     requires { n < 2 ^ 32 }
-    ensures { result ≡ Refused (Line n) }
+    ensures { result ≡ Err (Line n) }
 {
-    Parsed::Refused(Refusal::Line(n as u32))
+    Err(Refusal::Line(n as u32))
 }
 
 // Behind a good block frame that has g groups before it, from a position on: the tiles that are due, and nothing more.
 #[tactic(auto, using(crate::proofs::BoundLaws::size_at_le, crate::proofs::BoundLaws::size_digits_le, crate::proofs::BoundLaws::group_count_le, crate::proofs::ParsedLaws::due_le))]
-fn parse_tiles(s: &[u8], g: usize, from: usize, w: u16, h: u16, east: u16) -> Parsed
+fn parse_tiles(s: &[u8], g: usize, from: usize, w: u16, h: u16, east: u16) -> Result<Block, Refusal>
     requires { Opened s.now × (g ≡ group_count s.now) × (from ≡ tiles_from s.now) × (w ≡ width s.now) × (h ≡ height s.now) ×
         (east ≡ east_at s.now (size_at s.now)) }
     ensures { result ≡ parsed s.now }
@@ -79,13 +72,17 @@ fn parse_tiles(s: &[u8], g: usize, from: usize, w: u16, h: u16, east: u16) -> Pa
     if s.len() != from + 219 * due {
         return line(4 + g + due);
     }
-    Parsed::Block(u32::from(w), u32::from(h), u32::from(east))
+    Ok(Block {
+        w: u32::from(w),
+        h: u32::from(h),
+        east: u32::from(east),
+    })
 }
 
 // Reads an input of frames. Grounds 11 and 1 as they are met.
 // Rules out: passing over an empty line; a second block frame; a last line that is not ended; a tile too few or too many.
 #[tactic(auto, using(crate::proofs::BoundLaws::size_at_le, crate::proofs::BoundLaws::size_digits_le, crate::proofs::BoundLaws::group_count_le))]
-pub fn parse(s: &[u8]) -> Parsed
+pub fn parse(s: &[u8]) -> Result<Block, Refusal>
     ensures answer { result ≡ parsed s.now }
     ensures says { ParsedSays s.now result }
 {
@@ -102,7 +99,7 @@ pub fn parse(s: &[u8]) -> Parsed
     let w = pair(s, at + 2);
     let h = pair(s, at + 4);
     if !is_small(w) || !is_small(h) {
-        return Parsed::Refused(Refusal::WrongSize);
+        return Err(Refusal::WrongSize);
     }
     let from = at + lines::size_digits(s, at) + 1;
     parse_tiles(s, g, from, w, h, lines::east(s, at))

@@ -54,8 +54,8 @@ abbrev pub answer_number : {A : Type 0} → Result A Refusal → ℕ
 answer_number (Ok _) = 0
 answer_number (Err refusal) = number_of refusal
 
--- What comes with it: the place of a no, or 0 for a yes that has nothing to say
-abbrev pub answer_value : Result (Unit {0}) Refusal → ℕ
+-- What comes with it: the place of a no, and 0 for a yes that brings no number (frame 08)
+abbrev pub answer_value : {A : Type 0} → Result A Refusal → ℕ
 answer_value (Ok _) = 0
 answer_value (Err refusal) = place_of refusal
 

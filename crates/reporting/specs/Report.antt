@@ -10,9 +10,7 @@ use Rattle.words.specs.Forms.{TileBits, tiles_of_bytes}
 use Rattle.config.specs.Blocks.{decoded}
 use Rattle.equations.specs.Sources.{sources_of}
 use Rattle.block.specs.Building.{build_answer}
-use Rattle.frames.specs.declared.input.Parsed.{Parsed}
-use Rattle.frames.specs.declared.input.Parsed.TheVariants as parse
-use Rattle.frames.specs.Input.{parsed, parsed_number, parsed_place}
+use Rattle.frames.specs.Input.{parsed}
 use Rattle.frames.specs.Contents.{bits_of}
 use Rattle.frames.specs.Contents as contents
 use Rattle.lines.specs.Lines.{answer_line}
@@ -32,16 +30,16 @@ accepted_lines B t st = lines_of (sources_of B t st) st (tiles B)
 -- "After a no only the 08 line is printed."
 abbrev pub built_lines : Block → List ℕ → List ℕ → Result ℕ Refusal → List ℕ
 built_lines B t st (Ok rows) = accepted_lines B t st
-built_lines B t st (Err refusal) = answer_line (answer_number {A = ℕ} (Err refusal)) (number_value (Err refusal))
+built_lines B t st (Err refusal) = answer_line (number_of refusal) (place_of refusal)
 
 -- the report of a block's tiles; every lent length is exact
 unfoldable pub block_lines : Block → List ℕ → (ℕ → TileBits) → List ℕ
 block_lines B t tile = built_lines B t (decoded t tile (tiles B)) (build_answer B t tile true)
 
 -- the report of what was parsed; a frame has a tile's bytes, and stays so (document 02, W7: "keep the bytes at the file edge")
-abbrev pub parsed_lines : List ℕ → Parsed → List ℕ
-parsed_lines s (parse.Block w h e) = block_lines (block w h e) (contents.table_of s) (tiles_of_bytes (bits_of s (h * w)))
-parsed_lines s (parse.Refused refusal) = answer_line (parsed_number (parse.Refused refusal)) (parsed_place (parse.Refused refusal))
+abbrev pub parsed_lines : List ℕ → Result Block Refusal → List ℕ
+parsed_lines s (Ok b) = block_lines b (contents.table_of s) (tiles_of_bytes (bits_of s (b.h * b.w)))
+parsed_lines s (Err refusal) = answer_line (number_of refusal) (place_of refusal)
 
 -- the whole report
 unfoldable pub report_of : List ℕ → List ℕ

@@ -14,7 +14,6 @@ ghost use Rattle.frames.specs.Contents.{table_of, bits_of};
 ghost use Rattle.texts.specs.Pieces.{placed};
 ghost use Rattle.reporting.specs.Report.{out_length, block_lines, report_of};
 
-use frames::input::Parsed;
 use ports::lengths::{TABLE_LENGTH, TILE_BYTES, TILE_NUMBERS};
 use ports::size::Block;
 
@@ -108,7 +107,7 @@ pub fn report(input: &[u8], out: &mut [u8; OUTPUT]) -> usize
     ensures fits { result ≤ length out.new }
 {
     match frames::input::parse(input) {
-        Parsed::Refused(r) => blocks::put_refusal(r, out),
-        Parsed::Block(w, h, east) => put_input(input, Block { w, h, east }, out),
+        Err(r) => blocks::put_refusal(r, out),
+        Ok(b) => put_input(input, b, out),
     }
 }

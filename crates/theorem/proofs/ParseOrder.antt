@@ -1,4 +1,6 @@
 -- The grounds of reading frames in their order. Main laws: `input_no`, `input_yes`, for whatever is done with the block; `parse_order`. Assumes nothing.
+use Rattle.ports.specs.declared.size.Block.{Block}
+use Rattle.std.specs.Prelude.{Result, Ok, Err}
 use Prim.Native.Nat.{ℕ}
 use mathlib.Core.Path.{◌≡◌, refl, sym, ap, ◌∙◌, subst}
 use mathlib.Core.Bool.{true, ◌&&◌}
@@ -8,13 +10,11 @@ use native.Mathlib.Omega.{arith}
 use Rattle.lists.proofs.CaseLaws.{cases, clash}
 use Rattle.refusal.specs.declared.Refusal.{Refusal}
 use Rattle.refusal.specs.declared.Refusal.TheVariants.{WrongSize}
-use Rattle.refusal.specs.Grounds.{number_of, place_of}
+use Rattle.refusal.specs.Grounds.{number_of, place_of, answer_number, answer_value}
 use Rattle.texts.specs.Pieces.{Stands}
-use Rattle.frames.specs.declared.input.Parsed.{Parsed}
-use Rattle.frames.specs.declared.input.Parsed.TheVariants.{Block, Refused}
 use Rattle.frames.specs.Frames.{Frame, size, line, Proper}
 use Rattle.frames.specs.Lines.{fields_line, passive_line, size_line}
-use Rattle.frames.specs.Input.{group_count, size_at, small, parsed, parsed_number, parsed_place}
+use Rattle.frames.specs.Input.{group_count, size_at, small, parsed}
 use Rattle.frames.specs.Meaning.{with_groups, tiles_left, Turn, the_size, a_tile, Sized, Begins, one_more, SizeSays, wrong_size, bad_line, ParsedNo, ParsedSays}
 use Rattle.frames.proofs.SmallLaws.{small_of, small_passes}
 use Rattle.frames.proofs.FrameLaws.{size_read, size_reads}
@@ -110,41 +110,41 @@ module _ (s : List ℕ) where
 
   -- ---- one answer only
 
-  pub taken_is : (x : Taken s) → Block x.w x.h x.east ≡ parsed s
-  taken_is x = (parsed_exact s (Block x.w x.h x.east)).0 x.says
+  pub taken_is : (x : Taken s) → Ok (block_taken x) ≡ parsed s
+  taken_is x = (parsed_exact s (Ok (block_taken x))).0 x.says
 
-  size_is : SizeSays s → Refused WrongSize ≡ parsed s
-  size_is z = (parsed_exact s (Refused WrongSize)).0 (wrong_size z)
+  size_is : SizeSays s → Err WrongSize ≡ parsed s
+  size_is z = (parsed_exact s (Err WrongSize)).0 (wrong_size z)
 
   -- ---- the grounds
 
   module _ (later : Taken s → ℕ → ℕ → Type 0) where
-    no_says : (refusal : Refusal) → parsed s ≡ Refused refusal → ParsedNo s refusal → InputGrounds s later (number_of refusal) (place_of refusal)
+    no_says : (refusal : Refusal) → parsed s ≡ Err refusal → ParsedNo s refusal → InputGrounds s later (number_of refusal) (place_of refusal)
     no_says refusal e (wrong_size z) = inr (refused z, inl (λ few. z.not_small (few (refused z)), refl, refl))
     no_says refusal e (bad_line n z) =
         ⊎_elim
         (λ b. inr (
           b,
           inr (
-            small_read (λ y. let q : ◌≡◌ {A = ℕ} 1 11 = ap parsed_number (size_is y ∙ e) in omega arith),
-            inl (λ x. let q : ◌≡◌ {A = ℕ} 0 11 = ap parsed_number (taken_is x ∙ e) in omega arith, refl, z),
+            small_read (λ y. let q : ◌≡◌ {A = ℕ} 1 11 = ap answer_number (size_is y ∙ e) in omega arith),
+            inl (λ x. let q : ◌≡◌ {A = ℕ} 0 11 = ap answer_number (taken_is x ∙ e) in omega arith, refl, z),
           ),
         ))
         (λ none. inl (none, refl, z)) size_or_none
 
-    pub input_no : (refusal : Refusal) → parsed s ≡ Refused refusal → InputGrounds s later (number_of refusal) (place_of refusal)
+    pub input_no : (refusal : Refusal) → parsed s ≡ Err refusal → InputGrounds s later (number_of refusal) (place_of refusal)
     input_no refusal e = no_says refusal e (subst (ParsedSays s) e (parsed_says s))
 
     pub input_yes : (x : Taken s) (number value : ℕ) → later x number value → InputGrounds s later number value
     input_yes x number value l = inr (
       tiles_size (whole_begins s x.says.input x.says.whole),
-      inr (small_read (λ y. let q : ◌≡◌ {A = ℕ} 1 0 = ap parsed_number (size_is y ∙ sym (taken_is x)) in omega arith), inr (x, l)),
+      inr (small_read (λ y. let q : ◌≡◌ {A = ℕ} 1 0 = ap answer_number (size_is y ∙ sym (taken_is x)) in omega arith), inr (x, l)),
     )
 
-  answer_order : (r : Parsed) → parsed s ≡ r → ParseGrounds s r (parsed_number r) (parsed_place r)
-  answer_order (Block w h east) e =
-      input_yes (SizeGiven (Block w h east)) (record { w = w; h = h; east = east; says = subst (ParsedSays s) e (parsed_says s) }) 0 0 (refl, (refl, refl))
-  answer_order (Refused refusal) e = input_no (SizeGiven (Refused refusal)) refusal e
+  answer_order : (r : Result Block Refusal) → parsed s ≡ r → ParseGrounds s r (answer_number r) (answer_value r)
+  answer_order (Ok b) e =
+      input_yes (SizeGiven (Ok b)) (record { w = b.w; h = b.h; east = b.east; says = subst (ParsedSays s) e (parsed_says s) }) 0 0 (refl, (refl, refl))
+  answer_order (Err refusal) e = input_no (SizeGiven (Err refusal)) refusal e
 
-  pub parse_order : ParseGrounds s (parsed s) (parsed_number (parsed s)) (parsed_place (parsed s))
+  pub parse_order : ParseGrounds s (parsed s) (answer_number (parsed s)) (answer_value (parsed s))
   parse_order = answer_order (parsed s) refl

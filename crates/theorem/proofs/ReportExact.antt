@@ -1,4 +1,7 @@
 -- What theorem/specs/ReportGrounds.antt says fits one answer and one report only. Main laws: `report_exact`; `parse_one`. Assumes nothing.
+use Rattle.refusal.specs.Grounds.{answer_number, answer_value}
+use Rattle.refusal.specs.declared.Refusal.{Refusal}
+use Rattle.std.specs.Prelude.{Result, Ok, Err}
 use Prim.Native.Nat.{ℕ}
 use mathlib.Core.Path.{◌≡◌, sym, ap, ap₂, ◌∙◌, subst}
 use mathlib.Core.Logic.{inl, inr, ⊎_elim, ◌↔◌, ◌≢◌}
@@ -10,10 +13,8 @@ use Rattle.ports.specs.declared.size.Block.{Block}
 use Rattle.ports.specs.Block.{block, tiles}
 use Rattle.words.specs.Forms.{tiles_of_bytes}
 use Rattle.config.specs.Blocks.{decoded}
-use Rattle.frames.specs.declared.input.Parsed.{Parsed}
-use Rattle.frames.specs.declared.input.Parsed.TheVariants as parses
 use Rattle.frames.specs.Contents.{table_of, bits_of}
-use Rattle.frames.specs.Input.{parsed, parsed_number, parsed_place}
+use Rattle.frames.specs.Input.{parsed}
 use Rattle.frames.specs.Meaning.{LineSays, bad_line}
 use Rattle.frames.proofs.ExactLaws.{parsed_exact}
 use Rattle.lines.specs.Lines.{answer_line}
@@ -26,14 +27,14 @@ use Rattle.theorem.proofs.ParseOrder.{taken_is, parse_order}
 use Rattle.theorem.proofs.ReportOrder.{report_order}
 
 -- the block of an answer; none has a size of 0
-abbrev block_in : Parsed → Block
-block_in (parses.Block w h east) = block w h east
-block_in (parses.Refused refusal) = block 0 0 0
+abbrev block_in : Result Block Refusal → Block
+block_in (Ok b) = b
+block_in (Err refusal) = block 0 0 0
 
 module _ (s : List ℕ) where
   one_line : One (LineSays s)
   one_line v u a b =
-      ap parsed_place ((parsed_exact s (parses.Refused (Line v))).0 (bad_line v a) ∙ sym ((parsed_exact s (parses.Refused (Line u))).0 (bad_line u b)))
+      ap answer_value ((parsed_exact s (Err (Line v))).0 (bad_line v a) ∙ sym ((parsed_exact s (Err (Line u))).0 (bad_line u b)))
 
   one_block : (x y : Taken s) → block_taken x ≡ block_taken y
   one_block x y = ap block_in (taken_is s x ∙ sym (taken_is s y))
@@ -50,12 +51,12 @@ module _ (s : List ℕ) where
       behind n v m u (inr a) (inl b) = absurd (b.0 a.0)
       behind n v m u (inr a) (inr b) = later a.0 b.0 n v m u a.1 b.1
 
-  given_size : (r q : Parsed) (x y : Taken s) → Agrees (r ≡ q) (SizeGiven r x) (SizeGiven q y)
+  given_size : (r q : Result Block Refusal) (x y : Taken s) → Agrees (r ≡ q) (SizeGiven r x) (SizeGiven q y)
   given_size r q x y = yes_agrees (λ v u a b. (a.0 ∙ sym b.0, a.1 ∙ taken_is s x ∙ sym (taken_is s y) ∙ sym b.1))
 
   -- an answer that meets the grounds of `parse` has its number and its place, and after a yes its block
-  pub parse_one : (r : Parsed) → ParseGrounds s r (parsed_number r) (parsed_place r)
-      → (parsed_number r ≡ parsed_number (parsed s)) × (parsed_place r ≡ parsed_place (parsed s)) × (parsed_number r ≡ 0 → r ≡ parsed s)
+  pub parse_one : (r : Result Block Refusal) → ParseGrounds s r (answer_number r) (answer_value r)
+      → (answer_number r ≡ answer_number (parsed s)) × (answer_value r ≡ answer_value (parsed s)) × (answer_number r ≡ 0 → r ≡ parsed s)
   parse_one r a = input_agrees (given_size r (parsed s)) _ _ _ _ a (parse_order s)
 
   -- ---- 3 to 8

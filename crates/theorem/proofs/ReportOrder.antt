@@ -25,8 +25,6 @@ use Rattle.block.specs.Building.{build_answer}
 use Rattle.block.specs.Meaning.{BuildSays}
 use Rattle.block.proofs.LengthLaws.{build_long_exact}
 use Rattle.block.proofs.MeaningLaws.{build_says}
-use Rattle.frames.specs.declared.input.Parsed.{Parsed}
-use Rattle.frames.specs.declared.input.Parsed.TheVariants as parses
 use Rattle.frames.specs.Contents.{table_of}
 use Rattle.frames.specs.Input.{parsed}
 use Rattle.frames.specs.Meaning.{ParsedSays}
@@ -79,7 +77,7 @@ accepted_last B t st = sym (append_assoc (switch_lines (sources_of B t st) (port
 module _ (s : List ℕ) where
   taken_sized : (x : Taken s) → Sized (block_taken x)
   taken_sized x =
-      let few = small_size s (parses.Block x.w x.h x.east) x.w x.h x.east x.says refl in
+      let few = small_size s (Ok (block_taken x)) x.w x.h x.east x.says refl in
       let w = few.w_few in
       let h = few.h_few in
       record { w_some = few.w_some; w_few = omega arith; h_some = few.h_some; h_few = omega arith; east_known = east_few s x.w x.h x.east x.says }
@@ -155,9 +153,9 @@ module _ (s : List ℕ) where
       only_line = taken_said.only_line;
     }
 
-  parsed_report : (r : Parsed) → parsed s ≡ r → ReportSays s (parsed_lines s r)
-  parsed_report (parses.Block w h east) e = taken_report (record { w = w; h = h; east = east; says = subst (ParsedSays s) e (parsed_says s) })
-  parsed_report (parses.Refused refusal) e = record {
+  parsed_report : (r : Result Block Refusal) → parsed s ≡ r → ReportSays s (parsed_lines s r)
+  parsed_report (Ok b) e = taken_report (record { w = b.w; h = b.h; east = b.east; says = subst (ParsedSays s) e (parsed_says s) })
+  parsed_report (Err refusal) e = record {
     number = number_of refusal;
     place = place_of refusal;
     grounds = input_no s (LinesGrounds (answer_line (number_of refusal) (place_of refusal))) refusal e;

@@ -25,7 +25,7 @@ use Rattle.sim.specs.Lengths.{inputs_lent, step_lent}
 use Rattle.words.specs.Answers.{words_answer, bytes_answer}
 use Rattle.asc.specs.Area.{area_at}
 use Rattle.asc.specs.Answers as files
-use Rattle.frames.specs.Input.{parsed, parsed_number, parsed_place}
+use Rattle.frames.specs.Input.{parsed}
 use Rattle.reporting.specs.Report.{report_of}
 use Rattle.theorem.specs.Calls.{built, followed, stepped, contended, compared}
 use Rattle.theorem.specs.EntryGrounds.{WireGrounds, LookupGrounds, CountGrounds, ReadGrounds, WriteGrounds}
@@ -80,7 +80,7 @@ pub record Demand1 : Type 0 where
       → ContentionGrounds B table bits (settings_read B table bits) (contention_lent table bits settings wires heads nexts) (length list)
       (answer_number (contended B table bits list settings wires heads nexts)) (number_value (contended B table bits list settings wires heads nexts))
   -- the same of the report program: of reading its frames, and of its report, whose last line has the number and the place
-  pub parse : (input : List ℕ) → ParseGrounds input (parsed input) (parsed_number (parsed input)) (parsed_place (parsed input))
+  pub parse : (input : List ℕ) → ParseGrounds input (parsed input) (answer_number (parsed input)) (answer_value (parsed input))
   pub report : (input : List ℕ) → ReportSays input (report_of input)
   -- "On a refusal the outputs keep their old contents": every output's clause is `output` of the answer's number
   pub outputs_kept : (refusal : Refusal) (old new : List ℕ) → output (number_of refusal) old new ≡ old

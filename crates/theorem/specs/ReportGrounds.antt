@@ -3,13 +3,12 @@
 --   SizeRead == the block frame is read      SmallRead == with W and H of 1 to 3      Taken == every line is in its turn, and none is left over
 --   InputGrounds == 11 and 1 as met, before anything is built      LinesGrounds == 3 to 8, and the report of a yes
 --   ReportSays == the grounds of a report, and where it says their number and place
-use Rattle.std.specs.Prelude.{ℕ, ◌≡◌, ◌≢◌, List, [], ◌++◌, length}
+use Rattle.refusal.specs.declared.Refusal.{Refusal}
+use Rattle.std.specs.Prelude.{ℕ, ◌≡◌, ◌≢◌, List, [], ◌++◌, length, Result, Ok}
 use Rattle.ports.specs.declared.size.Block.{Block}
 use Rattle.ports.specs.Block.{block, size_of, tiles}
 use Rattle.ports.specs.Lengths.{table_length, bytes_length}
 use Rattle.texts.specs.Pieces.{Stands}
-use Rattle.frames.specs.declared.input.Parsed.{Parsed}
-use Rattle.frames.specs.declared.input.Parsed.TheVariants as parses
 use Rattle.frames.specs.Frames.{Frame, line, Proper}
 use Rattle.words.specs.Forms.{TileBits, tiles_of_bytes}
 use Rattle.config.specs.Blocks.{decoded}
@@ -66,10 +65,10 @@ InputGrounds s later =
     (CheckFor 11 (Taken s) (LineSays s) later))
 
 -- reading frames: a yes has W, H and what is said of the column to the east
-abbrev pub SizeGiven : {s : List ℕ} → Parsed → Taken s → ℕ → ℕ → Type 0
-SizeGiven answer x = Yes (λ place. (place ≡ 0) × (answer ≡ parses.Block x.w x.h x.east))
+abbrev pub SizeGiven : {s : List ℕ} → Result Block Refusal → Taken s → ℕ → ℕ → Type 0
+SizeGiven answer x = Yes (λ place. (place ≡ 0) × (answer ≡ Ok (block_taken x)))
 
-abbrev pub ParseGrounds : (s : List ℕ) → Parsed → ℕ → ℕ → Type 0
+abbrev pub ParseGrounds : (s : List ℕ) → Result Block Refusal → ℕ → ℕ → Type 0
 ParseGrounds s answer = InputGrounds s (SizeGiven answer)
 
 -- a report: a yes has the place 0, and the lines of an accepted block

@@ -1,10 +1,10 @@
 -- `input::parse` meets its contract: each return is a law of ParsedLaws, with what the tests before it showed. Assumes nothing.
+use Rattle.std.specs.Prelude.{Err}
 use Rattle.frames.proofs.ParsedLaws.{parsed_no_fields, parsed_no_passives, parsed_no_size, parsed_not_small}
 use Rattle.frames.proofs.MeaningLaws.{says_too}
 use Rattle.frames.specs.Input.{width, height, small}
 use Rattle.frames.specs.Lines.{size_line}
 use Rattle.texts.specs.Hex.{pair_at}
-use Rattle.frames.specs.declared.input.Parsed.TheVariants.{Refused}
 use Rattle.refusal.specs.declared.Refusal.TheVariants.{Line}
 use Rattle.lists.proofs.CaseLaws.{and_false_left, and_false_right}
 use Prim.Native.Nat.{◌+◌}
@@ -35,7 +35,7 @@ returns-then-not-size_line c =
     let bad = ap (size_line s) (sym c.count_groups-g.ensures.end) ∙ sym c.size_line.ensures ∙ c.if-not-size_line.true in
     let says =
     says_too _ _
-    (c.line-then-not-size_line.ensures ∙ ap (λ n. Refused (Line (3 + n))) c.count_groups-g.ensures.count
+    (c.line-then-not-size_line.ensures ∙ ap (λ n. Err (Line (3 + n))) c.count_groups-g.ensures.count
     ∙ sym (parsed_no_size s (sym c.fields_line.ensures ∙ c.if-not-fields_line.false) (sym c.passive_line.ensures ∙ c.if-not-passive_line.false) bad)) in
     record { answer = says.0; says = says.1 }
 

@@ -44,3 +44,6 @@ module _ (s : List ℕ) where
   pub size_at_le : size_at s ≤ 1312272
   unfolding size_at
   size_at_le = omega (arith, group_at_le (group_count s), group_count_le)
+
+-- what the code's sums need
+pub ruleset bounds = (passive_count_lt, position_count_lt, entry_count_lt, group_digits_le, group_count_le, size_digits_le, size_at_le)

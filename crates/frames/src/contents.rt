@@ -17,7 +17,7 @@ const HEAD: usize = 69;
 const GROUP: usize = 75;
 
 // Number k of those before the groups; `count` is the group count.
-#[tactic(auto, using(crate::proofs::BoundLaws::passive_count_lt, crate::proofs::BoundLaws::group_count_le), unfolding(crate::specs::Contents::head_number))]
+#[tactic(auto, using(crate::proofs::BoundLaws::bounds), unfolding(crate::specs::Contents::head_number))]
 fn head_number(s: &[u8], count: usize, k: usize) -> u16
     requires { (count ≡ group_count s.now) × (k < 69) }
     ensures { result ≡ head_number s.now k }
@@ -56,7 +56,7 @@ fn entry_number(s: &[u8], at: usize, e: usize) -> u16
 }
 
 // Number k of a group whose frame begins at a position.
-#[tactic(auto, using(crate::proofs::BoundLaws::position_count_lt, crate::proofs::BoundLaws::entry_count_lt), unfolding(crate::specs::Contents::group_number))]
+#[tactic(auto, using(crate::proofs::BoundLaws::bounds), unfolding(crate::specs::Contents::group_number))]
 fn group_number(s: &[u8], at: usize, k: usize) -> u16
     requires { (at < 2 ^ 28) × (k < 75) }
     ensures { result ≡ group_number s.now at k }
@@ -83,7 +83,7 @@ fn fill_group(s: &[u8], at: usize, group: &mut [u16])
     }
 }
 
-#[tactic(auto, using(crate::proofs::BoundLaws::passive_count_lt, crate::proofs::BoundLaws::group_digits_le, crate::proofs::BoundLaws::group_count_le, crate::proofs::FillLaws::filling_at_le))]
+#[tactic(auto, using(crate::proofs::BoundLaws::bounds, crate::proofs::FillLaws::filling_at_le))]
 fn fill_groups(s: &[u8], count: usize, rest: &mut [u16])
     requires { (count ≡ group_count s.now) × (length rest.old ≡ 75 * 512) }
     ensures { rest.new ≡ joined (group_numbers s.now) 512 }
@@ -119,7 +119,7 @@ fn fill_tile(s: &[u8], at: usize, tile: &mut [u8])
 }
 
 // The bits of the n tiles of an input that was parsed.
-#[tactic(auto, using(crate::proofs::BoundLaws::size_at_le, crate::proofs::BoundLaws::size_digits_le))]
+#[tactic(auto, using(crate::proofs::BoundLaws::bounds))]
 pub fn fill_bits(s: &[u8], n: usize, bits: &mut [u8])
     requires { (n ≤ 9) × (length bits.old ≡ tile_bytes * n) }
     ensures { bits.new ≡ bits_of s.now n }

@@ -22,7 +22,7 @@ pub struct Groups {
 const GROUPS: usize = 512;
 
 // The frames 03 behind a good line 02.
-#[tactic(auto, using(crate::proofs::BoundLaws::passive_count_lt, crate::proofs::BoundLaws::group_digits_le, crate::proofs::InputLaws::counting_le))]
+#[tactic(auto, using(crate::proofs::BoundLaws::bounds, crate::proofs::InputLaws::counting_le))]
 pub fn count_groups(s: &[u8]) -> Groups
     ensures count { result.count ≡ group_count s.now }
     ensures end { result.end ≡ size_at s.now }
@@ -59,7 +59,7 @@ fn line(n: usize) -> Result<Block, Refusal>
 }
 
 // Behind a good block frame that has g groups before it, from a position on: the tiles that are due, and nothing more.
-#[tactic(auto, using(crate::proofs::BoundLaws::size_at_le, crate::proofs::BoundLaws::size_digits_le, crate::proofs::BoundLaws::group_count_le, crate::proofs::ParsedLaws::due_le))]
+#[tactic(auto, using(crate::proofs::BoundLaws::bounds, crate::proofs::ParsedLaws::due_le))]
 fn parse_tiles(s: &[u8], g: usize, from: usize, w: u16, h: u16, east: u16) -> Result<Block, Refusal>
     requires { Opened s.now × (g ≡ group_count s.now) × (from ≡ tiles_from s.now) × (w ≡ width s.now) × (h ≡ height s.now) ×
         (east ≡ east_at s.now (size_at s.now)) }
@@ -81,7 +81,7 @@ fn parse_tiles(s: &[u8], g: usize, from: usize, w: u16, h: u16, east: u16) -> Re
 
 // Reads an input of frames. Grounds 11 and 1 as they are met.
 // Rules out: passing over an empty line; a second block frame; a last line that is not ended; a tile too few or too many.
-#[tactic(auto, using(crate::proofs::BoundLaws::size_at_le, crate::proofs::BoundLaws::size_digits_le, crate::proofs::BoundLaws::group_count_le))]
+#[tactic(auto, using(crate::proofs::BoundLaws::bounds))]
 pub fn parse(s: &[u8]) -> Result<Block, Refusal>
     ensures answer { result ≡ parsed s.now }
     ensures says { ParsedSays s.now result }

@@ -56,7 +56,7 @@ pub fn position_count(s: &[u8], at: usize) -> usize
     usize::from(pair(s, at + 6))
 }
 
-#[tactic(auto, using(crate::proofs::BoundLaws::position_count_lt))]
+#[tactic(auto, using(crate::proofs::BoundLaws::bounds))]
 pub fn entry_count(s: &[u8], at: usize) -> usize
     requires { at < 2 ^ 30 }
     ensures { result ≡ entry_count s.now at }
@@ -66,7 +66,7 @@ pub fn entry_count(s: &[u8], at: usize) -> usize
 }
 
 // How many digits a group's frame has.
-#[tactic(auto, using(crate::proofs::BoundLaws::position_count_lt, crate::proofs::BoundLaws::entry_count_lt), unfolding(crate::specs::Lines::group_digits))]
+#[tactic(auto, using(crate::proofs::BoundLaws::bounds), unfolding(crate::specs::Lines::group_digits))]
 pub fn group_digits(s: &[u8], at: usize) -> usize
     requires { at < 2 ^ 30 }
     ensures { result ≡ group_digits s.now at }
@@ -74,7 +74,7 @@ pub fn group_digits(s: &[u8], at: usize) -> usize
     10 + 4 * position_count(s, at) + 6 * entry_count(s, at)
 }
 
-#[tactic(auto, using(crate::proofs::BoundLaws::group_digits_le), unfolding(crate::specs::Lines::group_line))]
+#[tactic(auto, using(crate::proofs::BoundLaws::bounds), unfolding(crate::specs::Lines::group_line))]
 pub fn group_line(s: &[u8], at: usize) -> bool
     requires { at < 2 ^ 30 }
     ensures { result ≡ group_line s.now at }
@@ -105,7 +105,7 @@ pub fn east(s: &[u8], at: usize) -> u16
 }
 
 // Rules out: a byte that is neither 00 nor 01; a second one.
-#[tactic(auto, using(crate::proofs::BoundLaws::size_digits_le), unfolding(crate::specs::Lines::size_line))]
+#[tactic(auto, using(crate::proofs::BoundLaws::bounds), unfolding(crate::specs::Lines::size_line))]
 pub fn size_line(s: &[u8], at: usize) -> bool
     requires { at < 2 ^ 30 }
     ensures { result ≡ size_line s.now at }

@@ -1,8 +1,8 @@
--- The tests of the sizes and the lengths are the facts (grounds 14 and 2). Main laws: `same_size_exact`, `part_long_exact`, `compare_long_exact`.
--- Assumes nothing.
-use mathlib.Core.Path.{◌≡◌}
+-- The tests of the sizes and the lengths are the facts (grounds 14 and 2). Main laws: `same_size_exact`, `part_long_exact`, `compare_long_exact`;
+-- `sizes_test`. Assumes nothing.
+use mathlib.Core.Path.{◌≡◌, sym, ap, ◌∙◌}
 use mathlib.Core.Logic.{◌↔◌}
-use mathlib.Core.Bool.{true}
+use mathlib.Core.Bool.{Bool, true, not, not-not}
 use Prim.Native.Nat.{ℕ}
 use borrow.Author.Tests.{eqb-true, eq-eqb}
 use Rattle.lists.proofs.CaseLaws.{equal_and, and_equal, and_left, and_right, and_true}
@@ -19,6 +19,10 @@ same_size_exact A B = (there, back)
 
     back : SameSize A B → same_size A B ≡ true
     back s = and_equal A.w B.w s.wide (eq-eqb A.h B.h s.high)
+
+-- what `!=` answers
+pub sizes_test : (A B : Size) {r b : Bool} → r ≡ not (same_size A B) → r ≡ b → same_size A B ≡ not b
+sizes_test A B e h = sym (not-not (same_size A B)) ∙ ap not (sym e ∙ h)
 
 pub part_long_exact : (S : Size) (first second : ℕ) → (part_exact S first second ≡ true) ↔ ((first ≡ bits_length S) × (second ≡ bits_length S))
 part_long_exact S first second = (there, back)

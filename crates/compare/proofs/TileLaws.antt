@@ -1,181 +1,140 @@
--- A tile's differences, kind by kind, as the code goes through them. Main laws: `count_tile`: how many; `fields_stored`, `groups_stored`,
--- `cells_stored`, `passives_stored`: the rows of each kind behind those of the kinds before it. Assumes that settings are 16-bit numbers.
-use Prim.Native.Nat.{ℕ, ◌+◌, ◌-◌, ◌*◌, ◌<◌, ◌≤◌, ◌^◌}
-use mathlib.Core.Path.{◌≡◌, sym, ap, ap₂, ◌∙◌}
-use mathlib.Core.Bool.{Bool, not}
-use mathlib.Core.List.{List, [], ◌∷◌}
+-- A tile's differences, kind by kind, as the code goes through them. What it has for a kind are the values at that kind's places (`Shows`): `fields_shown`,
+-- `groups_shown`, `cells_shown`, `passives_shown`. Main laws: `kind_count`: how many differ; `kind_stored`, `kind_room`: their rows behind those of the
+-- kinds before. Assumes nothing.
+use Prim.Native.Nat.{ℕ, ◌+◌, ◌-◌, ◌*◌, ◌<◌, ◌≤◌}
+use mathlib.Core.Path.{◌≡◌, refl, sym, ap, ◌∙◌}
+use mathlib.Core.Bool.{not}
+use mathlib.Core.List.{List}
 use native.Mathlib.Omega.{arith}
-use lib.ListN.{length, get_or}
-use lib.Seq.{sets}
+use lib.Dec.{eqb}
+use lib.ListN.{length, get_or, take, drop, length-drop}
+use lib.ListN.{get_or-map as map_at}
+use lib.Seq.{sets, get_or-take, get_or-drop, length-take-le}
+use Rattle.std.specs.Prelude.{map, sum_by}
+use Rattle.std.specs.Int.{from_bool}
+use Rattle.std.specs.List.{zip}
+use Rattle.std.proofs.lemmas.List.{get_or-map}
 use Rattle.lists.specs.Search.{count_below}
 use Rattle.lists.proofs.CountLaws.{count_le}
+use Rattle.lists.proofs.TableLaws.{tabulate_length}
 use Rattle.lists.specs.Listing.{rows_where}
-use Rattle.lists.proofs.RowLaws.{count_more, count_none_yet}
-use Rattle.lists.proofs.Storing.{StoredRows, stored_start, stored_more, stored_more_room}
-use Rattle.ports.specs.Lengths.{field_count, max_passives, max_groups}
+use Rattle.lists.proofs.RowLaws.{count_more}
+use Rattle.lists.proofs.Storing.{StoredRows, stored_more, stored_more_room}
+use Rattle.ports.specs.Lengths.{field_count, max_passives, max_groups, settings_length}
 use Rattle.cell.specs.declared.logic.Cell.{Cell}
 use Rattle.routing.specs.LogicTile.{logic_tile}
 use Rattle.codec.specs.Settings.{groups_from}
-use Rattle.codec.specs.Cells.{cell_number, cell_setting, cell_settings, empty_cell, same_cell}
-use Rattle.compare.specs.Places.{row_length, group_places, cell_places, passive_places, places_per_tile, kind_at, index_at, value_at, differ_at, row_at, number_apart, number_row, cell_apart, cell_row}
-use Rattle.compare.proofs.PlaceLaws.{value_field, value_group, value_cell, value_passive, kind_field, kind_group, kind_cell, kind_passive, differ_is, row_is, row_length_lem, cell_at, same_cell_number}
+use Rattle.codec.specs.Cells.{cell_number, cell_setting, cell_settings, empty_cell}
+use Rattle.compare.specs.Places.{row_length, group_places, cell_places, passive_places, places_per_tile, kind_at, index_at, value_at, differ_at, row_at, number_apart, number_row}
+use Rattle.compare.proofs.PlaceLaws.{value_field, value_group, value_cell, value_passive, kind_field, kind_group, kind_cell, kind_passive, differ_is, row_is, row_length_lem, cell_at}
+use Rattle.compare.proofs.KindLaws.{count_zip}
 
--- ---- the places of each kind
+-- ---- the settings of a kind
 
--- settings that are one number each: those at place j are the numbers at m
-module _ (old new : List ℕ) (j start i : ℕ) (d : value_at old j ≡ get_or old (start + i) 0) (e : value_at new j ≡ get_or new (start + i) 0) where
-  number_apart_lem : differ_at old new j ≡ number_apart start old new i
-  unfolding number_apart
-  number_apart_lem = differ_is old new j _ _ d e
+-- n numbers are the values at the places from j on
+abbrev pub Shows : (settings : List ℕ) (j n : ℕ) → List ℕ → Type 0
+Shows settings j n xs = (i : ℕ) → i < n → value_at settings (j + i) ≡ get_or xs (0 + i) 0
 
-  number_row_lem : (t kind : ℕ) → kind_at j ≡ kind → index_at j ≡ i → row_at t old new j ≡ number_row t kind start old new i
-  unfolding number_row
-  number_row_lem t kind f g = row_is old new j _ _ d e t kind i f g
+-- so many of a tile's settings as the code takes them out, as numbers
+abbrev pub cut : (from n : ℕ) → List ℕ → List ℕ
+cut from n settings = take n (drop from settings)
 
-module _ (old new : List ℕ) (t i : ℕ) where
-  module _ (l : i < field_count) where
-    field_apart : differ_at old new (0 + i) ≡ number_apart 0 old new i
-    field_apart = number_apart_lem old new (0 + i) 0 i (value_field old (0 + i) (omega arith)) (value_field new (0 + i) (omega arith))
+abbrev pub numbers : List ℕ → List ℕ
+numbers = map (λ n. n)
 
-    field_row : row_at t old new (0 + i) ≡ number_row t 1 0 old new i
-    field_row =
-        let k = kind_field (0 + i) (omega arith) in
-        number_row_lem old new (0 + i) 0 i (value_field old (0 + i) (omega arith)) (value_field new (0 + i) (omega arith)) t 1 k.0
-        (k.1 ∙ (let e : 0 + i ≡ i = omega arith in e))
+pub cut_length : (from n : ℕ) (settings : List ℕ) → from + n ≤ length settings → length (cut from n settings) ≡ n
+cut_length from n settings l = length-take-le n (drop from settings) (let e = length-drop from settings in omega arith)
 
-  module _ (l : i < max_groups) where
-    group_index : group_places + i - group_places ≡ i
-    group_index = omega arith
+module _ (settings : List ℕ) (long : length settings ≡ settings_length) where
+  -- settings from `from` on that are the values at the places from j on
+  cut_shown : (from j n : ℕ) → from + n ≤ settings_length → ((i : ℕ) → i < n → value_at settings (j + i) ≡ get_or settings (from + i) 0)
+      → Shows settings j n (numbers (cut from n settings))
+  cut_shown from j n l h i k =
+      let c = cut_length from n settings (omega arith) in
+      let z : i ≡ 0 + i = omega arith in
+      h i k ∙ sym (get_or-take n (drop from settings) i 0 k ∙ get_or-drop from settings i 0)
+      ∙ sym (get_or-map (λ n. n) (cut from n settings) i 0 0 (omega arith))
+      ∙ ap (λ (x : ℕ). get_or (numbers (cut from n settings)) x 0) z
 
-    group_value : (settings : List ℕ) → value_at settings (group_places + i) ≡ get_or settings (groups_from logic_tile + i) 0
-    group_value settings =
-        value_group settings (group_places + i) (omega arith) (omega arith) ∙ ap (λ (x : ℕ). get_or settings (groups_from logic_tile + x) 0) group_index
+  pub fields_shown : Shows settings 0 field_count (numbers (cut 0 field_count settings))
+  fields_shown = cut_shown 0 0 field_count (omega arith) (λ i l. value_field settings (0 + i) (omega arith))
 
-    group_apart : differ_at old new (group_places + i) ≡ number_apart (groups_from logic_tile) old new i
-    group_apart = number_apart_lem old new (group_places + i) (groups_from logic_tile) i (group_value old) (group_value new)
+  pub groups_shown : Shows settings group_places max_groups (numbers (cut (groups_from logic_tile) max_groups settings))
+  groups_shown =
+      cut_shown (groups_from logic_tile) group_places max_groups (omega arith)
+      (λ i l. value_group settings (group_places + i) (omega arith) (omega arith)
+      ∙ ap (λ (x : ℕ). get_or settings (groups_from logic_tile + x) 0) (let e : group_places + i - group_places ≡ i = omega arith in e))
 
-    group_row : row_at t old new (group_places + i) ≡ number_row t 2 (groups_from logic_tile) old new i
-    group_row =
-        let k = kind_group (group_places + i) (omega arith) (omega arith) in
-        number_row_lem old new (group_places + i) (groups_from logic_tile) i (group_value old) (group_value new) t 2 k.0 (k.1 ∙ group_index)
+  pub passives_shown : Shows settings passive_places max_passives (numbers (cut logic_tile.fields max_passives settings))
+  passives_shown =
+      cut_shown logic_tile.fields passive_places max_passives (omega arith)
+      (λ i l. value_passive settings (passive_places + i) (omega arith)
+      ∙ ap (λ (x : ℕ). get_or settings (logic_tile.fields + x) 0) (let e : passive_places + i - passive_places ≡ i = omega arith in e))
 
-  module _ (l : i < max_passives) where
-    passive_index : passive_places + i - passive_places ≡ i
-    passive_index = omega arith
+pub cells_length : (settings : List ℕ) (cells : List Cell) → cells ≡ cell_settings settings → length cells ≡ logic_tile.cells
+unfolding cell_settings
+cells_length settings cells e = ap length e ∙ tabulate_length (cell_setting settings) 0 8
 
-    passive_value : (settings : List ℕ) → value_at settings (passive_places + i) ≡ get_or settings (logic_tile.fields + i) 0
-    passive_value settings =
-        value_passive settings (passive_places + i) (omega arith) ∙ ap (λ (x : ℕ). get_or settings (logic_tile.fields + x) 0) passive_index
+pub cells_shown : (settings : List ℕ) (cells : List Cell) → cells ≡ cell_settings settings → Shows settings cell_places logic_tile.cells (map cell_number cells)
+cells_shown settings cells e i l =
+    value_cell settings (cell_places + i) (omega arith) (omega arith)
+    ∙ ap (λ (x : ℕ). cell_number (cell_setting settings x)) (let q : cell_places + i - cell_places ≡ i = omega arith in q)
+    ∙ ap cell_number (sym (ap (λ (xs : List Cell). get_or xs i empty_cell) e ∙ cell_at settings i l)) ∙ sym (map_at cell_number cells i empty_cell)
+    ∙ ap (λ (x : ℕ). get_or (map cell_number cells) x 0) (let q : i ≡ 0 + i = omega arith in q)
 
-    passive_apart : differ_at old new (passive_places + i) ≡ number_apart logic_tile.fields old new i
-    passive_apart = number_apart_lem old new (passive_places + i) logic_tile.fields i (passive_value old) (passive_value new)
+-- ---- their kind and their index
 
-    passive_row : row_at t old new (passive_places + i) ≡ number_row t 4 logic_tile.fields old new i
-    passive_row =
-        let k = kind_passive (passive_places + i) (omega arith) in
-        number_row_lem old new (passive_places + i) logic_tile.fields i (passive_value old) (passive_value new) t 4 k.0 (k.1 ∙ passive_index)
+abbrev pub Kinds : (j n kind : ℕ) → Type 0
+Kinds j n kind = (i : ℕ) → i < n → (kind_at (j + i) ≡ kind) × (index_at (j + i) ≡ i)
 
-  module _ (olds news : List Cell) (d : olds ≡ cell_settings old) (e : news ≡ cell_settings new) (l : i < logic_tile.cells) where
-    cell_index : cell_places + i - cell_places ≡ i
-    cell_index = omega arith
+pub field_kinds : Kinds 0 field_count 1
+field_kinds i l = let k = kind_field (0 + i) (omega arith) in (k.0, k.1 ∙ (let e : 0 + i ≡ i = omega arith in e))
 
-    cell_is : (settings : List ℕ) (cells : List Cell) → cells ≡ cell_settings settings → get_or cells i empty_cell ≡ cell_setting settings i
-    cell_is settings cells q = ap (λ (x : List Cell). get_or x i empty_cell) q ∙ cell_at settings i l
+pub group_kinds : Kinds group_places max_groups 2
+group_kinds i l = let k = kind_group (group_places + i) (omega arith) (omega arith) in (k.0, k.1 ∙ (let e : group_places + i - group_places ≡ i = omega arith in e))
 
-    place_value : (settings : List ℕ) → value_at settings (cell_places + i) ≡ cell_number (cell_setting settings i)
-    place_value settings =
-        value_cell settings (cell_places + i) (omega arith) (omega arith) ∙ ap (λ (x : ℕ). cell_number (cell_setting settings x)) cell_index
+pub cell_kinds : Kinds cell_places logic_tile.cells 3
+cell_kinds i l = let k = kind_cell (cell_places + i) (omega arith) (omega arith) in (k.0, k.1 ∙ (let e : cell_places + i - cell_places ≡ i = omega arith in e))
 
-    cell_apart_lem : ((k : ℕ) → get_or old k 0 < 2 ^ 16) → ((k : ℕ) → get_or new k 0 < 2 ^ 16) → differ_at old new (cell_places + i) ≡ cell_apart olds news i
-    unfolding cell_apart
-    cell_apart_lem fit fit' =
-        differ_is old new (cell_places + i) _ _ (place_value old) (place_value new)
-        ∙ ap not (sym (same_cell_number (cell_setting old i) (cell_setting new i) (fit _) (fit' _)))
-        ∙ sym (ap₂ (λ (x y : Cell). not (same_cell x y)) (cell_is old olds d) (cell_is new news e))
+pub passive_kinds : Kinds passive_places max_passives 4
+passive_kinds i l = let k = kind_passive (passive_places + i) (omega arith) in (k.0, k.1 ∙ (let e : passive_places + i - passive_places ≡ i = omega arith in e))
 
-    cell_row_lem : row_at t old new (cell_places + i) ≡ cell_row t olds news i
-    unfolding cell_row
-    cell_row_lem =
-        let k = kind_cell (cell_places + i) (omega arith) (omega arith) in
-        row_is old new (cell_places + i) _ _ (place_value old) (place_value new) t 3 i k.0 (k.1 ∙ cell_index)
-        ∙ sym (ap₂ (λ (x y : Cell). t ∷ 3 ∷ i ∷ cell_number x ∷ cell_number y ∷ []) (cell_is old olds d) (cell_is new news e))
-
--- ---- how many
-
-module _ (old new : List ℕ) (olds news : List Cell) (d : olds ≡ cell_settings old) (e : news ≡ cell_settings new)
-    (fit : (k : ℕ) → get_or old k 0 < 2 ^ 16) (fit' : (k : ℕ) → get_or new k 0 < 2 ^ 16) where
-  pub count_tile : (f g c p : ℕ) → f ≡ count_below (number_apart 0 old new) field_count → g ≡ count_below (number_apart (groups_from logic_tile) old new) max_groups
-      → c ≡ count_below (cell_apart olds news) 8 → p ≡ count_below (number_apart logic_tile.fields old new) max_passives
-      → f + g + c + p ≡ count_below (differ_at old new) places_per_tile
-  count_tile f g c p a b h k =
-      let z : f ≡ 0 + f = omega arith in
-      let one = z ∙ count_more (differ_at old new) 0 field_count (number_apart 0 old new) (λ i l. field_apart old new 0 i l) 0 f (count_none_yet (differ_at old new)) a in
-      let two = count_more (differ_at old new) group_places max_groups (number_apart (groups_from logic_tile) old new) (λ i l. group_apart old new 0 i l) f g one b in
-      let three = count_more (differ_at old new) cell_places logic_tile.cells (cell_apart olds news) (λ i l. cell_apart_lem old new 0 i olds news d e l fit fit') (f + g) c two h in
-      count_more (differ_at old new) passive_places max_passives (number_apart logic_tile.fields old new) (λ i l. passive_apart old new 0 i l) (f + g + c) p three k
-
--- a tile has few, whatever the tests
-pub kinds_few : (p q r s : ℕ → Bool) (f g c d : ℕ) → f ≡ count_below p field_count → g ≡ count_below q max_groups → c ≡ count_below r 8
-    → d ≡ count_below s max_passives → f + g + c + d ≤ places_per_tile
-kinds_few p q r s f g c d a b h k =
-    omega (arith, a, b, h, k, count_le p field_count, count_le q max_groups, count_le r 8, count_le s max_passives)
-
--- ---- their rows, kind by kind
+-- ---- the differences of a kind
 
 abbrev pub TileStored : ℕ → (old new : List ℕ) → ℕ → List ℕ → ℕ → ℕ → List ℕ → Type 0
 TileStored t old new from list₀ j at list = StoredRows (differ_at old new) (row_at t old new) row_length from list₀ j at list
 
-module _ (t : ℕ) (old new : List ℕ) (from : ℕ) (list₀ : List ℕ) where
-  start : TileStored t old new from list₀ 0 from list₀
-  start = stored_start (differ_at old new) (row_at t old new) row_length from list₀
+module _ (old new : List ℕ) (j n : ℕ) (olds news : List ℕ) (before : Shows old j n olds) (after : Shows new j n news) where
+  apart : (i : ℕ) → i < n → differ_at old new (j + i) ≡ number_apart 0 olds news i
+  unfolding number_apart
+  apart i l = differ_is old new (j + i) _ _ (before i l) (after i l)
 
-  pub fields_stored : (next : List ℕ) (then : ℕ) → next ≡ sets list₀ from (rows_where (number_apart 0 old new) (number_row t 1 0 old new) field_count)
-      → then ≡ from + row_length * count_below (number_apart 0 old new) field_count → TileStored t old new from list₀ group_places then next
-  fields_stored =
-      stored_more start field_count (number_apart 0 old new) (number_row t 1 0 old new) (λ i l. field_apart old new t i l) (row_length_lem t old new) (λ i l. field_row old new t i l)
+  pub kind_count : (c d : ℕ) → c ≡ count_below (differ_at old new) j → d ≡ count_below (number_apart 0 olds news) n → c + d ≡ count_below (differ_at old new) (j + n)
+  kind_count c d e f = count_more (differ_at old new) j n (number_apart 0 olds news) apart c d e f
 
-  module _ (fits : from + row_length * count_below (differ_at old new) places_per_tile ≤ length list₀) where
-    pub fields_room : from + row_length * count_below (number_apart 0 old new) field_count ≤ length list₀
-    fields_room = stored_more_room start field_count (number_apart 0 old new) (number_row t 1 0 old new) (λ i l. field_apart old new t i l) places_per_tile (omega arith) fits
+  module _ (t kind : ℕ) (kinds : Kinds j n kind) (from : ℕ) (list₀ : List ℕ) {at : ℕ} {list : List ℕ} (S : TileStored t old new from list₀ j at list) where
+    row : (i : ℕ) → i < n → row_at t old new (j + i) ≡ number_row t kind 0 olds news i
+    unfolding number_row
+    row i l = let k = kinds i l in row_is old new (j + i) _ _ (before i l) (after i l) t kind i k.0 k.1
 
-  module _ {at : ℕ} {list : List ℕ} where
-    pub groups_stored : TileStored t old new from list₀ group_places at list → (next : List ℕ) (then : ℕ)
-        → next ≡ sets list at (rows_where (number_apart (groups_from logic_tile) old new) (number_row t 2 (groups_from logic_tile) old new) max_groups)
-        → then ≡ at + row_length * count_below (number_apart (groups_from logic_tile) old new) max_groups → TileStored t old new from list₀ cell_places then next
-    groups_stored S =
-        stored_more S max_groups (number_apart (groups_from logic_tile) old new) (number_row t 2 (groups_from logic_tile) old new) (λ i l. group_apart old new t i l)
-        (row_length_lem t old new) (λ i l. group_row old new t i l)
+    pub kind_stored : (m : ℕ) → m ≡ n → (next : List ℕ) (then : ℕ) → next ≡ sets list at (rows_where (number_apart 0 olds news) (number_row t kind 0 olds news) m)
+        → then ≡ at + row_length * count_below (number_apart 0 olds news) m → TileStored t old new from list₀ (j + n) then next
+    kind_stored m e next then f g =
+        stored_more S n (number_apart 0 olds news) (number_row t kind 0 olds news) apart (row_length_lem t old new) row next then
+        (f ∙ ap (λ (x : ℕ). sets list at (rows_where (number_apart 0 olds news) (number_row t kind 0 olds news) x)) e)
+        (g ∙ ap (λ (x : ℕ). at + row_length * count_below (number_apart 0 olds news) x) e)
 
-    pub groups_room : TileStored t old new from list₀ group_places at list → from + row_length * count_below (differ_at old new) places_per_tile ≤ length list₀
-        → at + row_length * count_below (number_apart (groups_from logic_tile) old new) max_groups ≤ length list
-    groups_room S fits =
-        stored_more_room S max_groups (number_apart (groups_from logic_tile) old new) (number_row t 2 (groups_from logic_tile) old new) (λ i l. group_apart old new t i l)
-        places_per_tile (omega arith) fits
+    pub kind_room : (m : ℕ) → m ≡ n → j + n ≤ places_per_tile → from + row_length * count_below (differ_at old new) places_per_tile ≤ length list₀
+        → at + row_length * count_below (number_apart 0 olds news) m ≤ length list
+    kind_room m e l fits =
+        rw e (stored_more_room S n (number_apart 0 olds news) (number_row t kind 0 olds news) apart places_per_tile l fits)
 
-    pub passives_stored : TileStored t old new from list₀ passive_places at list → (next : List ℕ) (then : ℕ)
-        → next ≡ sets list at (rows_where (number_apart logic_tile.fields old new) (number_row t 4 logic_tile.fields old new) max_passives)
-        → then ≡ at + row_length * count_below (number_apart logic_tile.fields old new) max_passives → TileStored t old new from list₀ places_per_tile then next
-    passives_stored S =
-        stored_more S max_passives (number_apart logic_tile.fields old new) (number_row t 4 logic_tile.fields old new) (λ i l. passive_apart old new t i l)
-        (row_length_lem t old new) (λ i l. passive_row old new t i l)
+-- ---- how many a tile has, as the code adds them up
 
-    pub passives_room : TileStored t old new from list₀ passive_places at list → from + row_length * count_below (differ_at old new) places_per_tile ≤ length list₀
-        → at + row_length * count_below (number_apart logic_tile.fields old new) max_passives ≤ length list
-    passives_room S fits =
-        stored_more_room S max_passives (number_apart logic_tile.fields old new) (number_row t 4 logic_tile.fields old new) (λ i l. passive_apart old new t i l)
-        places_per_tile (omega arith) fits
+module _ {X : Type 0} (number : X → ℕ) (olds news : List X) (long : length news ≡ length olds) (d : ℕ)
+    (e : d ≡ sum_by (λ p. from_bool (not (eqb (number p.0) (number p.1)))) (zip olds news)) where
+  pub changed_count : (n : ℕ) → length olds ≡ n → d ≡ count_below (number_apart 0 (map number olds) (map number news)) n
+  changed_count n f = e ∙ count_zip number olds news long ∙ ap (count_below (number_apart 0 (map number olds) (map number news))) f
 
-    module _ (olds news : List Cell) (d : olds ≡ cell_settings old) (e : news ≡ cell_settings new)
-        (fit : (k : ℕ) → get_or old k 0 < 2 ^ 16) (fit' : (k : ℕ) → get_or new k 0 < 2 ^ 16) where
-      pub cells_stored : TileStored t old new from list₀ cell_places at list → (next : List ℕ) (then : ℕ)
-          → next ≡ sets list at (rows_where (cell_apart olds news) (cell_row t olds news) 8) → then ≡ at + row_length * count_below (cell_apart olds news) 8
-          → TileStored t old new from list₀ passive_places then next
-      cells_stored S =
-          stored_more S logic_tile.cells (cell_apart olds news) (cell_row t olds news) (λ i l. cell_apart_lem old new t i olds news d e l fit fit')
-          (row_length_lem t old new) (λ i l. cell_row_lem old new t i olds news d e l)
-
-      pub cells_room : TileStored t old new from list₀ cell_places at list → from + row_length * count_below (differ_at old new) places_per_tile ≤ length list₀
-          → at + row_length * count_below (cell_apart olds news) 8 ≤ length list
-      cells_room S fits =
-          stored_more_room S logic_tile.cells (cell_apart olds news) (cell_row t olds news) (λ i l. cell_apart_lem old new t i olds news d e l fit fit')
-          places_per_tile (omega arith) fits
+  pub changed_le : d ≤ length olds
+  changed_le = omega (arith, changed_count (length olds) refl, count_le (number_apart 0 (map number olds) (map number news)) (length olds))

@@ -4,7 +4,7 @@
 use Rattle.refusal.specs.declared.Refusal.{Refusal}
 use Rattle.std.specs.Prelude.{ℕ, ◌*◌, Bool, List, [], ltb, leb, Result, Ok, Err}
 use Rattle.lists.specs.Listing.{zero_filled}
-use Rattle.refusal.specs.Grounds.{unless, number_of, place_of}
+use Rattle.refusal.specs.Grounds.{unless}
 use Rattle.refusal.specs.declared.Refusal.TheVariants.{WrongSize, WrongLength, Table, Undecodable, SizesDiffer, ListTooShort, OutOfRange}
 use Rattle.ports.specs.declared.size.Size.{Size}
 use Rattle.ports.specs.Block.{tile_count, allowed}

@@ -2,10 +2,11 @@
 -- number for all four kinds lets one count and one list serve the block.
 use Rattle.std.specs.Prelude.{ℕ, ◌+◌, ◌-◌, Bool, cond, not, List, [], ◌∷◌, eqb, ltb, get_or}
 use Rattle.ports.specs.Lengths.{max_passives, max_groups}
-use Rattle.cell.specs.declared.logic.Cell.{Cell}
 use Rattle.routing.specs.LogicTile.{logic_tile}
 use Rattle.codec.specs.Settings.{field_setting, passive_setting, group_setting}
-use Rattle.codec.specs.Cells.{cell_number, cell_setting, empty_cell, same_cell}
+use Rattle.codec.specs.Cells.{cell_number, cell_setting}
+use Rattle.compare.specs.declared.settings.Kind.{Kind}
+use Rattle.compare.specs.declared.settings.Kind.TheVariants.{Field, Group, Cell, Passive}
 
 -- "A row is five 32-bit numbers"
 abbrev pub row_length : ℕ
@@ -56,9 +57,9 @@ number_apart start old new i = not (eqb (get_or old (start + i) 0) (get_or new (
 unfoldable pub number_row : (tile kind start : ℕ) → List ℕ → List ℕ → ℕ → List ℕ
 number_row tile kind start old new i = tile ∷ kind ∷ i ∷ get_or old (start + i) 0 ∷ get_or new (start + i) 0 ∷ []
 
--- the cells, by value
-unfoldable pub cell_apart : List Cell → List Cell → ℕ → Bool
-cell_apart olds news i = not (same_cell (get_or olds i empty_cell) (get_or news i empty_cell))
-
-unfoldable pub cell_row : ℕ → List Cell → List Cell → ℕ → List ℕ
-cell_row tile olds news i = tile ∷ 3 ∷ i ∷ cell_number (get_or olds i empty_cell) ∷ cell_number (get_or news i empty_cell) ∷ []
+-- the number that the code's name of a kind stands for
+abbrev pub kind_number : Kind → ℕ
+kind_number Field = 1
+kind_number Group = 2
+kind_number Cell = 3
+kind_number Passive = 4

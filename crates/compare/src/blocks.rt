@@ -11,7 +11,7 @@ ghost use Rattle.compare.specs.Rows.{difference_count, differences};
 ghost use Rattle.compare.specs.Lengths.{compare_lent, CompareLong};
 ghost use Rattle.compare.specs.Entry.{rows_answer, rows_list, bits_answer, compared_list};
 
-use crate::numbers::ROW_LENGTH;
+use crate::settings::ROW_LENGTH;
 use crate::tiles::{count_tile, list_tile};
 use ports::lengths::{POSITIONS, SETTINGS_LENGTH};
 use ports::size::Size;
@@ -23,12 +23,10 @@ fn count_block(before: &[u16], after: &[u16], n: usize) -> usize
     ensures { result ≡ difference_count before.now after.now n }
 {
     let mut c = 0;
-    let mut t = 0;
-    while t < n {
+    for t in 0..n {
         let start = SETTINGS_LENGTH * t;
         let end = start + SETTINGS_LENGTH;
         c += count_tile(&before[start..end], &after[start..end]);
-        t += 1;
     }
     c
 }
@@ -41,12 +39,10 @@ fn list_block(before: &[u16], after: &[u16], n: usize, list: &mut [u32]) -> usiz
     ensures list { list.new ≡ sets list.old 0 (differences before.now after.now n) }
 {
     let mut at = 0;
-    let mut t = 0;
-    while t < n {
+    for t in 0..n {
         let start = SETTINGS_LENGTH * t;
         let end = start + SETTINGS_LENGTH;
         at = list_tile(&before[start..end], &after[start..end], t as u32, list, at);
-        t += 1;
     }
     at
 }
@@ -64,7 +60,7 @@ fn list_settings(before: &[u16], after: &[u16], n: usize, list: &mut [u32]) -> R
         return Err(Refusal::ListTooShort(rows as u32));
     }
     let end = list_block(before, after, n, list);
-    lists::clear_numbers(&mut list[end..len]);
+    list[end..].fill(0);
     Ok(rows as u32)
 }
 

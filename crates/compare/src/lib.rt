@@ -13,15 +13,14 @@ ghost use Rattle.compare.specs.Lengths.{compare_lent, compare_exact};
 ghost use Rattle.compare.specs.Entry.{compare_answer, compared_list};
 ghost use Rattle.compare.specs.Meaning.{CompareSays};
 
-use crate::lengths::{CompareLent, is_compare_exact, is_same_size};
+use crate::lengths::{CompareLent, is_compare_exact};
 use ports::size::{Size, is_allowed};
 use refusal::Refusal;
 
 mod blocks;
-mod cells;
 pub mod lengths;
-mod numbers;
 pub mod part;
+mod settings;
 mod tiles;
 
 // Lists every difference between two blocks. Grounds 1, 14, 2, 3, 4, 15, in this order, each for the first block before the second
@@ -54,9 +53,9 @@ pub fn compare(
     if !is_allowed(b) {
         return Err(Refusal::WrongSize);
     }
-    if !is_same_size(a, b) {
-        lists::clear(before);
-        lists::clear(after);
+    if a != b {
+        before.fill(0);
+        after.fill(0);
         return Err(Refusal::SizesDiffer);
     }
     let lent = CompareLent {
@@ -70,7 +69,7 @@ pub fn compare(
         return Err(Refusal::WrongLength);
     }
     let r = blocks::compare_bits(a, table, first, second, list, before, after);
-    lists::clear(before);
-    lists::clear(after);
+    before.fill(0);
+    after.fill(0);
     r
 }

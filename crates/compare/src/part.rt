@@ -2,7 +2,7 @@
 ghost use Rattle.std.specs.Prelude.{◌≡◌, length};
 ghost use Rattle.compare.specs.Entry.{part_answer, part_of};
 
-use crate::lengths::{is_part_exact, is_same_size};
+use crate::lengths::is_part_exact;
 use ports::lengths::TILE_NUMBERS;
 use ports::size::{Size, is_allowed, tile_count};
 use refusal::Refusal;
@@ -24,7 +24,7 @@ pub fn part_answer(a: Size, b: Size, first: usize, second: usize, tile: u32) -> 
     if !is_allowed(b) {
         return Err(Refusal::WrongSize);
     }
-    if !is_same_size(a, b) {
+    if a != b {
         return Err(Refusal::SizesDiffer);
     }
     if !is_part_exact(a, first, second) {
@@ -56,8 +56,8 @@ pub fn tile_part<'a>(
     };
     let from = TILE_NUMBERS * (tile as usize);
     let to = from + TILE_NUMBERS;
-    if let Side::First = side {
-        return &first[from..to];
+    match side {
+        Side::First => &first[from..to],
+        Side::Second => &second[from..to],
     }
-    &second[from..to]
 }

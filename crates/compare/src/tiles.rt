@@ -6,30 +6,29 @@ ghost use Rattle.lists.specs.Listing.{rows_where};
 ghost use Rattle.ports.specs.Lengths.{settings_length};
 ghost use Rattle.compare.specs.Places.{row_length, places_per_tile, differ_at, row_at};
 
-use crate::cells::{count_cells, list_cells};
-use crate::numbers::{count_numbers, list_numbers};
-use codec::cells::cells_of;
+use crate::settings::{Kind, count_changed, list_changed};
+use codec::cells::{CELLS_FROM, cells_of};
 use codec::settings::{GROUPS_FROM, PASSIVES_FROM};
-use ports::lengths::{FIELDS, MAX_GROUPS, MAX_PASSIVES};
+use std::ops::Range;
 
-// The kinds of rows that are one number each.
-const FIELD: u32 = 1;
+// Where the settings of a kind stand, but for the cells.
+const FIELDS: Range<usize> = 0..PASSIVES_FROM;
 
-const GROUP: u32 = 2;
+const PASSIVES: Range<usize> = PASSIVES_FROM..GROUPS_FROM;
 
-const PASSIVE: u32 = 4;
+const GROUPS: Range<usize> = GROUPS_FROM..CELLS_FROM;
 
 // How many differences two tiles have.
 pub fn count_tile(old: &[u16], new: &[u16]) -> usize
     requires { (length old.now ≡ settings_length) × (length new.now ≡ settings_length) }
     ensures { result ≡ count_below (differ_at old.now new.now) places_per_tile }
 {
-    let fields = count_numbers(old, new, 0, FIELDS);
-    let groups = count_numbers(old, new, GROUPS_FROM, MAX_GROUPS);
+    let fields = count_changed(&old[FIELDS], &new[FIELDS]);
+    let groups = count_changed(&old[GROUPS], &new[GROUPS]);
     let olds = cells_of(old);
     let news = cells_of(new);
-    let cells = count_cells(olds, news);
-    let passives = count_numbers(old, new, PASSIVES_FROM, MAX_PASSIVES);
+    let cells = count_changed(&olds, &news);
+    let passives = count_changed(&old[PASSIVES], &new[PASSIVES]);
     fields + groups + cells + passives
 }
 
@@ -41,18 +40,16 @@ pub fn list_tile(old: &[u16], new: &[u16], tile: u32, list: &mut [u32], from: us
     ensures list { list.new ≡ sets list.old from
         (rows_where (differ_at old.now new.now) (row_at tile old.now new.now) places_per_tile) }
 {
-    let groups = list_numbers(old, new, 0, FIELDS, tile, FIELD, list, from);
-    let cells = list_numbers(old, new, GROUPS_FROM, MAX_GROUPS, tile, GROUP, list, groups);
+    let groups = list_changed(&old[FIELDS], &new[FIELDS], tile, Kind::Field, list, from);
+    let cells = list_changed(&old[GROUPS], &new[GROUPS], tile, Kind::Group, list, groups);
     let olds = cells_of(old);
     let news = cells_of(new);
-    let passives = list_cells(olds, news, tile, list, cells);
-    list_numbers(
-        old,
-        new,
-        PASSIVES_FROM,
-        MAX_PASSIVES,
+    let passives = list_changed(&olds, &news, tile, Kind::Cell, list, cells);
+    list_changed(
+        &old[PASSIVES],
+        &new[PASSIVES],
         tile,
-        PASSIVE,
+        Kind::Passive,
         list,
         passives,
     )

@@ -24,10 +24,7 @@ fn is_disabled_carry(b: Block, st: &[u16], d: Drive) -> bool
     ensures { result ≡ is_disabled_carry st.now d }
 {
     match d {
-        Drive::CellCout(tile, i) => {
-            let cell = cell_at(st, tile as usize, i as usize);
-            !cell.carry
-        }
+        Drive::CellCout(tile, i) => !cell_at(st, tile as usize, i as usize).carry,
         _ => false,
     }
 }
@@ -37,17 +34,11 @@ fn lower_carry(b: Block, st: &[u16], low: usize, w: u16) -> usize
     requires { Sized b × (length st.now ≡ settings_length * tiles b) × (w < ports b) }
     ensures { result ≡ lower_carry b st.now low w }
 {
-    if w % PORTS < CARRY_IN {
-        return low;
+    if w % PORTS >= CARRY_IN && is_disabled_carry(b, st, drive_of(b, u32::from(w))) {
+        low.min(usize::from(w))
+    } else {
+        low
     }
-    let d = drive_of(b, w as u32);
-    if !is_disabled_carry(b, st, d) {
-        return low;
-    }
-    if row::wide(w) < low {
-        return row::wide(w);
-    }
-    low
 }
 
 // The lowest so far, and what a row reads.
@@ -55,12 +46,9 @@ fn lower_carries(b: Block, st: &[u16], low: usize, row: Row) -> usize
     requires { Sized b × (length st.now ≡ settings_length * tiles b) × OperandsWithin b row }
     ensures { result ≡ lower_carries b st.now row low (arity_of row) }
 {
-    let n = row::arity(row);
     let mut lowest = low;
-    let mut j = 0;
-    while j < n {
+    for j in 0..row::arity(row) {
         lowest = lower_carry(b, st, lowest, row::operand(row, j));
-        j += 1;
     }
     lowest
 }
@@ -73,10 +61,8 @@ pub fn carry_read_wire(b: Block, table: &[u16], st: &[u16], rows: &[u16]) -> usi
 {
     let n = PORTS_PER_TILE * ((b.h * b.w) as usize);
     let mut lowest = n;
-    let mut w = 0;
-    while w < n {
+    for w in 0..n {
         lowest = lower_carries(b, st, lowest, row::row_at(rows, w));
-        w += 1;
     }
     lowest
 }

@@ -10,7 +10,6 @@ ghost use Rattle.drivers.specs.Clocks.{async_flop_on, is_outside, any_cell, driv
 
 use crate::follow::{Driver, clear_driver};
 use equations::tiles::{cell_at, tile_wire};
-use netlist::row::wide;
 use ports::lengths::CELLS_PER_TILE;
 use ports::size::Block;
 
@@ -19,10 +18,7 @@ use ports::size::Block;
 pub fn clock_ok(d: Driver) -> bool
     ensures { result ≡ is_outside d }
 {
-    let (Driver::Open(_) | Driver::Constant(_, _)) = d else {
-        return false;
-    };
-    true
+    matches!(d, Driver::Open(_) | Driver::Constant(_, _))
 }
 
 // Whether a cell of the tile has a flip-flop.
@@ -30,15 +26,7 @@ fn has_flop(st: &[u16], tile: usize) -> bool
     requires { TileInside st.now tile }
     ensures { result ≡ any_cell (flop_on st.now tile) }
 {
-    let mut i = 0;
-    while i < CELLS_PER_TILE {
-        let cell = cell_at(st, tile, i);
-        if cell.flipflop {
-            return true;
-        }
-        i += 1;
-    }
-    false
+    (0..CELLS_PER_TILE).any(|i| cell_at(st, tile, i).flipflop)
 }
 
 // Whether a cell of the tile has an asynchronous one.
@@ -46,15 +34,10 @@ fn has_async_flop(st: &[u16], tile: usize) -> bool
     requires { TileInside st.now tile }
     ensures { result ≡ any_cell (async_flop_on st.now tile) }
 {
-    let mut i = 0;
-    while i < CELLS_PER_TILE {
+    (0..CELLS_PER_TILE).any(|i| {
         let cell = cell_at(st, tile, i);
-        if cell.flipflop && cell.asynchronous {
-            return true;
-        }
-        i += 1;
-    }
-    false
+        cell.flipflop && cell.asynchronous
+    })
 }
 
 // Whether port q of a tile comes from a cell, where that is asked.
@@ -73,15 +56,11 @@ fn is_from_cell(
     ensures answer { result ≡ asked && not (driven_outside b st.now sources.now tile q) }
     ensures marks { marks.new ≡ zeros (ports b) }
 {
-    if !asked {
-        return false;
-    }
-    let wire = wide(tile_wire(b, wires, tile, q));
-    let d = clear_driver(b, sources, wire, marks);
-    !clock_ok(d)
+    asked && !clock_ok(clear_driver(b, sources, usize::from(tile_wire(b, wires, tile, q)), marks))
 }
 
 // Whether the clock or the reset of a tile comes from a cell.
+#[tactic(auto, unfolding(crate::specs::Clocks::clocked_at))]
 fn is_clocked(
     b: Block,
     st: &[u16],
@@ -96,11 +75,9 @@ fn is_clocked(
     ensures marks { marks.new ≡ zeros (ports b) }
 {
     let flop = has_flop(st, tile);
-    if is_from_cell(b, st, wires, sources, tile, ports::CLK, flop, marks) {
-        return true;
-    }
     let async_flop = has_async_flop(st, tile);
-    is_from_cell(b, st, wires, sources, tile, ports::S_R, async_flop, marks)
+    is_from_cell(b, st, wires, sources, tile, ports::CLK, flop, marks)
+        || is_from_cell(b, st, wires, sources, tile, ports::S_R, async_flop, marks)
 }
 
 // The lowest tile whose clock or reset comes from a cell, or the number of tiles. `marks` is work room, and is left clear.
@@ -117,13 +94,11 @@ pub fn clocked_tile(
     ensures marks { marks.new ≡ zeros (ports b) }
 {
     let tiles = (b.h * b.w) as usize;
-    lists::clear(marks);
-    let mut tile = 0;
-    while tile < tiles {
+    marks.fill(0);
+    for tile in 0..tiles {
         if is_clocked(b, st, wires, sources, tile, marks) {
             return tile;
         }
-        tile += 1;
     }
-    tile
+    tiles
 }

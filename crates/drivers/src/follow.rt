@@ -1,15 +1,12 @@
 // Following a driver (document 01, 'Cells'): from a wire to the source of the switch that ends on it, as long as there is one.
 ghost use Rattle.std.specs.Prelude.{◌≡◌, suc, ◌<◌, ◌≤◌, length, get_or};
-ghost use Rattle.lists.specs.Search.{first};
 ghost use Rattle.lists.specs.Tables.{zeros};
 ghost use Rattle.ports.specs.Block.{Sized};
 ghost use Rattle.ports.specs.Lengths.{ports};
-ghost use Rattle.netlist.specs.Marks.{listed};
 ghost use Rattle.drivers.specs.declared.follow.Trace.TheVariants.{End};
 ghost use Rattle.drivers.specs.Following.{Bounded, end_driver, traced, traced_marks, ring_lowest, driver_of};
 
 use equations::drives::{Drive, drive_of};
-use netlist::row::wide;
 use ports::size::Block;
 
 // How many steps a walk goes without marks.
@@ -24,9 +21,9 @@ pub enum Driver {
     Ring(u16),
 }
 
-// A walk from source to source: it ends at a wire with none, or comes again to a wire where it was.
+// A walk from source to source: it ends at a wire with none, or comes again to a wire where it was. Neither is a failure, so it is no Result.
 #[derive(Clone, Copy)]
-pub enum Trace {
+enum Trace {
     End(u16),
     Again(u16),
 }
@@ -39,33 +36,19 @@ fn walk(sources: &[u16], start: usize, marks: &mut [u16]) -> Trace
     ensures marks { marks.new ≡ traced_marks sources.now (suc (length sources.now))
         (zeros (length sources.now)) start }
 {
-    lists::clear(marks);
+    marks.fill(0);
     let mut u = start;
+    // Along links, as far as they lead: no count of turns is known.
     loop {
-        let s = wide(sources[u]);
-        if s == 0 {
+        let Some(source) = sources[u].checked_sub(1) else {
             return Trace::End(u as u16);
-        }
+        };
         if marks[u] != 0 {
             return Trace::Again(u as u16);
         }
         marks[u] = 1;
-        u = s - 1;
+        u = usize::from(source);
     }
-}
-
-// The lowest number that is marked, or how many there are.
-fn lowest_marked(marks: &[u16]) -> usize
-    ensures { result ≡ first (listed marks.now) 0 (length marks.now) }
-{
-    let mut v = 0;
-    while v < marks.len() {
-        if marks[v] != 0 {
-            return v;
-        }
-        v += 1;
-    }
-    v
 }
 
 // The lowest wire of the ring that a wire is on.
@@ -75,7 +58,10 @@ fn ring_lowest(sources: &[u16], u: usize, marks: &mut [u16]) -> usize
     ensures answer { result ≡ ring_lowest sources.now u }
 {
     walk(sources, u, marks);
-    lowest_marked(marks)
+    marks
+        .iter()
+        .position(|mark| *mark != 0)
+        .unwrap_or(marks.len())
 }
 
 // What stands at wire u, on which no switch ends.
@@ -86,10 +72,8 @@ fn end_driver(u: u16, d: Drive) -> Driver
         Drive::Nothing => Driver::Open(u),
         Drive::Low => Driver::Constant(u, 0),
         Drive::High => Driver::Constant(u, 1),
-        Drive::CellOut(_, _) => Driver::Cell(u),
-        Drive::CellLout(_, _) => Driver::Cell(u),
-        Drive::CellCout(_, _) => Driver::Cell(u),
-        Drive::CarryMux(_) => Driver::Cell(u),
+        Drive::CellOut(_, _) | Drive::CellLout(_, _) | Drive::CellCout(_, _) | Drive::CarryMux(_) =>
+            Driver::Cell(u),
     }
 }
 
@@ -101,14 +85,11 @@ fn short_walk(sources: &[u16], start: usize) -> usize
         (zeros (length sources.now)) start ≡ End result }
 {
     let mut u = start;
-    let mut k = 0;
-    while k < SHORT {
-        let s = wide(sources[u]);
-        if s == 0 {
+    for _ in 0..SHORT {
+        let Some(source) = sources[u].checked_sub(1) else {
             return u;
-        }
-        u = s - 1;
-        k += 1;
+        };
+        u = usize::from(source);
     }
     u
 }
@@ -120,7 +101,7 @@ fn marked_driver(b: Block, sources: &[u16], wire: usize, marks: &mut [u16]) -> D
 {
     match walk(sources, wire, marks) {
         Trace::End(u) => end_driver(u, drive_of(b, u as u32)),
-        Trace::Again(u) => Driver::Ring(ring_lowest(sources, wide(u), marks) as u16),
+        Trace::Again(u) => Driver::Ring(ring_lowest(sources, usize::from(u), marks) as u16),
     }
 }
 
@@ -136,7 +117,7 @@ pub fn clear_driver(b: Block, sources: &[u16], wire: usize, marks: &mut [u16]) -
         return end_driver(u as u16, drive_of(b, u as u32));
     }
     let d = marked_driver(b, sources, wire, marks);
-    lists::clear(marks);
+    marks.fill(0);
     d
 }
 
@@ -147,6 +128,6 @@ pub fn driver_of(b: Block, sources: &[u16], wire: usize, marks: &mut [u16]) -> D
     ensures answer { result ≡ driver_of b sources.now wire }
     ensures marks { marks.new ≡ zeros (ports b) }
 {
-    lists::clear(marks);
+    marks.fill(0);
     clear_driver(b, sources, wire, marks)
 }

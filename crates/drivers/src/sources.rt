@@ -9,7 +9,6 @@ ghost use Rattle.equations.specs.Routed.{Routed};
 ghost use Rattle.equations.specs.Sources.{sources_of, contended_wire, Sourced};
 
 use equations::tiles::{group_at, tile_wire};
-use netlist::row::wide;
 use ports::size::Block;
 use routing::table;
 
@@ -28,21 +27,19 @@ fn take_switch(
     requires sourced { Sourced b table.now st.now (max_groups * tile + g) sources.old low }
     ensures { Sourced b table.now st.now (max_groups * tile + (g + 1)) sources.new result }
 {
-    let e = group_at(st, tile, g);
-    if e == 0 {
+    let Some(entry) = group_at(st, tile, g).checked_sub(1) else {
         return low;
-    }
-    let u = wide(tile_wire(b, wires, tile, table::destination(table, g) as u32));
-    let source = tile_wire(b, wires, tile, table::source(table, g, e - 1) as u32) + 1;
+    };
+    let destination = u32::from(table::destination(table, g));
+    let u = usize::from(tile_wire(b, wires, tile, destination));
+    let source = tile_wire(b, wires, tile, u32::from(table::source(table, g, entry))) + 1;
     let old = sources[u];
     if old == 0 {
         sources[u] = source;
-        return low;
+        low
+    } else {
+        low.min(u)
     }
-    if u < low {
-        return u;
-    }
-    low
 }
 
 // The switches of a tile more.
@@ -61,10 +58,8 @@ fn take_tile(
 {
     let groups = table::group_count(table);
     let mut lowest = low;
-    let mut g = 0;
-    while g < groups {
+    for g in 0..groups {
         lowest = take_switch(b, table, st, wires, tile, g, lowest, sources);
-        g += 1;
     }
     lowest
 }
@@ -86,11 +81,9 @@ pub fn find_sources(
 {
     let tiles = (b.h * b.w) as usize;
     let mut low = sources.len();
-    lists::clear(sources);
-    let mut tile = 0;
-    while tile < tiles {
+    sources.fill(0);
+    for tile in 0..tiles {
         low = take_tile(b, table, st, wires, tile, low, sources);
-        tile += 1;
     }
     low
 }

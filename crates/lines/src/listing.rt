@@ -17,12 +17,10 @@ fn put_switch(sources: &[u16], w: usize, out: &mut [u8], at: usize) -> usize
     ensures next { result ≡ at + length (switch_part sources.now w) }
     ensures out { out.new ≡ placed at (switch_part sources.now w) out.old }
 {
-    let source = sources[w];
-    if source == 0 {
-        return at;
+    match sources[w] {
+        0 => at,
+        source => put(out, at, &switch_line(w as u16, source - 1)),
     }
-    let line = switch_line(w as u16, source - 1);
-    put(out, at, &line)
 }
 
 // The lines 06, from the map of sources.
@@ -32,10 +30,8 @@ pub fn put_switches(sources: &[u16], out: &mut [u8], at: usize) -> usize
     ensures out { out.new ≡ placed at (switch_lines sources.now (length sources.now)) out.old }
 {
     let mut next = at;
-    let mut w = 0;
-    while w < sources.len() {
+    for w in 0..sources.len() {
         next = put_switch(sources, w, out, next);
-        w += 1;
     }
     next
 }
@@ -44,10 +40,7 @@ pub fn put_switches(sources: &[u16], out: &mut [u8], at: usize) -> usize
 fn is_blank(table: u16, flags: u16) -> bool
     ensures { result ≡ eqb table 0 && eqb flags 0 }
 {
-    if table == 0 {
-        return flags == 0;
-    }
-    false
+    table == 0 && flags == 0
 }
 
 // The line of cell c of a block, if it is not all zero.
@@ -62,10 +55,10 @@ fn put_cell(st: &[u16], c: usize, out: &mut [u8], at: usize) -> usize
     let table = st[from + (CELLS_FROM + 2 * i)];
     let flags = st[from + (CELLS_FROM + 2 * i + 1)];
     if is_blank(table, flags) {
-        return at;
+        at
+    } else {
+        put(out, at, &cell_line(tile as u16, i as u16, table, flags))
     }
-    let line = cell_line(tile as u16, i as u16, table, flags);
-    put(out, at, &line)
 }
 
 // The lines 07 of n tiles.
@@ -74,12 +67,9 @@ pub fn put_cells(st: &[u16], n: usize, out: &mut [u8], at: usize) -> usize
     ensures next { result ≡ at + length (cell_lines st.now n) }
     ensures out { out.new ≡ placed at (cell_lines st.now n) out.old }
 {
-    let cells = 8 * n;
     let mut next = at;
-    let mut c = 0;
-    while c < cells {
+    for c in 0..8 * n {
         next = put_cell(st, c, out, next);
-        c += 1;
     }
     next
 }

@@ -5,6 +5,7 @@ ghost use Rattle.lines.specs.Lines.{switch_line, cell_line, answer_line};
 use texts::hex::digit;
 
 // A line 06.
+#[tactic(auto, unfolding(texts::specs::Hex::digit_of))]
 pub fn switch_line(wire: u16, source: u16) -> [u8; 11]
     ensures { result ≡ switch_line wire source }
 {
@@ -24,6 +25,7 @@ pub fn switch_line(wire: u16, source: u16) -> [u8; 11]
 }
 
 // A line 07.
+#[tactic(auto, unfolding(texts::specs::Hex::digit_of))]
 pub fn cell_line(tile: u16, cell: u16, table: u16, flags: u16) -> [u8; 13]
     ensures { result ≡ cell_line tile cell table flags }
 {
@@ -44,22 +46,13 @@ pub fn cell_line(tile: u16, cell: u16, table: u16, flags: u16) -> [u8; 13]
     ]
 }
 
-// A place as four digits can say it.
-fn place_number(place: u32) -> u16
-    ensures { result ≡ min place 65535 }
-{
-    if place < 65535 {
-        return place as u16;
-    }
-    65535
-}
-
-// A line 08.
+// A line 08. A place above four digits is the highest that they can say.
+#[tactic(auto, unfolding(texts::specs::Hex::digit_of))]
 pub fn answer_line(number: u8, place: u32) -> [u8; 9]
     ensures { result ≡ answer_line number place }
 {
-    let n = number as u16;
-    let p = place_number(place);
+    let n = u16::from(number);
+    let p = place.min(65535) as u16;
     [
         b'0',
         b'8',

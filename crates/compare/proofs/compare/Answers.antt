@@ -2,6 +2,7 @@
 use mathlib.Core.Path.{refl, sym, ◌∙◌}
 use lib.ListN.{length}
 use Rattle.compare.proofs.EntryLaws.{compare_first_size, compare_second_size, compare_differ, compare_length, compare_bits, compare_cleared}
+use Rattle.compare.proofs.LengthLaws.{sizes_test}
 use Rattle.compare.proofs.MeaningLaws.{compare_says}
 use Rattle.compare.proofs.compare.Goals as goal
 
@@ -39,8 +40,8 @@ returns-then-not-is_allowed-2 c =
     record { answer = answer; list = refl; before = refl; after = refl; says = says refl }
 
 -- the sizes differ: the work room is zeroed, whatever its length
-pub returns-then-not-is_same_size : goal.returns-then-not-is_same_size
-returns-then-not-is_same_size c =
+pub returns-then-ne : goal.returns-then-ne
+returns-then-ne c =
     let A = c.args.a in
     let B = c.args.b in
     let table = c.args.table.now in
@@ -51,10 +52,10 @@ returns-then-not-is_same_size c =
     let after = c.args.after.now in
     let one = sym c.is_allowed.ensures ∙ c.if-not-is_allowed.false in
     let other = sym c.is_allowed-2.ensures ∙ c.if-not-is_allowed-2.false in
-    let answer = compare_differ A B table first second _ (length list) one other (sym c.is_same_size.ensures ∙ c.if-not-is_same_size.true) in
+    let answer = compare_differ A B table first second _ (length list) one other (sizes_test c.args.a c.args.b c.ne.ensures c.if-ne.true) in
     let says =
     compare_says A B table first second before after list _ answer _ in
-    record { answer = answer; list = refl; before = c.clear.ensures; after = c.clear-then-not-is_same_size.ensures; says = says refl }
+    record { answer = answer; list = refl; before = c.fill.ensures.after (λ y e. e); after = c.fill-then-ne.ensures.after (λ y e. e); says = says refl }
 
 -- a length that is not the exact one
 pub returns-then-not-is_compare_exact : goal.returns-then-not-is_compare_exact
@@ -69,7 +70,7 @@ returns-then-not-is_compare_exact c =
     let after = c.args.after.now in
     let one = sym c.is_allowed.ensures ∙ c.if-not-is_allowed.false in
     let other = sym c.is_allowed-2.ensures ∙ c.if-not-is_allowed-2.false in
-    let same = sym c.is_same_size.ensures ∙ c.if-not-is_same_size.false in
+    let same = sizes_test A B c.ne.ensures c.if-ne.false in
     let answer =
     compare_length A B table first second _ (length list) one other same (sym c.is_compare_exact.ensures ∙ c.if-not-is_compare_exact.true) in
     let says =
@@ -89,7 +90,7 @@ returns c =
     let after = c.args.after.now in
     let one = sym c.is_allowed.ensures ∙ c.if-not-is_allowed.false in
     let other = sym c.is_allowed-2.ensures ∙ c.if-not-is_allowed-2.false in
-    let same = sym c.is_same_size.ensures ∙ c.if-not-is_same_size.false in
+    let same = sizes_test A B c.ne.ensures c.if-ne.false in
     let exact = sym c.is_compare_exact.ensures ∙ c.if-not-is_compare_exact.false in
     let told = c.compare_bits-r.ensures.answer in
     let answer = told ∙ compare_bits A B table first second _ (length list) one other same exact in
@@ -99,8 +100,8 @@ returns c =
     record {
       answer = answer;
       list = c.compare_bits-r.ensures.list;
-      before = cleared before c.compare_bits-r.new.before _ c.compare_bits-r.auto.before c.clear-2.ensures;
+      before = cleared before c.compare_bits-r.new.before _ c.compare_bits-r.auto.before (c.fill-2.ensures.after (λ y e. e));
       after = cleared after c.compare_bits-r.new.after _ c.compare_bits-r.auto.after
-          c.clear-3.ensures;
+          (c.fill-3.ensures.after (λ y e. e));
       says = says c.compare_bits-r.ensures.list;
     }

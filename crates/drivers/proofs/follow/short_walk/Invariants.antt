@@ -1,11 +1,8 @@
--- `follow::short_walk` meets its contract. Invariant: the walk gets to u. Measure: the steps that are left. Assumes nothing.
+-- `follow::short_walk` meets its contract. Invariant: the walk gets to u. Assumes nothing.
 use Rattle.drivers.proofs.WalkLaws.{Gets}
 use lib.ListN.{length}
-use Prim.Native.Nat.{◌-◌, ◌<◌}
+use Prim.Native.Nat.{◌<◌}
 use Rattle.drivers.proofs.follow.short_walk.Given as goal
 
-abbrev pub invariant-loop-k : goal.invariant-loop-k
-invariant-loop-k l = (l.u < length l.sources) × Gets l.sources l.start l.u
-
-abbrev pub decreases-loop-k : goal.decreases-loop-k
-decreases-loop-k l = 64 - l.k
+abbrev pub invariant-loop : goal.invariant-loop
+invariant-loop l = (l.u < length l.sources) × Gets l.sources l.start l.u

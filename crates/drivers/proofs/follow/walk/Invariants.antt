@@ -4,8 +4,8 @@ use Rattle.drivers.proofs.Tracing.{Tracing}
 use Rattle.netlist.specs.Marks.{unmarked}
 use Rattle.drivers.proofs.follow.walk.Given as goal
 
-abbrev pub invariant-loop-start : goal.invariant-loop-start
-invariant-loop-start l = Tracing l.sources l.start l.marks l.u
+abbrev pub invariant-loop-source : goal.invariant-loop-source
+invariant-loop-source l = Tracing l.sources l.start l.marks l.u
 
-abbrev pub decreases-loop-start : goal.decreases-loop-start
-decreases-loop-start l = unmarked l.marks
+abbrev pub decreases-loop-source : goal.decreases-loop-source
+decreases-loop-source l = unmarked l.marks

@@ -1,5 +1,4 @@
--- `sources::find_sources` meets its contract. Invariant: the pass has taken the switches of the tiles before `tile` (`Sourced`). Measure: the tiles
--- that are left. Assumes nothing.
+-- `sources::find_sources` meets its contract. Invariant: the pass has taken the switches of the tiles before `tile` (`Sourced`). Assumes nothing.
 use Rattle.ports.specs.Lengths.{ports}
 use lib.ListN.{length}
 use Rattle.equations.proofs.Sourcing.{sourced_start, sourced_end}
@@ -20,7 +19,8 @@ loop-tile-init c =
     let st = a.st.now in
     let ok = c.requires.0 in
     let few = tiles_le B ok.size in
-    (omega arith, subst (λ (x : List ℕ). Sourced B t st 0 x (length a.sources.now)) (sym (c.clear.ensures ∙ ap zeros c.requires.2)) (subst (λ (n : ℕ). Sourced B t st 0 (zeros (ports B)) n) (sym c.requires.2) (sourced_start B t st)))
+    subst (λ (x : List ℕ). Sourced B t st 0 x (length a.sources.now)) (sym (c.fill.ensures.after (λ y e. e) ∙ ap zeros c.requires.2))
+    (subst (λ (n : ℕ). Sourced B t st 0 (zeros (ports B)) n) (sym c.requires.2) (sourced_start B t st))
 
 pub returns : goal.returns
 returns c =
@@ -29,4 +29,4 @@ returns c =
     let t = a.table.now in
     let st = a.st.now in
     let ok = c.requires.0 in
-    let few = tiles_le B ok.size in let all_clauses = sourced_end B t st _ _ _ c.loop-tile.invariant.1 (omega arith) in record { answer = all_clauses.0; sources = all_clauses.1 }
+    let few = tiles_le B ok.size in let all_clauses = sourced_end B t st _ _ _ c.loop-tile.invariant (omega arith) in record { answer = all_clauses.0; sources = all_clauses.1 }

@@ -1,5 +1,4 @@
--- `sources::take_tile` meets its contract. Invariant: the pass has taken the switches before group g (`Sourced`). Measure: the groups that are left.
--- Assumes nothing.
+-- `sources::take_tile` meets its contract. Invariant: the pass has taken the switches before group g (`Sourced`). Assumes nothing.
 use Rattle.drivers.proofs.SwitchTurns.{sourced_tile}
 use native.Mathlib.Omega.{arith}
 use Rattle.drivers.proofs.sources.take_tile.Goals as goal
@@ -14,4 +13,4 @@ returns c =
     let ok = c.requires.routed.0 in
     let n = c.group_count-groups.ensures in
     let few = ok.few_groups in
-    sourced_tile B t st T c.loop-g.g c.loop-g.lowest _ (omega arith) (omega arith) c.loop-g.invariant.1
+    sourced_tile B t st T c.loop-g.g c.loop-g.lowest _ (omega arith) (omega arith) c.loop-g.invariant

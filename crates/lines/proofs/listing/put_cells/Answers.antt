@@ -1,4 +1,4 @@
--- `listing::put_cells` meets its contract. Invariant: the lines of the first c cells stand there, and the length is the old one. Measure: the cells left. Assumes nothing.
+-- `listing::put_cells` meets its contract. Invariant: the lines of the first c cells stand there, and the length is the old one. Assumes nothing.
 use Rattle.lines.proofs.LineLaws.{cell_long}
 use Rattle.texts.proofs.PutsLaws.{puts_none, puts_turn, joined_long}
 use Rattle.lines.specs.Listing.{cell_part}

@@ -1,4 +1,4 @@
--- `listing::put_switches` meets its contract. Invariant: the lines of the first w wires stand there, and the length is the old one. Measure: the wires left. Assumes nothing.
+-- `listing::put_switches` meets its contract. Invariant: the lines of the first w wires stand there, and the length is the old one. Assumes nothing.
 use Rattle.lines.proofs.LineLaws.{switch_long}
 use Rattle.texts.proofs.PutsLaws.{puts_none, puts_turn, joined_long}
 use Rattle.lines.specs.Listing.{switch_part}

@@ -1,5 +1,6 @@
 // Disabled carries that are read (document 01, ground 6), off the rows of a block by wire.
 ghost use Rattle.std.specs.Prelude.{◌≡◌, ◌*◌, ◌<◌, length};
+ghost use Rattle.lists.specs.Search.{below};
 ghost use Rattle.ports.specs.Block.{Sized, tiles};
 ghost use Rattle.ports.specs.Lengths.{ports, settings_length};
 ghost use Rattle.routing.specs.LogicTile.{logic_tile};
@@ -53,16 +54,16 @@ fn lower_carries(b: Block, st: &[u16], low: usize, row: Row) -> usize
     lowest
 }
 
-// The lowest wire that is a disabled cout and is read, or the number of ports.
+// The lowest wire that is a disabled cout and is read.
 // Rules out: the wire of the reader; carry_in_mux taken as a cout; passing over a cout that only a switch reads under the name carry_in.
-pub fn carry_read_wire(b: Block, table: &[u16], st: &[u16], rows: &[u16]) -> usize
+pub fn carry_read_wire(b: Block, table: &[u16], st: &[u16], rows: &[u16]) -> Option<usize>
     requires { Routed b table.now st.now × (rows.now ≡ wire_rows b table.now st.now) }
-    ensures { result ≡ carry_read_wire b table.now st.now }
+    ensures { result ≡ below (ports b) (carry_read_wire b table.now st.now) }
 {
     let n = PORTS_PER_TILE * ((b.h * b.w) as usize);
     let mut lowest = n;
     for w in 0..n {
         lowest = lower_carries(b, st, lowest, row::row_at(rows, w));
     }
-    lowest
+    if lowest < n { Some(lowest) } else { None }
 }

@@ -1,5 +1,6 @@
 // The clock check (document 01, ground 8): no clk of a tile with a flip-flop, and no s_r of one with an asynchronous flip-flop, comes from a cell.
 ghost use Rattle.std.specs.Prelude.{◌≡◌, not, ◌&&◌, ◌<◌, length};
+ghost use Rattle.lists.specs.Search.{below};
 ghost use Rattle.lists.specs.Tables.{zeros};
 ghost use Rattle.ports.specs.Block.{tiles};
 ghost use Rattle.ports.specs.Lengths.{ports, ports_per_tile};
@@ -80,7 +81,7 @@ fn is_clocked(
         || is_from_cell(b, st, wires, sources, tile, ports::S_R, async_flop, marks)
 }
 
-// The lowest tile whose clock or reset comes from a cell, or the number of tiles. `marks` is work room, and is left clear.
+// The lowest tile whose clock or reset comes from a cell. `marks` is work room, and is left clear.
 // Rules out: asking for a clock where no cell has a flip-flop; bit 19 without bit 9 taken as a flip-flop.
 pub fn clocked_tile(
     b: Block,
@@ -88,17 +89,17 @@ pub fn clocked_tile(
     wires: &[u16],
     sources: &[u16],
     marks: &mut [u16],
-) -> usize
+) -> Option<usize>
     requires { Mapped b st.now wires.now × (length sources.now ≡ ports b) × Bounded sources.now × (length marks.old ≡ ports b) }
-    ensures answer { result ≡ clocked_tile b st.now sources.now }
+    ensures answer { result ≡ below (tiles b) (clocked_tile b st.now sources.now) }
     ensures marks { marks.new ≡ zeros (ports b) }
 {
     let tiles = (b.h * b.w) as usize;
     marks.fill(0);
     for tile in 0..tiles {
         if is_clocked(b, st, wires, sources, tile, marks) {
-            return tile;
+            return Some(tile);
         }
     }
-    tiles
+    None
 }

@@ -1,5 +1,6 @@
 // The pass over the enabled switches, in order of tile and group: where each wire's switch comes from, and contention (ground 5).
 ghost use Rattle.std.specs.Prelude.{◌≡◌, ◌+◌, ◌*◌, ◌<◌, length};
+ghost use Rattle.lists.specs.Search.{below};
 ghost use Rattle.ports.specs.Block.{tiles};
 ghost use Rattle.ports.specs.Lengths.{ports, max_groups};
 ghost use Rattle.fabric.specs.Wire.{wires_of};
@@ -64,8 +65,7 @@ fn take_tile(
     lowest
 }
 
-// For each wire one more than the wire that its switch comes from, or 0. The answer is the lowest wire on which two switches end, or the
-// number of ports.
+// For each wire one more than the wire that its switch comes from, or 0. The answer is the lowest wire on which two switches end.
 // Rules out: two switches from one source counted as no contention; the first contended wire in the order of switches, which need not be
 // the lowest.
 pub fn find_sources(
@@ -74,9 +74,9 @@ pub fn find_sources(
     st: &[u16],
     wires: &[u16],
     sources: &mut [u16],
-) -> usize
+) -> Option<usize>
     requires { Routed b table.now st.now × (wires.now ≡ wires_of b) × (length sources.old ≡ ports b) }
-    ensures answer { result ≡ contended_wire b table.now st.now }
+    ensures answer { result ≡ below (ports b) (contended_wire b table.now st.now) }
     ensures sources { sources.new ≡ sources_of b table.now st.now }
 {
     let tiles = (b.h * b.w) as usize;
@@ -85,5 +85,5 @@ pub fn find_sources(
     for tile in 0..tiles {
         low = take_tile(b, table, st, wires, tile, low, sources);
     }
-    low
+    if low < sources.len() { Some(low) } else { None }
 }

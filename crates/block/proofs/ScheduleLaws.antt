@@ -1,5 +1,6 @@
 -- What the schedule of a block's rows shows: whether a wire depends on itself, how many rows there are, and that those written from the queue
 -- are the block's list. Main laws: `scheduled_loop`, `listed_rows`. Assumes nothing.
+use Rattle.std.specs.Prelude.{Result, Ok, Err}
 use Prim.Native.Nat.{ℕ, ◌*◌, ◌<◌, ◌≤◌}
 use mathlib.Core.Path.{◌≡◌, sym, ap, ◌∙◌, subst}
 use mathlib.Core.Logic.{⊎_elim}
@@ -15,8 +16,6 @@ use Rattle.netlist.specs.Order.{order}
 use Rattle.netlist.specs.Rows.{row_length, Inside, rows_of, graph_of}
 use Rattle.netlist.specs.OrderedRows.{row_in_order, list_of}
 use Rattle.scheduling.specs.Scheduling.{Answers, Queued}
-use Rattle.scheduling.specs.declared.schedule.Scheduled.{Scheduled}
-use Rattle.scheduling.specs.declared.schedule.Scheduled.TheVariants.{Listed, Loop}
 use Rattle.loops.proofs.LoopWireLaws.{loop_wire_is, loop_wire_lowest}
 use Rattle.scheduling.proofs.SchedulingLaws.{queue_long, queue_inside, queue_list}
 use Rattle.equations.specs.Routed.{Routed}
@@ -48,19 +47,19 @@ module _ (B : Block) (t st : List ℕ) where
     rows_long : length rows ≡ row_length * n
     rows_long = ap length is ∙ wire_rows_length B t st ∙ ap (λ (k : ℕ). row_length * k) (sym long)
 
-    module _ (r : Scheduled) (a : Answers (graph_of rows) n r) where
-      answered : (s : Scheduled) → r ≡ s → Answers (graph B t st) (ports B) s
+    module _ (r : Result ℕ ℕ) (a : Answers (graph_of rows) n r) where
+      answered : (s : Result ℕ ℕ) → r ≡ s → Answers (graph B t st) (ports B) s
       answered s e =
           subst (λ (x : List ℕ). Answers (graph_of x) (ports B) s) is
           (subst (λ (k : ℕ). Answers (graph_of rows) k s) long (subst (Answers (graph_of rows) n) e a))
 
-      pub scheduled_loop : (w : ℕ) → r ≡ Loop w → (w < ports B) × (w ≡ loop_wire (graph B t st) (ports B))
+      pub scheduled_loop : (w : ℕ) → r ≡ Err w → (w < ports B) × (w ≡ loop_wire (graph B t st) (ports B))
       scheduled_loop w e =
-          let h = answered (Loop w) e in
+          let h = answered (Err w) e in
           (h.0, loop_wire_is (graph B t st) (ports B) (rows_closed B t st ok) w h.1)
 
       -- no wire depends on itself, there is a row for each, and those written from the queue are the block's list
-      pub listed_rows : (k : ℕ) → r ≡ Listed k → (old queue : List ℕ) → Queued (graph_of rows) n old queue r → ListedRows B t st rows queue n k
+      pub listed_rows : (k : ℕ) → r ≡ Ok k → (old queue : List ℕ) → Queued (graph_of rows) n old queue r → ListedRows B t st rows queue n k
       listed_rows k e old queue q = record {
         straight = ⊎_elim (λ l. absurd (yes.1.1 _ l (low.here l))) (λ l. l) (lt_or_le (loop_wire (graph B t st) (ports B)) (ports B));
         count = yes.0 ∙ count_wires B t st yes.1.0;
@@ -70,8 +69,8 @@ module _ (B : Block) (t st : List ℕ) where
             ∙ ap (λ (x : List ℕ). list_of x (ports B)) is;
       }
         where
-          yes : Answers (graph B t st) (ports B) (Listed k)
-          yes = answered (Listed k) e
+          yes : Answers (graph B t st) (ports B) (Ok k)
+          yes = answered (Ok k) e
 
           low : LowestLoop (graph B t st) (ports B) (loop_wire (graph B t st) (ports B))
           low = loop_wire_lowest (graph B t st) (ports B) (rows_closed B t st ok)

@@ -26,14 +26,11 @@ fn follow_port(
         (length marks.old ≡ ports b) }
     ensures { result ≡ port_answer b table.now st.now tile port }
 {
-    let ports = wires.len();
-    let n = b.h * b.w;
     wiring::fill_wires(b, wires);
-    let contended = drivers::sources::find_sources(b, table, st, wires, sources);
-    if contended < ports {
-        return Err(Refusal::Contention(contended as u32));
+    if let Some(wire) = drivers::sources::find_sources(b, table, st, wires, sources) {
+        return Err(Refusal::Contention(wire as u32));
     }
-    if n <= tile {
+    if b.h * b.w <= tile {
         return Err(Refusal::OutOfRange(tile));
     }
     if PORTS_PER_TILE <= port {

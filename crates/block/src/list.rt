@@ -18,7 +18,6 @@ ghost use Rattle.block.specs.Building.{list_answer, bits_answer};
 use ports::lengths::POSITIONS;
 use ports::size::Block;
 use refusal::Refusal;
-use scheduling::schedule::Scheduled;
 
 // Grounds 7 and 8 of a block that passed those before, from its rows, and the list. The clocks are looked at first, so that the room of the sources
 // serves the schedule; a loop still comes before them.
@@ -40,20 +39,14 @@ fn list_rows(
     ensures answer { result ≡ list_answer b table.now st.now }
     ensures list { list.new ≡ output (answer_number result) list.old (block_list b table.now st.now) }
 {
-    let n = wires.len();
-    let tiles = (b.h * b.w) as usize;
     let clocked = drivers::clocks::clocked_tile(b, st, wires, sources, marks);
-    let s = scheduling::schedule::schedule(rows, marks, queue, sources);
-    match s {
-        Scheduled::Loop(wire) => Err(Refusal::Loop(wire as u32)),
-        Scheduled::Listed(count) => {
-            if clocked < tiles {
-                return Err(Refusal::CellClock(clocked as u32));
-            }
-            scheduling::schedule::write_list(rows, queue, count, n, list);
-            Ok(count as u32)
-        }
+    let count = scheduling::schedule::schedule(rows, marks, queue, sources)
+        .map_err(|wire| Refusal::Loop(wire as u32))?;
+    if let Some(tile) = clocked {
+        return Err(Refusal::CellClock(tile as u32));
     }
+    scheduling::schedule::write_list(rows, queue, count, wires.len(), list);
+    Ok(count as u32)
 }
 
 // Grounds 6 to 8 of a block without contention, and the list.
@@ -74,11 +67,9 @@ fn list_sources(
     ensures answer { result ≡ list_answer b table.now st.now }
     ensures list { list.new ≡ output (answer_number result) list.old (block_list b table.now st.now) }
 {
-    let n = wires.len();
     equations::rows::write_rows(b, st, wires, sources, rows);
-    let carry = drivers::carry::carry_read_wire(b, table, st, rows);
-    if carry < n {
-        return Err(Refusal::DisabledCarry(carry as u32));
+    if let Some(wire) = drivers::carry::carry_read_wire(b, table, st, rows) {
+        return Err(Refusal::DisabledCarry(wire as u32));
     }
     list_rows(b, table, st, wires, sources, rows, list, marks, queue)
 }
@@ -100,11 +91,9 @@ pub fn list_settings(
     ensures answer { result ≡ list_answer b table.now st.now }
     ensures list { list.new ≡ output (answer_number result) list.old (block_list b table.now st.now) }
 {
-    let n = wires.len();
     wiring::fill_wires(b, wires);
-    let contended = drivers::sources::find_sources(b, table, st, wires, sources);
-    if contended < n {
-        return Err(Refusal::Contention(contended as u32));
+    if let Some(wire) = drivers::sources::find_sources(b, table, st, wires, sources) {
+        return Err(Refusal::Contention(wire as u32));
     }
     list_sources(b, table, st, wires, sources, list, rows, marks, queue)
 }

@@ -1,6 +1,6 @@
 -- The report of an input: "The report program reads standard input and builds." What each answer prints. `report_exact` (theorem/proofs/ReportExact.antt):
 -- this report, and no other one, says what the paper has it say (`ReportSays`).
-use Rattle.refusal.specs.Grounds.{answer_number, number_value}
+use Rattle.refusal.specs.Grounds.{number_of, place_of}
 use Rattle.refusal.specs.declared.Refusal.{Refusal}
 use Rattle.std.specs.Prelude.{ℕ, ◌*◌, true, List, ◌++◌, Result, Ok, Err}
 use Rattle.ports.specs.declared.size.Block.{Block}

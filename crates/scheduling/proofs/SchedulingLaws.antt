@@ -7,7 +7,7 @@ use Prim.Native.Nat.{ℕ, ◌*◌, ◌<◌, ◌≤◌}
 use native.Mathlib.Omega.{arith}
 use borrow.Author.Tests.{lt-ltb, le-ltb, not-true, not-false}
 use lib.ListN.{length, get_or, length-append, get_or-append}
-use Rattle.std.specs.Prelude.{Option, Some, None}
+use Rattle.std.specs.Prelude.{Option, Some, None, Result, Ok, Err}
 use Rattle.lists.specs.Search.{first, below}
 use Rattle.lists.proofs.BelowLaws.{below_first_some, below_first_none}
 use Rattle.lists.proofs.CaseLaws.{lt_or_le, and_left, and_right}
@@ -17,18 +17,16 @@ use Rattle.netlist.specs.Order.{order, order_marks, AllListed}
 use Rattle.netlist.specs.Rows.{row_length, row_at, zero_row, Inside, rows_of, graph_of}
 use Rattle.netlist.specs.OrderedRows.{row_in_order, list_of}
 use Rattle.scheduling.specs.Scheduling.{Answers}
-use Rattle.scheduling.specs.declared.schedule.Scheduled.{Scheduled}
-use Rattle.scheduling.specs.declared.schedule.Scheduled.TheVariants.{Listed, Loop}
 use Rattle.netlist.specs.declared.row.Row.{Row}
 use Rattle.netlist.proofs.LoopLaws.{Looped, stuck_loop, order_ended}
 use Rattle.netlist.proofs.OrderLaws.{listed_no_loop, lowest_loop_unique, order_placed}
 
 -- what building promises determines its answer
-pub answers_unique : (g : Graph) (n : ℕ) (r s : Scheduled) → Answers g n r → Answers g n s → r ≡ s
-answers_unique g n (Listed k) (Listed l) p q = ap Listed (p.0 ∙ sym q.0)
-answers_unique g n (Listed k) (Loop w) p q = absurd (p.1.1 w q.0 (q.1.here q.0))
-answers_unique g n (Loop v) (Listed l) p q = absurd (q.1.1 v p.0 (p.1.here p.0))
-answers_unique g n (Loop v) (Loop w) p q = ap Loop (lowest_loop_unique g n v w p.1 q.1)
+pub answers_unique : (g : Graph) (n : ℕ) (r s : Result ℕ ℕ) → Answers g n r → Answers g n s → r ≡ s
+answers_unique g n (Ok k) (Ok l) p q = ap Ok (p.0 ∙ sym q.0)
+answers_unique g n (Ok k) (Err w) p q = absurd (p.1.1 w q.0 (q.1.here q.0))
+answers_unique g n (Err v) (Ok l) p q = absurd (q.1.1 v p.0 (p.1.here p.0))
+answers_unique g n (Err v) (Err w) p q = ap Err (lowest_loop_unique g n v w p.1 q.1)
 
 -- ---- the first wire that is left over
 

@@ -11,13 +11,6 @@ use crate::order::list_wires;
 use loops::lowest_loop;
 use netlist::row::{ROW_LENGTH, row_at, write_row};
 
-// The rows are listed, so many; or the lowest wire that depends on itself.
-#[derive(Clone, Copy)]
-pub enum Scheduled {
-    Listed(usize),
-    Loop(usize),
-}
-
 // The lowest wire that is not listed.
 fn first_unlisted(rows: &[u16], marks: &[u16]) -> Option<usize>
     requires { length rows.now ≡ row_length * length marks.now }
@@ -40,11 +33,16 @@ pub fn write_list(rows: &[u16], wires: &[u16], count: usize, n: usize, list: &mu
     list[ROW_LENGTH * count..].fill(0);
 }
 
-// The order of a block's rows, left at the front of `queue`, or the lowest wire that depends on itself. `write_list` then writes the
+// How many rows are listed, in the order that is left at the front of `queue`; or, as the error, the lowest wire that depends on itself. `write_list` then writes the
 // list, so that a caller can make more checks before it touches its output. `marks` and `links` are work rooms, and so is the queue where there is
 // a loop: what they end with is left open.
 // Rules out: a loop's place taken as the first wire that never becomes ready; a wire left over.
-pub fn schedule(rows: &[u16], marks: &mut [u16], queue: &mut [u16], links: &mut [u16]) -> Scheduled
+pub fn schedule(
+    rows: &[u16],
+    marks: &mut [u16],
+    queue: &mut [u16],
+    links: &mut [u16],
+) -> Result<usize, usize>
     requires rows_len { length rows.now ≡ row_length * length marks.old }
     requires closed { Closed (graph_of rows.now) (length marks.old) }
     requires links_len { (length links.old ≡ length marks.old) × (length marks.old ≤ length queue.old) × (length marks.old ≤ max_wires) }
@@ -53,7 +51,7 @@ pub fn schedule(rows: &[u16], marks: &mut [u16], queue: &mut [u16], links: &mut 
 {
     let count = list_wires(rows, marks, links, queue);
     match first_unlisted(rows, marks) {
-        None => Scheduled::Listed(count),
-        Some(_) => Scheduled::Loop(lowest_loop(rows, marks, queue, links)),
+        None => Ok(count),
+        Some(_) => Err(lowest_loop(rows, marks, queue, links)),
     }
 }

@@ -4,6 +4,11 @@ use Rattle.block.proofs.ScheduleLaws.{rows_ready, scheduled_loop, listed_rows}
 use Rattle.block.proofs.BuildingLaws.{list_loop, list_clocked, list_listed}
 use Rattle.drivers.proofs.LeadLaws.{sources_bounded}
 use Rattle.drivers.specs.Clocks.{clocked_tile}
+use Rattle.lists.proofs.BelowLaws.{below_some, below_none}
+use Rattle.std.specs.Prelude.{Ok, Err}
+use Rattle.refusal.specs.declared.Refusal.TheVariants.{Loop}
+use Rattle.ports.specs.Block.{tiles}
+use borrow.Author.Rules.{rules}
 use Rattle.drivers.specs.Following.{Bounded}
 use Rattle.equations.specs.Routed.{Mapped}
 use Rattle.ports.proofs.BlockLaws.{tiles_le}
@@ -11,7 +16,7 @@ use Rattle.ports.specs.Lengths.{ports}
 use lib.ListN.{length}
 use native.Mathlib.Omega.{arith}
 use mathlib.Core.Path.{◌≡◌, refl, sym, ap, ◌∙◌, subst}
-use Prim.Native.Nat.{◌≤◌}
+use Prim.Native.Nat.{ℕ, ◌≤◌}
 use Rattle.block.proofs.list.list_rows.Goals as goal
 
 pub clocked_tile-clocked-requires : goal.clocked_tile-clocked-requires
@@ -26,8 +31,8 @@ clocked_tile-clocked-requires c =
     let mapped : Mapped B st wires = record { size = ok.size; settings_long = ok.settings_long; wired = c.requires.wires_value.0 } in
     (mapped, room.sources_long, subst Bounded (sym c.requires.wires_value.1) (sources_bounded B table st ok), omega arith)
 
-pub schedule-s-requires : goal.schedule-s-requires
-schedule-s-requires c =
+pub schedule-requires-clause-closed : goal.schedule-requires-clause-closed
+schedule-requires-clause-closed c =
     let B = c.args.b in
     let table = c.args.table.now in
     let st = c.args.st.now in
@@ -37,56 +42,11 @@ schedule-s-requires c =
     let room = c.requires.room_long in
     let few = tiles_le B ok.size in
     let long : length marks ≡ ports B = omega (arith, room.marks_long, c.clocked_tile-clocked.auto.marks) in
-    record { rows_len = omega arith; closed = rows_ready B table st ok rows (length marks) c.requires.wires_value.2 long; links_len = omega (arith, room.sources_long, room.queue_long) }
-
--- a clock from a cell
-pub returns-then-clocked-tiles : goal.returns-then-clocked-tiles
-returns-then-clocked-tiles c =
-    let B = c.args.b in
-    let table = c.args.table.now in
-    let st = c.args.st.now in
-    let rows = c.args.rows.now in
-    let marks = c.clocked_tile-clocked.new.marks in
-    let ok = c.requires.routed.0 in
-    let room = c.requires.room_long in
-    let few = tiles_le B ok.size in
-    let long : length marks ≡ ports B = omega (arith, room.marks_long, c.clocked_tile-clocked.auto.marks) in
-    let listed = listed_rows B table st ok rows (length marks) c.requires.wires_value.2 long c.schedule-s.result c.schedule-s.ensures.answer c.in-Listed.count c.in-Listed.is c.args.queue.now c.schedule-s.new.queue c.schedule-s.ensures.queue in
-    let found = c.clocked_tile-clocked.ensures.answer ∙ ap (clocked_tile B st) c.requires.wires_value.1 in
-    record { answer = list_clocked B table st c.requires.routed.1 c.requires.routed.2 listed.straight c.clocked_tile-clocked.result found (omega arith); list = refl }
-
-pub write_list-requires : goal.write_list-requires
-write_list-requires c =
-    let B = c.args.b in
-    let table = c.args.table.now in
-    let st = c.args.st.now in
-    let rows = c.args.rows.now in
-    let marks = c.clocked_tile-clocked.new.marks in
-    let ok = c.requires.routed.0 in
-    let room = c.requires.room_long in
-    let few = tiles_le B ok.size in
-    let long : length marks ≡ ports B = omega (arith, room.marks_long, c.clocked_tile-clocked.auto.marks) in
-    let listed = listed_rows B table st ok rows (length marks) c.requires.wires_value.2 long c.schedule-s.result c.schedule-s.ensures.answer c.in-Listed.count c.in-Listed.is c.args.queue.now c.schedule-s.new.queue c.schedule-s.ensures.queue in
-    let fits : c.in-Listed.count ≤ length c.args.wires.now = omega (arith, listed.fits, room.queue_long, room.wires_long) in
-    record { count_in_bounds = (listed.fits, fits, omega (arith, room.list_long, room.wires_long)); by_index = listed.inside }
-
-pub overflow_cast-result-in-Listed : goal.overflow_cast-result-in-Listed
-overflow_cast-result-in-Listed c =
-    let B = c.args.b in
-    let table = c.args.table.now in
-    let st = c.args.st.now in
-    let rows = c.args.rows.now in
-    let marks = c.clocked_tile-clocked.new.marks in
-    let ok = c.requires.routed.0 in
-    let room = c.requires.room_long in
-    let few = tiles_le B ok.size in
-    let long : length marks ≡ ports B = omega (arith, room.marks_long, c.clocked_tile-clocked.auto.marks) in
-    let listed = listed_rows B table st ok rows (length marks) c.requires.wires_value.2 long c.schedule-s.result c.schedule-s.ensures.answer c.in-Listed.count c.in-Listed.is c.args.queue.now c.schedule-s.new.queue c.schedule-s.ensures.queue in
-    omega (arith, listed.fits, room.queue_long)
+    rows_ready B table st ok rows (length marks) c.requires.wires_value.2 long
 
 -- a loop
-pub returns-in-Loop : goal.returns-in-Loop
-returns-in-Loop c =
+pub returns-in_err-count-clause-answer : goal.returns-in_err-count-clause-answer
+returns-in_err-count-clause-answer c =
     let B = c.args.b in
     let table = c.args.table.now in
     let st = c.args.st.now in
@@ -96,12 +56,60 @@ returns-in-Loop c =
     let room = c.requires.room_long in
     let few = tiles_le B ok.size in
     let long : length marks ≡ ports B = omega (arith, room.marks_long, c.clocked_tile-clocked.auto.marks) in
-    let loop = scheduled_loop B table st ok rows (length marks) c.requires.wires_value.2 long c.schedule-s.result c.schedule-s.ensures.answer c.in-Loop.wire c.in-Loop.is in
-    record { answer = list_loop B table st c.requires.routed.1 c.requires.routed.2 _ loop.1 loop.0; list = refl }
+    let found : (w : ℕ) × (c.schedule.result ≡ Err w) × (c.from_residual.result ≡ Err (Loop w)) = search rules in
+    let loop = scheduled_loop B table st ok rows (length marks) c.requires.wires_value.2 long c.schedule.result c.schedule.ensures.answer found.0 found.1 in
+    found.2 ∙ list_loop B table st c.requires.routed.1 c.requires.routed.2 _ loop.1 loop.0
+
+-- a clock from a cell
+pub returns-in-Some-clause-answer : goal.returns-in-Some-clause-answer
+returns-in-Some-clause-answer c =
+    let B = c.args.b in
+    let table = c.args.table.now in
+    let st = c.args.st.now in
+    let rows = c.args.rows.now in
+    let marks = c.clocked_tile-clocked.new.marks in
+    let ok = c.requires.routed.0 in
+    let room = c.requires.room_long in
+    let few = tiles_le B ok.size in
+    let long : length marks ≡ ports B = omega (arith, room.marks_long, c.clocked_tile-clocked.auto.marks) in
+    let done : c.schedule.result ≡ Ok c.in_ok-count.count = search rules in
+    let listed = listed_rows B table st ok rows (length marks) c.requires.wires_value.2 long c.schedule.result c.schedule.ensures.answer c.in_ok-count.count done c.args.queue.now c.schedule.new.queue c.schedule.ensures.queue in
+    let found = below_some (tiles B) (clocked_tile B st c.args.sources.now) c.in-Some.tile (sym c.in-Some.ensures.answer) in
+    list_clocked B table st c.requires.routed.1 c.requires.routed.2 listed.straight c.in-Some.tile (found.0 ∙ ap (clocked_tile B st) c.requires.wires_value.1) (omega (arith, found.0, found.1))
+
+pub write_list-requires-clause-by_index : goal.write_list-requires-clause-by_index
+write_list-requires-clause-by_index c =
+    let B = c.args.b in
+    let table = c.args.table.now in
+    let st = c.args.st.now in
+    let rows = c.args.rows.now in
+    let marks = c.clocked_tile-clocked.new.marks in
+    let ok = c.requires.routed.0 in
+    let room = c.requires.room_long in
+    let few = tiles_le B ok.size in
+    let long : length marks ≡ ports B = omega (arith, room.marks_long, c.clocked_tile-clocked.auto.marks) in
+    let done : c.schedule.result ≡ Ok c.in_ok-count.count = search rules in
+    let listed = listed_rows B table st ok rows (length marks) c.requires.wires_value.2 long c.schedule.result c.schedule.ensures.answer c.in_ok-count.count done c.args.queue.now c.schedule.new.queue c.schedule.ensures.queue in
+    listed.inside
+
+pub overflow_cast-result-2 : goal.overflow_cast-result-2
+overflow_cast-result-2 c =
+    let B = c.args.b in
+    let table = c.args.table.now in
+    let st = c.args.st.now in
+    let rows = c.args.rows.now in
+    let marks = c.clocked_tile-clocked.new.marks in
+    let ok = c.requires.routed.0 in
+    let room = c.requires.room_long in
+    let few = tiles_le B ok.size in
+    let long : length marks ≡ ports B = omega (arith, room.marks_long, c.clocked_tile-clocked.auto.marks) in
+    let done : c.schedule.result ≡ Ok c.in_ok-count.count = search rules in
+    let listed = listed_rows B table st ok rows (length marks) c.requires.wires_value.2 long c.schedule.result c.schedule.ensures.answer c.in_ok-count.count done c.args.queue.now c.schedule.new.queue c.schedule.ensures.queue in
+    omega (arith, listed.fits, room.queue_long)
 
 -- the list is written
-pub returns-else-clocked-tiles : goal.returns-else-clocked-tiles
-returns-else-clocked-tiles c =
+pub returns : goal.returns
+returns c =
     let B = c.args.b in
     let table = c.args.table.now in
     let st = c.args.st.now in
@@ -111,6 +119,7 @@ returns-else-clocked-tiles c =
     let room = c.requires.room_long in
     let few = tiles_le B ok.size in
     let long : length marks ≡ ports B = omega (arith, room.marks_long, c.clocked_tile-clocked.auto.marks) in
-    let listed = listed_rows B table st ok rows (length marks) c.requires.wires_value.2 long c.schedule-s.result c.schedule-s.ensures.answer c.in-Listed.count c.in-Listed.is c.args.queue.now c.schedule-s.new.queue c.schedule-s.ensures.queue in
-    let found = c.clocked_tile-clocked.ensures.answer ∙ ap (clocked_tile B st) c.requires.wires_value.1 in
-    record { answer = list_listed B table st c.requires.routed.1 c.requires.routed.2 listed.straight c.clocked_tile-clocked.result found c.if-clocked-tiles.false _ listed.count; list = c.write_list.ensures ∙ listed.writes (length c.args.wires.now) (omega (arith, room.wires_long)) }
+    let done : c.schedule.result ≡ Ok c.in_ok-count.count = search rules in
+    let listed = listed_rows B table st ok rows (length marks) c.requires.wires_value.2 long c.schedule.result c.schedule.ensures.answer c.in_ok-count.count done c.args.queue.now c.schedule.new.queue c.schedule.ensures.queue in
+    let none = below_none (tiles B) (clocked_tile B st c.args.sources.now) (sym c.in_default.ensures.answer) in
+    record { answer = list_listed B table st c.requires.routed.1 c.requires.routed.2 listed.straight _ (ap (clocked_tile B st) c.requires.wires_value.1) none _ listed.count; list = c.write_list.ensures ∙ listed.writes (length c.args.wires.now) (omega (arith, room.wires_long)) }

@@ -1,5 +1,6 @@
 // The enabled switches of each wire as a chain: `heads` has the first link of each wire, `nexts` the next link of each switch. A link is one more than a
-// switch, or 0 where the chain ends. Switches go in from the last one down, so that a chain rises, and the rows are counted as they go in.
+// switch, or 0 where the chain ends. Switches go in from the last one down, so that a chain rises, and the rows are counted as they go in. The two slices
+// are no struct of their own: here they are lent to be written, in `rows` to be read, which would take two.
 ghost use Rattle.std.specs.Prelude.{◌≡◌, suc, ◌+◌, ◌*◌, ◌<◌, length};
 ghost use Rattle.ports.specs.Block.{Sized, tiles};
 ghost use Rattle.ports.specs.Lengths.{ports, max_groups};
@@ -12,7 +13,6 @@ ghost use Rattle.contention.specs.Contentions.{contention_count};
 ghost use Rattle.contention.specs.Chains.{Chained, Tallied, up_to_two, rows_of, on_from};
 
 use equations::tiles::{group_at, tile_wire};
-use netlist::row::wide;
 use ports::lengths::MAX_GROUPS;
 use ports::size::Block;
 use routing::table;
@@ -30,27 +30,25 @@ pub fn first_links(
     requires { Sized b × Chained b table.now st.now m heads.now nexts.now × (w < ports b) }
     ensures { result ≡ up_to_two (on_from b table.now st.now w m) }
 {
-    let first = wide(heads[w]);
+    let first = usize::from(heads[w]);
     if first == 0 {
-        return 0;
+        0
+    } else if nexts[first - 1] == 0 {
+        1
+    } else {
+        2
     }
-    if nexts[first - 1] == 0 {
-        return 1;
-    }
-    2
 }
 
 // The rows that one switch more brings to a wire with n switches: none, two at once, or one.
 fn added_rows(n: usize) -> usize
     ensures { rows_of (suc n) ≡ rows_of n + result }
 {
-    if n == 0 {
-        return 0;
+    match n {
+        0 => 0,
+        1 => 2,
+        _ => 1,
     }
-    if n == 1 {
-        return 2;
-    }
-    1
 }
 
 // One switch more, that of group g of a tile, in front of its wire's chain; the answer is the rows with it.
@@ -73,7 +71,7 @@ fn chain_switch(
     if e == 0 {
         return rows;
     }
-    let w = wide(tile_wire(b, wires, tile, table::destination(table, g) as u32));
+    let w = usize::from(tile_wire(b, wires, tile, table::destination(table, g) as u32));
     let s = MAX_GROUPS * tile + g;
     let n = first_links(b, table, st, heads, nexts, s + 1, w);
     nexts[s] = heads[w];
@@ -98,10 +96,8 @@ fn chain_tile(
 {
     let groups = table::group_count(table);
     let mut n = rows;
-    let mut done = 0;
-    while done < groups {
-        done += 1;
-        n = chain_switch(b, table, st, wires, tile, groups - done, heads, nexts, n);
+    for g in (0..groups).rev() {
+        n = chain_switch(b, table, st, wires, tile, g, heads, nexts, n);
     }
     n
 }
@@ -120,11 +116,10 @@ pub fn chain_block(
     ensures chains { Chained b table.now st.now 0 heads.new nexts.new }
     ensures rows { result ≡ contention_count b table.now st.now }
 {
-    lists::clear(heads);
+    heads.fill(0);
+    let tiles = (b.h * b.w) as usize;
     let mut n = 0;
-    let mut tile = (b.h * b.w) as usize;
-    while 0 < tile {
-        tile -= 1;
+    for tile in (0..tiles).rev() {
         n = chain_tile(b, table, st, wires, tile, heads, nexts, n);
     }
     n

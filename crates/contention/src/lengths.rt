@@ -8,7 +8,7 @@ use ports::lengths::{MAX_GROUPS, TABLE_LENGTH, bits_length, port_count, settings
 use ports::size::{Block, size_of, tile_count};
 
 // The lengths of all that is lent to `contentions` but the list.
-#[derive(Clone, Copy)]
+#[derive(Clone, Copy, PartialEq, Eq)]
 pub struct ContentionLent {
     pub table: usize,
     pub bits: usize,
@@ -22,24 +22,14 @@ pub fn is_contention_exact(b: Block, lent: ContentionLent) -> bool
     requires { Sized b }
     ensures { result ≡ contention_exact b lent }
 {
-    let bits = bits_length(size_of(b));
-    let settings = settings_total(size_of(b));
+    let size = size_of(b);
     let ports = port_count(b);
-    let switches = MAX_GROUPS * tile_count(size_of(b));
-    if lent.table != TABLE_LENGTH {
-        return false;
+    lent == ContentionLent {
+        table: TABLE_LENGTH,
+        bits: bits_length(size),
+        settings: settings_total(size),
+        wires: ports,
+        heads: ports,
+        nexts: MAX_GROUPS * tile_count(size),
     }
-    if lent.bits != bits {
-        return false;
-    }
-    if lent.settings != settings {
-        return false;
-    }
-    if lent.wires != ports {
-        return false;
-    }
-    if lent.heads != ports {
-        return false;
-    }
-    lent.nexts == switches
 }

@@ -63,9 +63,9 @@ pub fn contentions(
         return Err(Refusal::WrongLength);
     }
     let r = list::list_bits(b, table, bits, list, settings, wires, heads, nexts);
-    lists::clear(settings);
-    lists::clear(wires);
-    lists::clear(heads);
-    lists::clear(nexts);
+    settings.fill(0);
+    wires.fill(0);
+    heads.fill(0);
+    nexts.fill(0);
     r
 }

@@ -56,8 +56,6 @@ pub fn list_bits(
     ensures list { list.new ≡ output (answer_number result) list.old
         (contentions_list b table.now bits.now (length list.old)) }
 {
-    match config::read(size_of(b), table, bits, settings) {
-        Err(refusal) => Err(refusal),
-        Ok(()) => list_settings(b, table, settings, list, wires, heads, nexts),
-    }
+    config::read(size_of(b), table, bits, settings)?;
+    list_settings(b, table, settings, list, wires, heads, nexts)
 }

@@ -11,7 +11,6 @@ ghost use Rattle.contention.specs.Contentions.{row_length, contends, switch_row,
 ghost use Rattle.contention.specs.Chains.{Chained};
 
 use crate::chains::first_links;
-use netlist::row::wide;
 use ports::lengths::MAX_GROUPS;
 use ports::size::Block;
 
@@ -22,9 +21,8 @@ fn put_row(list: &mut [u16], at: usize, wire: u16, s: usize)
     requires { (at + row_length ≤ length list.old) × (s < 32768) }
     ensures { list.new ≡ sets list.old at (wire ∷ tile_of s ∷ group_in s ∷ []) }
 {
-    list[at] = wire;
-    list[at + 1] = (s / MAX_GROUPS) as u16;
-    list[at + 2] = (s % MAX_GROUPS) as u16;
+    let row = [wire, (s / MAX_GROUPS) as u16, (s % MAX_GROUPS) as u16];
+    list[at..at + ROW_LENGTH].copy_from_slice(&row);
 }
 
 // A row for each switch that ends on a wire, put in from `from` on; the answer is where they end.
@@ -45,10 +43,11 @@ fn list_chain(
         (rows_where (ends_on b table.now st.now w) (switch_row w) (switches b)) }
 {
     let mut at = from;
-    let mut link = wide(heads[w]);
+    let mut link = usize::from(heads[w]);
+    // a walk along links, which no range counts
     while link != 0 {
         put_row(list, at, w as u16, link - 1);
-        link = wide(nexts[link - 1]);
+        link = usize::from(nexts[link - 1]);
         at += ROW_LENGTH;
     }
     at
@@ -73,9 +72,10 @@ fn list_wire(
 {
     let n = first_links(b, table, st, heads, nexts, 0, w);
     if n < 2 {
-        return from;
+        from
+    } else {
+        list_chain(b, table, st, heads, nexts, w, list, from)
     }
-    list_chain(b, table, st, heads, nexts, w, list, from)
 }
 
 // All rows, by wire and switch, and zeros behind them.
@@ -91,11 +91,9 @@ pub fn list_rows(
         (row_length * contention_count b table.now st.now ≤ length list.old) }
     ensures { list.new ≡ zero_filled (length list.old) (contentions b table.now st.now) }
 {
-    lists::clear(list);
+    list.fill(0);
     let mut at = 0;
-    let mut w = 0;
-    while w < heads.len() {
+    for w in 0..heads.len() {
         at = list_wire(b, table, st, heads, nexts, w, list, at);
-        w += 1;
     }
 }

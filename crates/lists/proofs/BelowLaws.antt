@@ -1,6 +1,6 @@
 -- A search that answers its bound where there is none, as an Option (`below`).
 use Prim.Native.Nat.{ℕ, ◌<◌, ◌≤◌}
-use mathlib.Core.Path.{◌≡◌, refl, sym, ap}
+use mathlib.Core.Path.{◌≡◌, refl, sym, ap, ◌∙◌}
 use mathlib.Core.Bool.{Bool, true, false, cond}
 use mathlib.Core.Logic.{⊎_elim}
 use native.Mathlib.Omega.{arith}
@@ -15,6 +15,13 @@ below_is bound n l = ap (λ b. cond b (Some n) None) (lt-ltb n bound l)
 
 pub below_past : (bound n : ℕ) → bound ≤ n → below bound n ≡ None
 below_past bound n l = ap (λ b. cond b (Some n) None) (le-ltb n bound l)
+
+-- what a search of the code answers: at i, which is the first, or at its end
+pub below_found : (bound n i : ℕ) → i ≡ n → i < bound → Some i ≡ below bound n
+below_found bound n i e l = sym (ap (below bound) (sym e) ∙ below_is bound i l)
+
+pub below_missed : (bound n i : ℕ) → i ≡ n → bound ≤ i → None ≡ below bound n
+below_missed bound n i e l = sym (below_past bound n (omega arith))
 
 pub below_some : (bound n k : ℕ) → below bound n ≡ Some k → (k ≡ n) × (n < bound)
 below_some bound n k e = (grind arith, grind arith)

@@ -1,85 +1,62 @@
 // Ground 12: the first row of a lent list that may not stand where it does.
 ghost use Rattle.std.specs.Prelude.{◌≡◌, ℕ, ◌*◌, ◌<◌, ◌≤◌, ◌-◌, not, length, get_or};
-ghost use Rattle.lists.specs.Search.{first};
+ghost use Rattle.lists.specs.Search.{first, below};
 ghost use Rattle.lists.specs.Tables.{zeros};
 ghost use Rattle.netlist.specs.Rows.{row_length, row_at};
 ghost use Rattle.netlist.specs.Checking.{zero_test, good_at, wire_count, first_bad_row};
 
-use crate::row::{ROW_LENGTH, row_at, wide};
+use crate::row::{ROW_LENGTH, row_at};
 use crate::row_check::{is_zero, row_good};
 
-// How many wires the block has. A count of 16 bits lets the compiler take eight marks at a time.
+// How many wires the block has. A sum of 16 bits lets the compiler take eight marks at a time.
 pub fn count_wires(wires: &[u16]) -> usize
     requires { length wires.now < 65536 }
     ensures { result ≡ wire_count wires.now }
 {
-    let mut count: u16 = 0;
-    let mut w = 0;
-    while w < wires.len() {
-        if wires[w] != 0 {
-            count += 1;
-        }
-        w += 1;
-    }
-    wide(count)
+    let count: u16 = wires.iter().map(|w| u16::from(*w != 0)).sum();
+    usize::from(count)
 }
 
-// The first of the rows below `count` that may not stand where it does, or `count`. `marks` ends with the wires of the rows before it.
+// The first of the rows below `count` that may not stand where it does. `marks` ends with the wires of the rows before it.
 fn first_not_good(
     list: &[u16],
     count: usize,
     cells: usize,
     wires: &[u16],
     marks: &mut [u16],
-) -> usize
+) -> Option<usize>
     requires { (row_length * count ≤ length list.now) × (length wires.now ≡ length marks.old) }
-    ensures { result ≡ first (λ i. not (good_at list.now cells wires.now i)) 0 count }
+    ensures { result ≡ below count (first (λ i. not (good_at list.now cells wires.now i)) 0 count) }
 {
-    lists::clear(marks);
-    let mut i = 0;
-    while i < count {
+    marks.fill(0);
+    for i in 0..count {
         let row = row_at(list, i);
         if !row_good(row, cells, wires, marks) {
-            return i;
+            return Some(i);
         }
-        let w = wide(row.wire);
-        marks[w] = 1;
-        i += 1;
+        marks[usize::from(row.wire)] = 1;
     }
-    i
+    None
 }
 
 // The numbers from `from` on, below `to`, or-ed: none is higher.
 fn or_all(list: &[u16], from: usize, to: usize) -> u16
-    requires { to ≤ length list.now }
+    requires { (from ≤ to) × (to ≤ length list.now) }
     ensures { (k : ℕ) → from ≤ k → k < to → get_or list.now k 0 ≤ result }
 {
-    let mut any: u16 = 0;
-    let mut i = from;
-    while i < to {
-        any = any | list[i];
-        i += 1;
-    }
-    any
+    list[from..to].iter().fold(0, |any, x| any | *x)
 }
 
-// The first of the rows from `from` on, below n, that is not zero, or n. One pass over the numbers says whether there is one.
-fn first_not_zero(list: &[u16], from: usize, n: usize) -> usize
+// The first of the rows from `from` on, below n, that is not zero. One pass over the numbers says whether there is one.
+fn first_not_zero(list: &[u16], from: usize, n: usize) -> Option<usize>
     requires { (row_length * n ≤ length list.now) × (from ≤ n) }
-    ensures { result ≡ first (λ i. not (zero_test (row_at list.now i))) from (n - from) }
+    ensures { result ≡ below n (first (λ i. not (zero_test (row_at list.now i))) from (n - from)) }
 {
     if or_all(list, ROW_LENGTH * from, ROW_LENGTH * n) == 0 {
-        return n;
+        None
+    } else {
+        (from..n).find(|i| !is_zero(row_at(list, *i)))
     }
-    let mut i = from;
-    while i < n {
-        let row = row_at(list, i);
-        if !is_zero(row) {
-            return i;
-        }
-        i += 1;
-    }
-    i
 }
 
 // The first row that breaks a rule of ground 12, or the number of rows. `wires` is not 0 at the block's wires, `count` is how many they
@@ -98,10 +75,10 @@ pub fn first_bad_row(
     ensures marks { marks.new ≡ zeros (length marks.old) }
 {
     let n = wires.len();
-    let i = first_not_good(list, count, cells, wires, marks);
-    lists::clear(marks);
-    if i < count {
-        return i;
+    let bad = first_not_good(list, count, cells, wires, marks);
+    marks.fill(0);
+    match bad {
+        Some(i) => i,
+        None => first_not_zero(list, count, n).unwrap_or(n),
     }
-    first_not_zero(list, count, n)
 }

@@ -3,7 +3,7 @@ ghost use Rattle.std.specs.Prelude.{◌≡◌, ◌<◌};
 ghost use Rattle.netlist.specs.Rows.{row_at, set_row, zero_row, Inside, operand_of, arity_of};
 
 // "A row is seven 16-bit numbers: kind, wire, four operands, table."
-#[derive(Clone, Copy)]
+#[derive(Clone, Copy, Default, PartialEq, Eq)]
 pub struct Row {
     pub kind: u16,
     pub wire: u16,
@@ -34,7 +34,7 @@ pub const MAJORITY: u16 = 7;
 pub fn wide(x: u16) -> usize
     ensures { result ≡ x }
 {
-    x as usize
+    usize::from(x)
 }
 
 // Row i of a list.
@@ -73,46 +73,32 @@ pub fn write_row(list: &mut [u16], i: usize, row: Row)
 pub fn zero_row() -> Row
     ensures { result ≡ zero_row }
 {
-    Row {
-        kind: 0,
-        wire: 0,
-        a: 0,
-        b: 0,
-        c: 0,
-        d: 0,
-        table: 0,
-    }
+    Row::default()
 }
 
 // Operand j of the four, from 0.
+#[tactic(auto, unfolding(crate::specs::Rows::operand_of))]
 pub fn operand(row: Row, j: usize) -> u16
     requires { j < 4 }
     ensures { result ≡ operand_of row j }
 {
-    if j == 0 {
-        return row.a;
+    match j {
+        0 => row.a,
+        1 => row.b,
+        2 => row.c,
+        _ => row.d,
     }
-    if j == 1 {
-        return row.b;
-    }
-    if j == 2 {
-        return row.c;
-    }
-    row.d
 }
 
 // How many of its operands are wires that it reads.
+#[tactic(auto, unfolding(crate::specs::Rows::arity_of))]
 pub fn arity(row: Row) -> usize
     ensures { result ≡ arity_of row }
 {
-    if row.kind == COPY {
-        return 1;
+    match row.kind {
+        COPY => 1,
+        LOOKUP => 4,
+        MAJORITY => 3,
+        _ => 0,
     }
-    if row.kind == LOOKUP {
-        return 4;
-    }
-    if row.kind == MAJORITY {
-        return 3;
-    }
-    0
 }

@@ -3,7 +3,7 @@ ghost use Rattle.std.specs.Prelude.{◌≡◌, ℕ, ◌<◌, length, get_or};
 ghost use Rattle.netlist.specs.Rows.{operand_of};
 ghost use Rattle.netlist.specs.Running.{row_value, run_from, input_of, Bits, RowReads, RowFits};
 
-use crate::row::{COPY, FLIP_FLOP, LENT, LOOKUP, MAJORITY, ONE, Row, ZERO, operand, row_at, wide};
+use crate::row::{COPY, FLIP_FLOP, LENT, LOOKUP, MAJORITY, ONE, Row, operand, row_at};
 use cell::logic::{lookup_bit, majority_bit};
 
 // The value of the wire that operand j names.
@@ -11,46 +11,36 @@ fn input(row: Row, j: usize, values: &[u8]) -> u8
     requires { (j < 4) × (operand_of row j < length values.now) }
     ensures { result ≡ input_of row values.now j }
 {
-    let p = wide(operand(row, j));
-    values[p]
+    values[usize::from(operand(row, j))]
 }
 
 // What a row gives.
+#[tactic(auto, unfolding(crate::specs::Running::row_value, crate::specs::Rows::arity_of))]
 fn value(row: Row, state: &[u8], lent: &[u8], values: &[u8]) -> u8
     requires { RowReads row state.now lent.now values.now }
     ensures { result ≡ row_value row state.now lent.now values.now }
 {
-    if row.kind == LENT {
-        let w = wide(row.wire);
-        return lent[w];
+    match row.kind {
+        LENT => lent[usize::from(row.wire)],
+        ONE => 1,
+        FLIP_FLOP => state[usize::from(row.a)],
+        COPY => input(row, 0, values),
+        LOOKUP => {
+            let in0 = input(row, 0, values);
+            let in1 = input(row, 1, values);
+            let in2 = input(row, 2, values);
+            let in3 = input(row, 3, values);
+            lookup_bit(row.table, in0, in1, in2, in3)
+        }
+        MAJORITY => {
+            let in1 = input(row, 0, values);
+            let in2 = input(row, 1, values);
+            let carry = input(row, 2, values);
+            majority_bit(in1, in2, carry)
+        }
+        // ZERO, and what is no kind
+        _ => 0,
     }
-    if row.kind == ZERO {
-        return 0;
-    }
-    if row.kind == ONE {
-        return 1;
-    }
-    if row.kind == FLIP_FLOP {
-        let s = wide(row.a);
-        return state[s];
-    }
-    if row.kind == COPY {
-        return input(row, 0, values);
-    }
-    if row.kind == LOOKUP {
-        let in0 = input(row, 0, values);
-        let in1 = input(row, 1, values);
-        let in2 = input(row, 2, values);
-        let in3 = input(row, 3, values);
-        return lookup_bit(row.table, in0, in1, in2, in3);
-    }
-    if row.kind == MAJORITY {
-        let in1 = input(row, 0, values);
-        let in2 = input(row, 1, values);
-        let carry = input(row, 2, values);
-        return majority_bit(in1, in2, carry);
-    }
-    0
 }
 
 // Gives the wires their values, row after row. What `values` held before is not read: each row reads wires of earlier rows.
@@ -60,12 +50,8 @@ pub fn run(list: &[u16], count: usize, state: &[u8], lent: &[u8], values: &mut [
     requires bits { Bits state.now × Bits lent.now }
     ensures { values.new ≡ run_from list.now state.now lent.now 0 count values.old }
 {
-    let mut i = 0;
-    while i < count {
+    for i in 0..count {
         let row = row_at(list, i);
-        let x = value(row, state, lent, values);
-        let w = wide(row.wire);
-        values[w] = x;
-        i += 1;
+        values[usize::from(row.wire)] = value(row, state, lent, values);
     }
 }

@@ -5,7 +5,6 @@ ghost use Rattle.fabric.specs.Count.{wires};
 ghost use Rattle.fabric.specs.Wire.{wires_of};
 ghost use Rattle.stepper.specs.Settling.{settled_by, port_values, Runnable};
 
-use netlist::row::wide;
 use netlist::run::run;
 use ports::size::Block;
 
@@ -15,7 +14,7 @@ pub fn settle(b: Block, list: &[u16], count: usize, state: &[u8], lent: &[u8], v
     requires { Runnable b list.now state.now lent.now × (count ≡ wires b) × (length values.old ≡ ports b) }
     ensures { values.new ≡ settled_by b list.now state.now lent.now }
 {
-    lists::clear_bytes(values);
+    values.fill(0);
     run(list, count, state, lent, values);
 }
 
@@ -25,11 +24,7 @@ pub fn write_values(b: Block, wires: &[u16], x: &[u8], values: &mut [u8])
     requires { (wires.now ≡ wires_of b) × (length x.now ≡ ports b) × (length values.old ≡ ports b) }
     ensures { values.new ≡ port_values b x.now }
 {
-    let n = values.len();
-    let mut p = 0;
-    while p < n {
-        let w = wide(wires[p]);
-        values[p] = x[w];
-        p += 1;
+    for (p, value) in values.iter_mut().enumerate() {
+        *value = x[usize::from(wires[p])];
     }
 }

@@ -38,4 +38,4 @@ returns c =
     let exact = sym c.is_contention_exact.ensures ∙ c.if-not-is_contention_exact.false in
     let cleared = room_cleared a.b t bits settings wires heads nexts ((sized_exact a.b).0 sized) ((contention_long_exact a.b lent).0 exact) (length list) _ c.list_bits-r.ensures.answer in
     let answer = c.list_bits-r.ensures.answer ∙ answer_bits a.b t bits _ (length list) sized exact in
-    record { answer = answer; list = c.list_bits-r.ensures.list; settings = cleared settings c.list_bits-r.new.settings _ c.list_bits-r.auto.settings c.clear.ensures; wires = cleared wires c.list_bits-r.new.wires _ c.list_bits-r.auto.wires c.clear-2.ensures; heads = cleared heads c.list_bits-r.new.heads _ c.list_bits-r.auto.heads c.clear-3.ensures; nexts = cleared nexts c.list_bits-r.new.nexts _ c.list_bits-r.auto.nexts c.clear-4.ensures; says = contentions_say a.b t bits settings wires heads nexts list _ _ answer c.list_bits-r.ensures.list }
+    record { answer = answer; list = c.list_bits-r.ensures.list; settings = cleared settings c.list_bits-r.new.settings _ c.list_bits-r.auto.settings (c.fill.ensures.after (λ y e. e)); wires = cleared wires c.list_bits-r.new.wires _ c.list_bits-r.auto.wires (c.fill-2.ensures.after (λ y e. e)); heads = cleared heads c.list_bits-r.new.heads _ c.list_bits-r.auto.heads (c.fill-3.ensures.after (λ y e. e)); nexts = cleared nexts c.list_bits-r.new.nexts _ c.list_bits-r.auto.nexts (c.fill-4.ensures.after (λ y e. e)); says = contentions_say a.b t bits settings wires heads nexts list _ _ answer c.list_bits-r.ensures.list }

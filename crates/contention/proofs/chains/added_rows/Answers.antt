@@ -3,11 +3,11 @@ use Rattle.contention.proofs.Tallying.{added_none, added_two, added_more}
 use native.Mathlib.Omega.{arith}
 use Rattle.contention.proofs.chains.added_rows.Goals as goal
 
-pub returns-then-n-eq0 : goal.returns-then-n-eq0
-returns-then-n-eq0 c = added_none _ c.if-n-eq0.true
+pub returns-in-0 : goal.returns-in-0
+returns-in-0 c = added_none _ c.in-0.is
 
-pub returns-then-n-eq1 : goal.returns-then-n-eq1
-returns-then-n-eq1 c = added_two _ c.if-n-eq1.true
+pub returns-in-1 : goal.returns-in-1
+returns-in-1 c = added_two _ c.in-1.is
 
-pub returns : goal.returns
-returns c = added_more _ (omega arith)
+pub returns-in_default : goal.returns-in_default
+returns-in_default c = added_more _ (omega arith)

@@ -21,20 +21,20 @@ pub first_links-n-requires : goal.first_links-n-requires
 first_links-n-requires c =
     let a = c.args in
     let r = c.requires.routed in
-    (r.0.size, group_before a.b a.table.now a.st.now r.0 a.tile a.g r.2 r.3 _ _ _ c.requires.tallied, ends_lt a.b a.table.now a.st.now r.0 a.tile a.g r.2 r.3 (λ z. c.if-e-eq0.false (c.group_at-e.ensures ∙ z)) _ _ (c.wide-w.ensures ∙ c.tile_wire.ensures) c.destination.ensures)
+    (r.0.size, group_before a.b a.table.now a.st.now r.0 a.tile a.g r.2 r.3 _ _ _ c.requires.tallied, ends_lt a.b a.table.now a.st.now r.0 a.tile a.g r.2 r.3 (λ z. c.if-e-eq0.false (c.group_at-e.ensures ∙ z)) _ _ (c.from-w.ensures ∙ c.tile_wire.ensures) c.destination.ensures)
 
 pub bounds-heads-w : goal.bounds-heads-w
 bounds-heads-w c =
     let a = c.args in
     let r = c.requires.routed in
-    let l = ends_lt a.b a.table.now a.st.now r.0 a.tile a.g r.2 r.3 (λ z. c.if-e-eq0.false (c.group_at-e.ensures ∙ z)) _ _ (c.wide-w.ensures ∙ c.tile_wire.ensures) c.destination.ensures in
+    let l = ends_lt a.b a.table.now a.st.now r.0 a.tile a.g r.2 r.3 (λ z. c.if-e-eq0.false (c.group_at-e.ensures ∙ z)) _ _ (c.from-w.ensures ∙ c.tile_wire.ensures) c.destination.ensures in
     omega (arith, c.requires.tallied.chained.heads_long)
 
 pub bounds-heads-w-2 : goal.bounds-heads-w-2
 bounds-heads-w-2 c =
     let a = c.args in
     let r = c.requires.routed in
-    let l = ends_lt a.b a.table.now a.st.now r.0 a.tile a.g r.2 r.3 (λ z. c.if-e-eq0.false (c.group_at-e.ensures ∙ z)) _ _ (c.wide-w.ensures ∙ c.tile_wire.ensures) c.destination.ensures in
+    let l = ends_lt a.b a.table.now a.st.now r.0 a.tile a.g r.2 r.3 (λ z. c.if-e-eq0.false (c.group_at-e.ensures ∙ z)) _ _ (c.from-w.ensures ∙ c.tile_wire.ensures) c.destination.ensures in
     omega (arith, c.requires.tallied.chained.heads_long)
 
 pub overflow_add-result : goal.overflow_add-result
@@ -48,4 +48,4 @@ pub returns : goal.returns
 returns c =
     let a = c.args in
     let r = c.requires.routed in
-    group_tallied a.b a.table.now a.st.now r.0 a.tile a.g r.2 r.3 (λ z. c.if-e-eq0.false (c.group_at-e.ensures ∙ z)) _ _ (c.wide-w.ensures ∙ c.tile_wire.ensures) c.destination.ensures _ _ _ c.requires.tallied _ _ _ refl c.first_links-n.ensures c.added_rows.ensures
+    group_tallied a.b a.table.now a.st.now r.0 a.tile a.g r.2 r.3 (λ z. c.if-e-eq0.false (c.group_at-e.ensures ∙ z)) _ _ (c.from-w.ensures ∙ c.tile_wire.ensures) c.destination.ensures _ _ _ c.requires.tallied _ _ _ refl c.first_links-n.ensures c.added_rows.ensures

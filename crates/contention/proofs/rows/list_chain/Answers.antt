@@ -10,7 +10,7 @@ use Rattle.contention.proofs.rows.list_chain.Goals as goal
 pub loop-link-init : goal.loop-link-init
 loop-link-init c =
     let a = c.args in
-    λ B C l. filed_start B a.table.now a.st.now a.w a.from a.list.now _ (c.wide-link.ensures ∙ C.head a.w l)
+    λ B C l. filed_start B a.table.now a.st.now a.w a.from a.list.now _ (c.from-link.ensures ∙ C.head a.w l)
 
 pub put_row-requires : goal.put_row-requires
 put_row-requires c =
@@ -38,7 +38,7 @@ pub loop-link-preserved : goal.loop-link-preserved
 loop-link-preserved c =
     let a = c.args in
     λ B C l. filed_turn B a.table.now a.st.now a.w a.from a.list.now _ _ _ (c.loop-link.invariant B C l) a.heads.now a.nexts.now C
-    c.loop-link-test.true _ _ _ a.w c.wide-link-in-loop-link.ensures refl c.put_row.ensures refl
+    c.loop-link-test.true _ _ _ a.w c.from-link-in-loop-link.ensures refl c.put_row.ensures refl
 
 pub returns : goal.returns
 returns c =

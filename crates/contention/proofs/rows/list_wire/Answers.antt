@@ -15,8 +15,8 @@ list_chain-requires c =
     let many = wire_many_count a.b a.table.now a.st.now a.w _ c.first_links-n.ensures c.if-n-lt2.false in
     (c.requires.0, c.requires.1, c.requires.2, omega (arith, c.requires.3))
 
-pub returns : goal.returns
-returns c =
+pub returns-else-n-lt2 : goal.returns-else-n-lt2
+returns-else-n-lt2 c =
     let a = c.args in
     let many = wire_many_count a.b a.table.now a.st.now a.w _ c.first_links-n.ensures c.if-n-lt2.false in
     record { end = omega (arith, c.list_chain.ensures.end); list = wire_many_rows a.b a.table.now a.st.now a.w _ c.first_links-n.ensures a.list.now a.from c.if-n-lt2.false _ c.list_chain.ensures.list }

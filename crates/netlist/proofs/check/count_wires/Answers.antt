@@ -1,28 +1,22 @@
--- `check::count_wires` meets its contract. Invariant: the count is that of the wires below w. Measure: the indices that are left. Assumes nothing.
-use Rattle.netlist.proofs.FirstBadLaws.{marked_more, marked_same, marked_none}
-use Rattle.netlist.proofs.MarkLaws.{listed_true, listed_false}
-use Rattle.netlist.specs.Marks.{listed}
-use Rattle.lists.proofs.CountLaws.{count_le}
-use native.Mathlib.Omega.{arith}
-use mathlib.Core.Path.{sym, ap, ◌∙◌}
-use Prim.Native.Nat.{ℕ, ◌+◌}
-use Rattle.netlist.proofs.check.count_wires.Goals.{then-wires-w-ne0, else-wires-w-ne0}
+-- `check::count_wires` meets its contract: the sum of the tests is their count, which is no more than the length. Assumes nothing.
+use Rattle.std.proofs.Common.{rules, sum_by, ◌≡◌, ◌<◌, ◌∙◌, ◌^◌, ℕ, Bool, List, length, not, arith}
+use Rattle.std.proofs.lemmas.List.Sums.{count_by-le-length}
+use Rattle.std.specs.Int.{from_bool}
+use lib.Dec.{eqb}
+use Rattle.lists.proofs.StdLaws.{sum_tests-is, count_by-is}
 use Rattle.netlist.proofs.check.count_wires.Goals as goal
 
-pub loop-w-init : goal.loop-w-init
-loop-w-init c = (omega arith, sym (marked_none c.args.wires.now))
+few : (xs : List ℕ) → length xs < 65536 → sum_by (λ x. from_bool (not (eqb x 0))) xs < 2 ^ 16
+few xs l = omega (arith, sum_tests-is (λ x. not (eqb x 0)) xs, count_by-le-length (λ x. not (eqb x 0)) xs)
 
-pub overflow_add-count : goal.overflow_add-count
-overflow_add-count c =
-    omega (arith, count_le (listed c.args.wires.now) c.loop-w.w)
+pub sum-count-requires-clause-fits : goal.sum-count-requires-clause-fits
+sum-count-requires-clause-fits c =
+    let h : sum_by (λ x. from_bool (not (eqb x 0))) c.args.wires.now < 65536 = few c.args.wires.now c.requires in
+    search rules
 
-pub loop-w-preserved : goal.loop-w-preserved
-loop-w-preserved c = (
-  omega arith,
-  (elim c.if-wires-w-ne0.branch [
-    | then-wires-w-ne0 w ↦ w.count-is ∙ ap (λ (k : ℕ). k + 1) c.loop-w.invariant.1 ∙ marked_more c.args.wires.now c.loop-w.w
-        (listed_true c.args.wires.now c.loop-w.w w.if-wires-w-ne0.true)
-    | else-wires-w-ne0 w ↦ w.count-is ∙ c.loop-w.invariant.1 ∙ marked_same c.args.wires.now c.loop-w.w
-        (listed_false c.args.wires.now c.loop-w.w w.if-wires-w-ne0.false)
-  ]),
-)
+pub returns : goal.returns
+returns c =
+    let wires = c.args.wires.now in
+    let test : ℕ → Bool = λ x. not (eqb x 0) in
+    let e : c.sum-count.result ≡ sum_by (λ x. from_bool (not (eqb x 0))) wires = search rules in
+    c.from.ensures ∙ e ∙ sum_tests-is test wires ∙ count_by-is test 0 wires

@@ -1,6 +1,7 @@
 -- `check::first_not_good` meets its contract. Invariant: the marks are the wires of the rows before i, and the search from i on is the whole
--- search (`Checking`). Measure: the rows that are left. Assumes nothing.
+-- search (`Checking`). Assumes nothing.
 use Rattle.netlist.proofs.FirstBadLaws.{Checking, checking_start, checking_test, checking_lt, checking_step}
+use Rattle.lists.proofs.BelowLaws.{below_found, below_missed}
 use Rattle.lists.proofs.SearchLaws.{first_turn_hit, first_turn_end}
 use Rattle.lists.specs.Tables.{zeros}
 use native.Mathlib.Omega.{arith}
@@ -13,22 +14,22 @@ use Rattle.netlist.proofs.check.first_not_good.Goals as goal
 pub loop-i-init : goal.loop-i-init
 loop-i-init c =
     subst (λ (t : List ℕ). Checking c.args.list.now c.args.cells c.args.wires.now c.args.count t 0)
-    (ap zeros c.requires.1 ∙ sym c.clear.ensures) (checking_start _ _ _ _)
+    (ap zeros c.requires.1 ∙ sym (c.fill.ensures.after (λ y e. e))) (checking_start _ _ _ _)
 
 pub returns-then-not-row_good : goal.returns-then-not-row_good
 returns-then-not-row_good c =
-    first_turn_hit _ _ _ _ c.loop-i.invariant.rest c.loop-i-test.true
-    (ap not (sym (c.row_good.ensures ∙ checking_test _ _ _ _ _ _ c.loop-i.invariant _ c.row_at-row.ensures) ∙ c.if-not-row_good.true))
+    below_found _ _ _ (first_turn_hit _ _ _ _ c.loop-i.invariant.rest c.loop-i-test.true
+    (ap not (sym (c.row_good.ensures ∙ checking_test _ _ _ _ _ _ c.loop-i.invariant _ c.row_at-row.ensures) ∙ c.if-not-row_good.true))) c.loop-i-test.true
 
-pub bounds-marks-w : goal.bounds-marks-w
-bounds-marks-w c =
+pub bounds-marks-from : goal.bounds-marks-from
+bounds-marks-from c =
     let l = checking_lt _ _ _ _ _ _ c.loop-i.invariant _ c.row_at-row.ensures
-    (sym (c.row_good.ensures ∙ checking_test _ _ _ _ _ _ c.loop-i.invariant _ c.row_at-row.ensures) ∙ c.if-not-row_good.false) in let e = c.wide-w.ensures in let n = c.loop-i.invariant.long in omega arith
+    (sym (c.row_good.ensures ∙ checking_test _ _ _ _ _ _ c.loop-i.invariant _ c.row_at-row.ensures) ∙ c.if-not-row_good.false) in let e = c.from.ensures in let n = c.loop-i.invariant.long in omega arith
 
 pub loop-i-preserved : goal.loop-i-preserved
 loop-i-preserved c =
     checking_step _ _ _ _ _ _ c.loop-i.invariant _ c.row_at-row.ensures
-    (sym (c.row_good.ensures ∙ checking_test _ _ _ _ _ _ c.loop-i.invariant _ c.row_at-row.ensures) ∙ c.if-not-row_good.false) _ c.wide-w.ensures c.loop-i-test.true
+    (sym (c.row_good.ensures ∙ checking_test _ _ _ _ _ _ c.loop-i.invariant _ c.row_at-row.ensures) ∙ c.if-not-row_good.false) _ c.from.ensures c.loop-i-test.true
 
 pub returns : goal.returns
-returns c = first_turn_end _ _ _ _ c.loop-i.invariant.rest c.loop-i-test.false
+returns c = below_missed _ _ _ (first_turn_end _ _ _ _ c.loop-i.invariant.rest c.loop-i-test.false) c.loop-i-test.false

@@ -1,7 +1,15 @@
--- `check::or_all` meets its contract. Invariant: no number passed is higher. Measure: the numbers that are left. Assumes nothing.
-use Rattle.netlist.proofs.OrLaws.{at_most_more}
+-- `check::or_all` meets its contract: none of the numbers or-ed is higher. Assumes nothing.
+use Rattle.std.proofs.Common.{rules, fold, ◌≡◌, ◌∙◌, ◌+◌, ◌-◌, ℕ, ap, arith, bit_or, slice_range, get_or, drop, get_or-drop, get_or-take}
+use Rattle.lists.proofs.StdLaws.{fold_bits-at}
 use Rattle.netlist.proofs.check.or_all.Goals as goal
 
-pub loop-i-preserved : goal.loop-i-preserved
-loop-i-preserved c =
-    at_most_more c.args.list.now c.args.from c.loop-i.i c.loop-i.any c.loop-i.invariant
+pub returns : goal.returns
+returns c k a b =
+    let list = c.args.list.now in
+    let from = c.args.from in
+    let part = slice_range list from c.args.to in
+    let e : c.fold.result ≡ fold (λ b x. bit_or b x) 0 part = search rules in
+    let at : get_or part (k - from) 0 ≡ get_or list k 0 =
+    get_or-take (c.args.to - from) (drop from list) (k - from) 0 (omega arith) ∙ get_or-drop from list (k - from) 0
+    ∙ ap (λ (j : ℕ). get_or list j 0) (let q : from + (k - from) ≡ k = omega arith in q) in
+    omega (arith, e, fold_bits-at 0 part (k - from))

@@ -1,4 +1,4 @@
--- `clock::clock` meets its contract. Invariant: the first c states are the next ones (`Filled`). Measure: the cells that are left. Assumes nothing.
+-- `clock::clock` meets its contract. Invariant: the first c states are the next ones (`Filled`). Assumes nothing.
 use native.Mathlib.Omega.{arith}
 use Rattle.lists.proofs.TableLaws.{filled_end}
 use Rattle.stepper.specs.Clocking.{next_states}
@@ -7,4 +7,4 @@ use Rattle.stepper.proofs.clock.clock.Goals as goal
 pub returns : goal.returns
 unfolding next_states
 returns c =
-    filled_end _ 0 _ _ _ c.loop-c.invariant.0 (omega arith)
+    filled_end _ 0 _ _ _ c.loop-c.invariant (omega arith)

@@ -1,9 +1,11 @@
--- `clock::next_cell` meets its contract: the flip-flop's own step, of the cell's settings, control and lookup. Assumes nothing.
-use mathlib.Core.Path.{◌∙◌}
-use Rattle.stepper.specs.Clocking.{next_cell}
+-- `clock::next_cell` meets its contract: the cell's next state, of what the wires of its tile's ports have. Assumes nothing.
+use Prim.Native.Nat.{◌/◌}
+use Rattle.std.proofs.Common.{rules}
+use Rattle.stepper.specs.Clocking.{value_at, next_cell}
 use Rattle.stepper.proofs.clock.next_cell.Goals as goal
 
 pub returns : goal.returns
 unfolding next_cell
 returns c =
-    c.step-new.ensures ∙ rw (c.cell_at-cell.ensures, c.control_at-control.ensures, c.lookup_at-lookup.ensures)
+    let a = c.args in
+    c.next_state.ensures (value_at a.b a.before.now (a.c / 8)) (value_at a.b a.after.now (a.c / 8)) (λ q r l p. search rules) (λ q r l p. search rules)

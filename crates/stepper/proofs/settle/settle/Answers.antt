@@ -10,19 +10,16 @@ use Rattle.stepper.proofs.SettledLaws.{runnable_fits}
 use Rattle.stepper.specs.Settling.{settled_by}
 use Rattle.stepper.proofs.settle.settle.Goals as goal
 
-pub run-requires : goal.run-requires
-run-requires c =
+pub run-requires-clause-by_index : goal.run-requires-clause-by_index
+run-requires-clause-by_index c =
     let a = c.args in
     let e = c.requires.1 in
-    let z = (c.clear_bytes.ensures ∙ ap zeros c.requires.2) in
+    let z = (c.fill.ensures.after (λ y e. e) ∙ ap zeros c.requires.2) in
     let h = c.requires.0 in
-    record {
-      by_index = λ i l. subst (λ (m : ℕ). RowFits a.list.now (length a.state.now) (length a.lent.now) m i) (sym (ap length z ∙ zeros_length _)) (runnable_fits a.b _ _ _ h i (omega arith));
-      bits = (h.state_bits, h.lent_bits);
-    }
+    λ i l. subst (λ (m : ℕ). RowFits a.list.now (length a.state.now) (length a.lent.now) m i) (sym (ap length z ∙ zeros_length _)) (runnable_fits a.b _ _ _ h i (omega arith))
 
 pub returns : goal.returns
 unfolding settled_by
 returns c =
     c.run.ensures
-    ∙ rw (c.requires.1, (c.clear_bytes.ensures ∙ ap zeros c.requires.2))
+    ∙ rw (c.requires.1, (c.fill.ensures.after (λ y e. e) ∙ ap zeros c.requires.2))

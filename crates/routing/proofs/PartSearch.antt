@@ -5,20 +5,38 @@ use mathlib.Core.Bool.{Bool, true, false}
 use mathlib.Core.List.{List}
 use Prim.Native.Nat.{ℕ, zero, suc, ◌+◌, ◌-◌, ◌<◌, ◌≤◌}
 use native.Mathlib.Omega.{arith}
-use borrow.Author.Tests.{eqb-true, le-leb, lt-leb}
+use borrow.Author.Tests.{eq-eqb, eqb-true, le-leb, lt-leb}
+use Rattle.std.specs.Prelude.{Some, None}
+use Rattle.lists.proofs.BelowLaws.{below_is, below_past, below_some, below_none}
 use Rattle.lists.specs.Search.{first, all_from}
-use Rattle.lists.proofs.SearchLaws.{first_at, first_from, first_turn_hit, first_turn_skip, first_turn_end}
+use Rattle.lists.proofs.SearchLaws.{first_le, first_at, first_from, first_turn_hit, first_turn_skip, first_turn_end}
 use Rattle.routing.specs.TileKind.{TileKind}
 use Rattle.ports.specs.Lengths.{max_passives, max_groups}
 use Rattle.routing.specs.Table.{passive_count, group_count}
 use Rattle.routing.specs.Slots.{field_slots, passive_slots}
-use Rattle.routing.specs.TableCheck.{position_ok, fields_ok, passives_ok, group_ok, breaks, part_count, faulty_part, table_ok}
+use Rattle.routing.specs.TableCheck.{position_ok, fields_ok, passives_ok, group_ok, breaks, part_count, faulty_part, broken_part, table_ok}
 use Rattle.routing.proofs.TableCheckLaws.{part_fields, part_passives, part_group, part_over}
 
 module _ (K : TileKind) (table : List ℕ) where
   -- a part that is named is no yes
   pub faulty_not_ok : {A : Type 0} (i : ℕ) → i ≡ faulty_part K table → i < part_count K table → table_ok K table ≡ true → A
   faulty_not_ok i e h ok = absurd (omega (arith, eqb-true (faulty_part K table) (part_count K table) ok))
+
+  -- what a search that ends at a part, or behind the last one, says
+  pub part_named : (i : ℕ) → i ≡ faulty_part K table → i < part_count K table → Some i ≡ broken_part K table
+  part_named i e h = ap Some e ∙ sym (below_is (part_count K table) (faulty_part K table) (omega arith))
+
+  pub parts_pass : (n : ℕ) → n ≡ part_count K table → n ≡ faulty_part K table → None ≡ broken_part K table
+  parts_pass n q e = sym (below_past (part_count K table) (faulty_part K table) (omega arith))
+
+  -- and what its answer says
+  pub broken_some : (i : ℕ) → Some i ≡ broken_part K table → (i ≡ faulty_part K table) × (i < part_count K table)
+  broken_some i e = let s = below_some (part_count K table) (faulty_part K table) i (sym e) in (s.0, omega (arith, s.0, s.1))
+
+  pub broken_none : None ≡ broken_part K table → table_ok K table ≡ true
+  broken_none e =
+      eq-eqb (faulty_part K table) (part_count K table)
+      (omega (arith, below_none (part_count K table) (faulty_part K table) (sym e), first_le (breaks K table) 0 (part_count K table)))
 
   -- what claiming the fields' positions answered
   pub fields_claimed : (b : Bool) → b ≡ all_from (position_ok K table (field_slots K)) 0 K.fields → fields_ok K table ≡ b

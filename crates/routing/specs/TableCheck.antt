@@ -1,7 +1,7 @@
 -- Ground 3, computed: "table breaks a rule: first of fields, passive list, groups that does, alone or with earlier ones, from 0; a group
 -- count above 512: 514".
-use Rattle.std.specs.Prelude.{ℕ, ◌+◌, ◌-◌, ◌^◌, Bool, false, cond, not, ◌&&◌, List, eqb, ltb, leb}
-use Rattle.lists.specs.Search.{first, all_from}
+use Rattle.std.specs.Prelude.{Option, ℕ, ◌+◌, ◌-◌, ◌^◌, Bool, false, cond, not, ◌&&◌, List, eqb, ltb, leb}
+use Rattle.lists.specs.Search.{first, all_from, below}
 use Rattle.routing.specs.TileKind.{TileKind}
 use Rattle.ports.specs.Lengths.{max_passives, max_groups, max_positions, max_entries}
 use Rattle.routing.specs.Table.{passive_count, group_count, destination_of, width_of, entry_count, pattern_at, source_at, entry_of}
@@ -48,6 +48,10 @@ module _ (K : TileKind) (table : List ℕ) where
   -- the first part that breaks a rule; the number of parts where none does
   abbrev pub faulty_part : ℕ
   faulty_part = first breaks 0 part_count
+
+  -- that part, where there is one
+  abbrev pub broken_part : Option ℕ
+  broken_part = below part_count faulty_part
 
   abbrev pub table_ok : Bool
   table_ok = eqb faulty_part part_count

@@ -1,6 +1,6 @@
 -- `rules::check_groups` finds the first broken part among the groups. Invariant: the map has the slots before group g, the search
 -- from part 2 + g on ends where the whole one does (`Seen`), and only groups before g have marked patterns. Assumes nothing.
-use Rattle.routing.proofs.PartSearch.{faulty_not_ok, seen_start, seen_over, seen_broken, seen_step, seen_end}
+use Rattle.routing.proofs.PartSearch.{part_named, parts_pass, faulty_not_ok, seen_start, seen_over, seen_broken, seen_step, seen_end}
 use Rattle.routing.proofs.ClaimingLaws.{owned_all}
 use Rattle.routing.proofs.MarkLaws.{mark_start}
 use Rattle.routing.specs.LogicTile.{logic_tile}
@@ -29,7 +29,7 @@ returns-then-g-eq-MAX_GROUPS c =
       | then-g-eq-MAX_GROUPS-via-else-g-eq-MAX_GROUPS+then-not-check_group w ↦
           seen_broken logic_tile table n g c.loop-g.invariant.2 (omega arith) (omega arith) (sym w.check_group.ensures.answer ∙ w.if-not-check_group.true)
     ] in
-    record { part = broken; map = faulty_not_ok logic_tile table _ broken (omega arith) }
+    record { part = part_named logic_tile table (2 + g) broken (omega arith); map = faulty_not_ok logic_tile table _ broken (omega arith) }
 
 pub loop-g-preserved : goal.loop-g-preserved
 loop-g-preserved c =
@@ -47,4 +47,4 @@ pub returns : goal.returns
 returns c =
     let table = c.args.table.now in
     let count = c.group_count-n.ensures in
-    record { part = seen_end logic_tile table c.group_count-n.result c.loop-g.g c.loop-g.invariant.2 (omega arith) (omega arith); map = λ ok. owned_all logic_tile table c.loop-g.g _ (omega arith) (omega arith) c.loop-g.invariant.1 }
+    record { part = parts_pass logic_tile table (2 + c.group_count-n.result) (omega arith) (seen_end logic_tile table c.group_count-n.result c.loop-g.g c.loop-g.invariant.2 (omega arith) (omega arith)); map = λ ok. owned_all logic_tile table c.loop-g.g _ (omega arith) (omega arith) c.loop-g.invariant.1 }

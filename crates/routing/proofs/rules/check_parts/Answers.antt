@@ -1,5 +1,5 @@
 -- `rules::check_parts` goes through cells, fields, passive list and groups in this order. Assumes nothing.
-use Rattle.routing.proofs.PartSearch.{faulty_not_ok, fields_claimed, passives_many, passives_claimed, faulty_fields, faulty_passives}
+use Rattle.routing.proofs.PartSearch.{part_named, faulty_not_ok, fields_claimed, passives_many, passives_claimed, faulty_fields, faulty_passives}
 use Rattle.routing.proofs.ClaimingLaws.{field_run, passive_run, owned_passives}
 use Rattle.routing.specs.LogicTile.{logic_tile}
 use native.Mathlib.Omega.{arith}
@@ -19,7 +19,7 @@ pub returns-then-not-claim : goal.returns-then-not-claim
 returns-then-not-claim c =
     let table = c.args.table.now in
     let broken = faulty_fields logic_tile table (fields_claimed logic_tile table _ c.claim.ensures.answer ∙ c.if-not-claim.true) in
-    record { part = broken; map = faulty_not_ok logic_tile table _ broken (omega arith) }
+    record { part = part_named logic_tile table _ broken (omega arith); map = faulty_not_ok logic_tile table _ broken (omega arith) }
 
 -- more than 64 passive positions, or one breaks a rule
 pub returns-then-n-gt-MAX_PASSIVES : goal.returns-then-n-gt-MAX_PASSIVES
@@ -33,7 +33,7 @@ returns-then-n-gt-MAX_PASSIVES c =
           passives_claimed logic_tile table _ count (omega arith) _ w.claim-else-n-gt-MAX_PASSIVES.ensures.answer ∙ w.if-not-claim-2.true
     ] in
     let broken = faulty_passives logic_tile table fields passives in
-    record { part = broken; map = faulty_not_ok logic_tile table _ broken (omega arith) }
+    record { part = part_named logic_tile table _ broken (omega arith); map = faulty_not_ok logic_tile table _ broken (omega arith) }
 
 pub claim-requires-else-n-gt-MAX_PASSIVES : goal.claim-requires-else-n-gt-MAX_PASSIVES
 claim-requires-else-n-gt-MAX_PASSIVES c =

@@ -1,7 +1,7 @@
 -- The grounds in their orders: one law for each way through `read_answer` and `write_answer`. Main laws: `read_done`, `write_done`;
 -- `lengths_exact`: the test of the lengths and the facts. Assumes nothing.
 use Rattle.std.specs.Prelude.{Ok, Err}
-use mathlib.Core.Path.{◌≡◌}
+use mathlib.Core.Path.{◌≡◌, refl}
 use mathlib.Core.Logic.{◌≢◌, ◌↔◌}
 use mathlib.Core.Bool.{true, false}
 use mathlib.Core.List.{List}
@@ -18,7 +18,7 @@ use Rattle.ports.specs.Lengths.{table_length, bits_length, settings_total}
 use Rattle.routing.specs.TableCheck.{faulty_part, part_count, table_ok}
 use Rattle.routing.proofs.TableCheckLaws.{table_exact}
 use Rattle.config.specs.Blocks.{fault_place, bitless_tile, tiles_of}
-use Rattle.config.specs.Entry.{lengths_ok, read_answer, write_answer}
+use Rattle.config.specs.Entry.{lengths_ok, read_answer, write_answer, settings_answer}
 use Rattle.config.specs.Facts.{ExactLengths, Checked}
 
 -- the test of the lengths and the facts
@@ -99,6 +99,12 @@ module _ (S : Size) (table settings : List ℕ) (bits : ℕ) where
     unfolding write_answer
     write_table l p e n =
         rw (allowed_true S s, lengths_true S (length table) bits (length settings) l, ← e, ne_eqb p (part_count logic_tile table) n)
+
+    -- grounds 3 and 9 are those of `settings_answer`
+    pub write_settings : ExactLengths S (length table) bits (length settings)
+        → settings_answer table settings (tile_count S) (Ok tt) ≡ write_answer S table settings bits
+    unfolding write_answer settings_answer
+    write_settings l = rw (allowed_true S s, lengths_true S (length table) bits (length settings) l) refl
 
   module _ (C : Checked S table bits (length settings)) (t : ℕ) (e : t ≡ bitless_tile table settings (tile_count S)) where
     pub write_bitless : t < tile_count S → Err (NoSuchSettings t) ≡ write_answer S table settings bits

@@ -9,3 +9,4 @@ pub mod BitCountLaws  -- count-..: the same of a bit count
 pub mod BlocksLaws  -- decoded_at_lem, encoded_at_lem: a block's tiles; tiles_read_one, decoded_is, encoded_is: one settings, one bits; bitless_lowest, bitless_is, bits_none: ground 9
 pub mod FaultPlaceLaws  -- fault_place_exact, fault_unique: the place of ground 4; no_fault_decodable, decodable_no_fault: where there is none
 pub mod FormsLaws  -- settings_same, read_same, count_same: bytes and their words carry the same settings and answers
+pub mod SettingsLaws  -- settings_no, settings_yes, settings_shows: grounds 3 and 9 in front of later checks

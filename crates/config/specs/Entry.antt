@@ -31,6 +31,13 @@ read_answer_of S table lengths tile =
 unfoldable pub read_answer : Size → List ℕ → List ℕ → ℕ → Result (Unit {0}) Refusal
 read_answer S table bits settings = read_answer_of S table (lengths_ok S (length table) (length bits) settings) (tiles_of bits)
 
+-- grounds 3 and 9 of n tiles, and `later` where neither is given
+unfoldable pub settings_answer : {A : Type 0} → List ℕ → List ℕ → ℕ → Result A Refusal → Result A Refusal
+settings_answer table settings n later =
+    unless (table_ok logic_tile table) (Err (Table (faulty_part logic_tile table)))
+    (unless (leb n (bitless_tile table settings n)) (Err (NoSuchSettings (bitless_tile table settings n)))
+    later)
+
 -- writing: the bits are an output
 unfoldable pub write_answer : Size → List ℕ → List ℕ → ℕ → Result (Unit {0}) Refusal
 write_answer S table settings bits =

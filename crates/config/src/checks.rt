@@ -1,8 +1,9 @@
 // The checks of the entry points, in their orders. They are given the length of an output and not the output, so they cannot write it.
-ghost use Rattle.std.specs.Prelude.{◌≡◌, length, take, Ok};
+ghost use Rattle.std.specs.Prelude.{◌≡◌, length, take, Ok, ◌≤◌, ◌*◌};
 ghost use Rattle.ports.specs.Block.{Allowed, tile_count};
+ghost use Rattle.ports.specs.Lengths.{table_length, settings_length};
 ghost use Rattle.config.specs.Blocks.{room_length, decoded, tiles_of};
-ghost use Rattle.config.specs.Entry.{lengths_ok, read_answer, write_answer};
+ghost use Rattle.config.specs.Entry.{lengths_ok, read_answer, write_answer, settings_answer};
 
 use ports::lengths::{POSITIONS, TABLE_LENGTH, bits_length, settings_total};
 use ports::size::{Size, is_allowed};
@@ -42,9 +43,7 @@ pub fn read_checks(
         return Err(Refusal::WrongLength);
     }
     let mut own = [0u16; POSITIONS];
-    let part = routing::rules::check_table(table, &mut own);
-    let parts = 2 + routing::table::group_count(table);
-    if part != parts {
+    if let Some(part) = routing::rules::check_table(table, &mut own) {
         return Err(Refusal::Table(part as u32));
     }
     let place = crate::blocks::read_block(table, &own, bits, &mut room[..settings], n);
@@ -64,9 +63,15 @@ pub fn write_checks(s: Size, table: &[u16], settings: &[u16], bits: usize) -> Re
     if !lengths_ok(s, table.len(), bits, settings.len()) {
         return Err(Refusal::WrongLength);
     }
-    let part = routing::rules::faulty_part(table);
-    let parts = 2 + routing::table::group_count(table);
-    if part != parts {
+    check_settings(table, settings, n)
+}
+
+// Grounds 3 and 9 of n tiles.
+pub fn check_settings(table: &[u16], settings: &[u16], n: usize) -> Result<(), Refusal>
+    requires { (n ≤ 64) × (length table.now ≡ table_length) × (length settings.now ≡ settings_length * n) }
+    ensures { result ≡ settings_answer table.now settings.now n (Ok tt) }
+{
+    if let Some(part) = routing::rules::faulty_part(table) {
         return Err(Refusal::Table(part as u32));
     }
     let t = crate::blocks::bitless_tile(table, settings, n);

@@ -19,7 +19,7 @@ use ports::size::{Size, is_allowed};
 use refusal::Refusal;
 
 pub mod blocks;
-mod checks;
+pub mod checks;
 mod room;
 
 // Reads a block's bits to its settings. Grounds 1 to 4, in this order (`read_answer`).

@@ -10,6 +10,7 @@ use Rattle.lists.proofs.SearchLaws.{first_le}
 use Rattle.ports.proofs.BlockLaws.{allowed_exact, tile_count_le}
 use Rattle.ports.specs.Block.{tile_count}
 use Rattle.routing.proofs.TableCheckLaws.{table_exact}
+use Rattle.routing.proofs.PartSearch.{broken_some, broken_none}
 use Rattle.routing.specs.LogicTile.{logic_tile}
 use Rattle.routing.specs.TableCheck.{breaks, faulty_part, part_count}
 use Rattle.config.specs.Blocks.{faulty_place, tiles_of}
@@ -36,16 +37,18 @@ returns-then-not-lengths_ok c =
 pub overflow_cast-result : goal.overflow_cast-result
 overflow_cast-result c =
     let table = c.args.table.now in
-    omega (arith, c.shared_slice_known-1.given 68, c.check_table-part.ensures.part, first_le (breaks logic_tile table) 0 (part_count logic_tile table))
+    let part = broken_some logic_tile table c.in-Some.part c.in-Some.ensures.part in
+    omega (arith, c.type_inv.table 68, part.1)
 
 -- a table that breaks a rule
-pub returns-then-part-parts : goal.returns-then-part-parts
-returns-then-part-parts c =
+pub returns-in-Some : goal.returns-in-Some
+returns-in-Some c =
     let args = c.args in
     let table = args.table.now in
     let size = (allowed_exact args.s).0 (sym c.is_allowed.ensures ∙ c.if-not-is_allowed.false) in
     let lengths = (lengths_exact args.s (length table) (length args.bits.now) args.settings).0 (sym c.lengths_ok.ensures ∙ c.if-not-lengths_ok.false) in
-    record { answer = read_table args.s table args.bits.now args.settings size lengths _ c.check_table-part.ensures.part (λ e. c.if-part-parts.true (e ∙ sym (ap (λ (x : ℕ). 2 + x) c.group_count-parts.ensures))); room = λ e. refused_not_done e }
+    let part = broken_some logic_tile table c.in-Some.part c.in-Some.ensures.part in
+    record { answer = read_table args.s table args.bits.now args.settings size lengths _ part.0 (λ e. absurd (omega (arith, part.1))); room = λ e. refused_not_done e }
 
 pub slice_bounds-read_block-end-2 : goal.slice_bounds-read_block-end-2
 slice_bounds-read_block-end-2 c =
@@ -71,10 +74,10 @@ read_block-place-requires c =
     let table = args.table.now in
     let size = (allowed_exact args.s).0 (sym c.is_allowed.ensures ∙ c.if-not-is_allowed.false) in
     let lengths = (lengths_exact args.s (length table) (length args.bits.now) args.settings).0 (sym c.lengths_ok.ensures ∙ c.if-not-lengths_ok.false) in
-    let passes = eq-eqb (faulty_part logic_tile table) (part_count logic_tile table) (sym c.check_table-part.ensures.part ∙ c.if-part-parts.false ∙ ap (λ (x : ℕ). 2 + x) c.group_count-parts.ensures) in
+    let passes = broken_none logic_tile table c.in_default.ensures.part in
     let rules = (table_exact logic_tile table lengths.table_long).0 passes in
     let few = tile_count_le args.s size in
-    (few, rules, c.check_table-part.ensures.map passes, lengths.bits_long, front_length (tile_count args.s) args.settings args.room.now few lengths.settings_long c.requires ∙ lengths.settings_long)
+    (few, rules, c.check_table.ensures.map passes, lengths.bits_long, front_length (tile_count args.s) args.settings args.room.now few lengths.settings_long c.requires ∙ lengths.settings_long)
 
 -- a tile that cannot be decoded
 pub returns-then-place-n : goal.returns-then-place-n
@@ -83,7 +86,7 @@ returns-then-place-n c =
     let table = args.table.now in
     let size = (allowed_exact args.s).0 (sym c.is_allowed.ensures ∙ c.if-not-is_allowed.false) in
     let lengths = (lengths_exact args.s (length table) (length args.bits.now) args.settings).0 (sym c.lengths_ok.ensures ∙ c.if-not-lengths_ok.false) in
-    let passes = eq-eqb (faulty_part logic_tile table) (part_count logic_tile table) (sym c.check_table-part.ensures.part ∙ c.if-part-parts.false ∙ ap (λ (x : ℕ). 2 + x) c.group_count-parts.ensures) in
+    let passes = broken_none logic_tile table c.in_default.ensures.part in
     let rules = (table_exact logic_tile table lengths.table_long).0 passes in
     let checked : Checked args.s table (length args.bits.now) args.settings = record { size = size; lengths = lengths; rules = rules } in
     record { answer = read_undecodable args.s table args.bits.now args.settings checked _ c.read_block-place.ensures.place c.if-place-n.true; room = λ e. refused_not_done e }
@@ -95,7 +98,7 @@ returns c =
     let table = args.table.now in
     let size = (allowed_exact args.s).0 (sym c.is_allowed.ensures ∙ c.if-not-is_allowed.false) in
     let lengths = (lengths_exact args.s (length table) (length args.bits.now) args.settings).0 (sym c.lengths_ok.ensures ∙ c.if-not-lengths_ok.false) in
-    let passes = eq-eqb (faulty_part logic_tile table) (part_count logic_tile table) (sym c.check_table-part.ensures.part ∙ c.if-part-parts.false ∙ ap (λ (x : ℕ). 2 + x) c.group_count-parts.ensures) in
+    let passes = broken_none logic_tile table c.in_default.ensures.part in
     let rules = (table_exact logic_tile table lengths.table_long).0 passes in
     let checked : Checked args.s table (length args.bits.now) args.settings = record { size = size; lengths = lengths; rules = rules } in
     let part = c.read_block-place.new.settings in

@@ -146,8 +146,8 @@ fn write_cells(bits: &mut [u64], cells: [Cell; 8])
     requires { bits.old ≡ zeros tile_numbers }
     ensures { bits.new ≡ write_cells bits.old cells 8 }
 {
-    for i in 0..8 {
-        write_value(bits, i, cell_number(cells[i]));
+    for (i, cell) in cells.iter().enumerate() {
+        write_value(bits, i, cell_number(*cell));
     }
 }
 
@@ -166,10 +166,9 @@ pub fn put_cells(settings: &mut [u16], cells: [Cell; 8])
     requires { length settings.old ≡ settings_length }
     ensures { settings.new ≡ put_cells settings.old cells 8 }
 {
-    for i in 0..8 {
-        let c = cells[i];
-        settings[CELLS_FROM + 2 * i] = c.table;
-        settings[CELLS_FROM + 2 * i + 1] = c.flags();
+    for (i, cell) in cells.iter().enumerate() {
+        settings[CELLS_FROM + 2 * i] = cell.table;
+        settings[CELLS_FROM + 2 * i + 1] = cell.flags();
     }
 }
 

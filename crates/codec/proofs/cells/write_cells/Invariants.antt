@@ -6,4 +6,4 @@ use Rattle.ports.specs.Lengths.{tile_numbers}
 use Rattle.codec.proofs.cells.write_cells.Given as goal
 
 abbrev pub invariant-loop-i : goal.invariant-loop-i
-invariant-loop-i l = (length l.cells ≡ 8) × (length l.bits ≡ tile_numbers) × (l.bits ≡ write_cells l.initial.bits l.cells l.i)
+invariant-loop-i l = (length l.cell-items ≡ 8) × (length l.bits ≡ tile_numbers) × (l.bits ≡ write_cells l.initial.bits l.cell-items l.i)

@@ -1,24 +1,27 @@
 -- The bits of a list of numbers: read, written, and two lists that agree at each bit; first over the number u of bits in a lent number,
--- then for the form that a tile's bits have. Main laws: `bit_set_same`, `bit_set_other`, `bits_ext`; `bit_count_step`. Assumes nothing.
-use mathlib.Core.Path.{◌≡◌, sym, ap, ap₂, ◌∙◌, subst}
+-- then for the form that a tile's bits have. Main laws: `bit_set_same`, `bit_set_other`, `bits_ext`; `bit_count_rows`. Assumes nothing.
+use mathlib.Core.Path.{◌≡◌, refl, sym, ap, ap₂, ◌∙◌, subst}
 use mathlib.Core.Bool.{true}
 use mathlib.Core.Logic.{⊎_elim, ◌≢◌}
 use mathlib.Core.List.{List}
-use Prim.Native.Nat.{ℕ, ◌+◌, ◌*◌, ◌/◌, ◌%◌, ◌^◌, ◌<◌, ◌≤◌}
+use Prim.Native.Nat.{ℕ, zero, suc, ◌+◌, ◌*◌, ◌/◌, ◌%◌, ◌^◌, ◌<◌, ◌≤◌}
 use native.Mathlib.Omega.{arith}
 use native.Mathlib.Nat.{div-add-mod', mod-lt, zero-div}
 use borrow.Author.Tests.{eqb-true}
 use lib.Count.{ones}
 use lib.Pow.{pow_pos}
 use lib.Dec.{eqb}
-use lib.ListN.{length, get_or, set, length-set}
-use lib.Seq.{get_or-set_same, get_or-set_other, set-get_or, set_out, ext_get_or}
+use lib.ListN.{length, get_or, set, take, length-set}
+use lib.Seq.{take_all, get_or-set_same, get_or-set_other, set-get_or, set_out, ext_get_or}
+use native.Mathlib.Numerals.{add-one}
+use Rattle.std.specs.List.{sum_by}
+use Rattle.std.proofs.lemmas.List.Sums.{sum_by_more}
 use Rattle.lists.specs.Search.{count_below}
 use Rattle.lists.specs.Tables.{zeros}
 use Rattle.lists.proofs.TableLaws.{zeros_length, zeros_at}
 use Rattle.lists.proofs.SearchLaws.{all_at}
 use Rattle.lists.proofs.CaseLaws.{lt_or_le, eq_or_ne}
-use Rattle.lists.proofs.CountLaws.{count_ext, count_add}
+use Rattle.lists.proofs.CountLaws.{count_ext, count_add, count_le}
 use Rattle.digits.specs.Digits.{digit, is_set, set_digit}
 use Rattle.digits.proofs.DigitLaws.{digit_mod, digit_set_same, digit_set_other, set_digit_lt}
 use Rattle.digits.proofs.OnesLaws.{ones_count}
@@ -26,7 +29,7 @@ use Rattle.digits.proofs.MaskLaws.{digit_shl}
 use Rattle.digits.proofs.WriteLaws.{digit_split}
 use Rattle.words.specs.Packed.{bit_in}
 use Rattle.words.proofs.PackedLaws.{bit_in_lt, bit_in_number, bits_in_ext}
-use Rattle.codec.specs.Bits.{unit, bit_at, set_bit_in, set_bit, Fits, is_set_at, is_zero_at, is_empty}
+use Rattle.codec.specs.Bits.{unit, bit_at, set_bit_in, set_bit, Fits, is_set_at, is_zero_at, is_empty, bit_count}
 use Rattle.ports.specs.Lengths.{tile_numbers}
 
 -- ---- u bits in a number
@@ -154,9 +157,33 @@ pub bits_ext : (xs ys : List ℕ) → length xs ≡ length ys → Fits xs → Fi
 bits_ext xs ys n bx by h = bits_in_ext unit (omega arith) xs ys n bx by h
 
 -- one row more: its ones more
-pub bit_count_step : (bits : List ℕ) (i : ℕ)
+bit_count_step : (bits : List ℕ) (i : ℕ)
     → count_below (is_set_at (bit_at bits)) (unit * (i + 1)) ≡ count_below (is_set_at (bit_at bits)) (unit * i) + ones (get_or bits i 0 % 2 ^ unit)
 bit_count_step bits i =
     ap (count_below (is_set_at (bit_at bits))) (let e : unit * (i + 1) ≡ i * unit + unit = omega arith in e)
     ∙ ones_in_step unit (omega arith) bits i
     ∙ ap (λ (x : ℕ). count_below (is_set_at (bit_at bits)) x + ones (get_or bits i 0 % 2 ^ unit)) (let e : i * unit ≡ unit * i = omega arith in e)
+
+-- the ones of a row's columns
+abbrev pub row_ones : ℕ → ℕ
+row_ones row = ones (row % 2 ^ unit)
+
+ones_of_rows : (bits : List ℕ) (n : ℕ) → n ≤ length bits → sum_by row_ones (take n bits) ≡ count_below (is_set_at (bit_at bits)) (unit * n)
+unfolding count_below
+ones_of_rows bits zero l = refl
+ones_of_rows bits (suc n) l =
+    let here = sum_by_more row_ones bits n 0 (omega arith) in
+    let before = ones_of_rows bits n (omega arith) in
+    let step = bit_count_step bits n in
+    ap (λ (k : ℕ). sum_by row_ones (take k bits)) (sym (add-one n))
+    ∙ (let e : sum_by row_ones (take (n + 1) bits) ≡ count_below (is_set_at (bit_at bits)) (unit * (n + 1)) = omega arith in e)
+    ∙ ap (λ (k : ℕ). count_below (is_set_at (bit_at bits)) (unit * k)) (add-one n)
+
+-- those of a tile's rows together are its set bits
+pub bit_count_rows : (bits : List ℕ) → length bits ≡ tile_numbers → sum_by row_ones bits ≡ bit_count (bit_at bits)
+bit_count_rows bits e =
+    ap (sum_by row_ones) (sym (take_all tile_numbers bits (omega arith))) ∙ ones_of_rows bits tile_numbers (omega arith)
+
+-- and few
+pub row_ones_few : (bits : List ℕ) → length bits ≡ tile_numbers → sum_by row_ones bits < 2 ^ 32
+row_ones_few bits e = omega (arith, bit_count_rows bits e, count_le (is_set_at (bit_at bits)) 864)

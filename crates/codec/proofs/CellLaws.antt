@@ -2,18 +2,21 @@
 -- that cells were put into; `table_digit`, `flags_digit`: their digits are the tile's bits; `same_cell_table`, `-flags`: how two compare. Assumes nothing.
 use mathlib.Core.Path.{◌≡◌, refl, sym, ap, ap₂, ◌∙◌}
 use mathlib.Core.Logic.{⊎_elim, ◌≢◌}
-use mathlib.Core.Bool.{true, false}
+use mathlib.Core.Bool.{true, false, ◌&&◌}
 use mathlib.Core.List.{List}
 use Prim.Native.Nat.{ℕ, zero, suc, ◌+◌, ◌*◌, ◌/◌, ◌%◌, ◌^◌, ◌<◌, ◌≤◌}
 use native.Mathlib.Omega.{arith}
 use native.Mathlib.Numerals.{add-one}
 use borrow.Author.Tests.{eqb-true, eq-eqb, ne_eqb}
 use lib.Dec.{eqb}
-use lib.ListN.{length, get_or, set, length-set}
-use lib.Seq.{get_or-set_same, get_or-set_other}
+use Rattle.std.specs.List.{fold}
+use lib.ListN.{length, get_or, set, take, drop, length-set, length-drop}
+use lib.Seq.{get_or-set_same, get_or-set_other, get_or-take, get_or-drop, length-take-le}
 use Rattle.lists.specs.Tables.{zeros}
 use Rattle.lists.proofs.CaseLaws.{lt_or_le}
-use Rattle.lists.proofs.SearchLaws.{all_at}
+use Rattle.lists.specs.Search.{all_from}
+use Rattle.lists.proofs.SearchLaws.{all_at, all_ext}
+use Rattle.lists.proofs.StdLaws.{fold_and-is, list_all-is}
 use Rattle.lists.proofs.TableLaws.{tabulate_zero}
 use lib.Pow.{shr-shr}
 use Rattle.digits.specs.Digits.{digit}
@@ -73,6 +76,17 @@ module _ (cells : List Cell) (i flags : ℕ) (f : flags ≡ flags_of (get_or cel
       → set (set now (cells_from logic_tile + 2 * i) (get_or cells i empty_cell).table) (cells_from logic_tile + 2 * i + 1) flags ≡ put_cells settings cells (i + 1)
   unfolding put_cells
   put_cells_turn settings now e = rw (e, f, add-one i)
+
+-- the numbers of the cells all looked at
+pub all_cells_zero : (settings : List ℕ) → length settings ≡ settings_length
+    → fold (λ a x. a && eqb x 0) true (take 16 (drop (cells_from logic_tile) settings)) ≡ no_cells settings
+all_cells_zero settings e =
+    let cells = take 16 (drop (cells_from logic_tile) settings) in
+    let long : length cells ≡ 16 = length-take-le 16 (drop (cells_from logic_tile) settings) (omega (arith, length-drop (cells_from logic_tile) settings)) in
+    fold_and-is (λ x. eqb x 0) true cells ∙ list_all-is (λ x. eqb x 0) 0 cells
+    ∙ ap (all_from (λ k. eqb (get_or cells k 0) 0) 0) long
+    ∙ all_ext (λ k. eqb (get_or cells k 0) 0) (cell_zero settings) 0 16
+    (λ k a l. ap (λ x. eqb x 0) (get_or-take 16 (drop (cells_from logic_tile) settings) k 0 (omega arith) ∙ get_or-drop (cells_from logic_tile) settings k 0))
 
 -- a cell's bits are clear until it is written
 write_cells_later : (bits : List ℕ) (cells : List Cell) (n i j : ℕ) → n ≤ i → i < 8 → j < bits_per_cell

@@ -3,7 +3,7 @@ ghost use Rattle.std.specs.Prelude.{◌≡◌, ◌+◌, ◌/◌, ◌%◌, ◌<�
 ghost use Rattle.codec.specs.Bits.{unit, bit_at, set_bit, ten_from, is_empty, bit_count};
 ghost use Rattle.ports.specs.Lengths.{tile_numbers};
 
-use ports::lengths::{COLUMNS, TILE_NUMBERS};
+use ports::lengths::COLUMNS;
 use words::stray::PAST_COLUMNS;
 
 // How many positions a lent number, a row of the tile, has.
@@ -44,14 +44,7 @@ pub fn is_empty(bits: &[u64]) -> bool
     requires { length bits.now ≡ tile_numbers }
     ensures { result ≡ is_empty bits.now }
 {
-    let mut i = 0;
-    while i < TILE_NUMBERS {
-        if bits[i] != 0 {
-            return false;
-        }
-        i += 1;
-    }
-    true
+    bits.iter().all(|row| *row == 0)
 }
 
 // How many of a tile's 864 bits are set.
@@ -60,11 +53,7 @@ pub fn count_bits(bits: &[u64]) -> u32
     requires { length bits.now ≡ tile_numbers }
     ensures { result ≡ bit_count (bit_at bits.now) }
 {
-    let mut n: u32 = 0;
-    let mut i = 0;
-    while i < TILE_NUMBERS {
-        n += u64::count_ones(bits[i] % PAST_COLUMNS);
-        i += 1;
-    }
-    n
+    bits.iter()
+        .map(|row| u64::count_ones(*row % PAST_COLUMNS))
+        .sum()
 }

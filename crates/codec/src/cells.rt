@@ -5,7 +5,7 @@ ghost use Rattle.routing.specs.TileKind.{bits_per_cell};
 ghost use Rattle.routing.specs.LogicTile.{logic_tile, cell_position};
 ghost use Rattle.ports.specs.Lengths.{tile_numbers, settings_length};
 ghost use Rattle.codec.specs.Bits.{set_bits, bit_at};
-ghost use Rattle.codec.specs.Cells.{cell_bit_in, value_in, cells_in, cell_settings, write_cells, put_cells, no_cells, moved_bit, low_ten, high_ten, same_cell};
+ghost use Rattle.codec.specs.Cells.{cell_bit_in, cell_number, value_in, cells_in, cell_settings, write_cells, put_cells, no_cells, moved_bit, low_ten, high_ten, same_cell};
 
 use crate::bits::{PAST_TEN, read_ten};
 use crate::settings::GROUPS_FROM;
@@ -39,11 +39,9 @@ pub fn read_value(bits: &[u64], i: usize) -> u32
         return 0;
     }
     let mut value: u32 = 0;
-    let mut j = 0;
-    while j < BITS_PER_CELL {
+    for j in 0..BITS_PER_CELL {
         let k = routing::cells::lc_bit(j);
         value += ((both >> k) & 1) << j;
-        j += 1;
     }
     value
 }
@@ -53,20 +51,10 @@ pub fn decode_cells(bits: &[u64]) -> [Cell; 8]
     requires { length bits.now ≡ tile_numbers }
     ensures { result ≡ cells_in (bit_at bits.now) }
 {
-    let mut cells = [Cell {
-        table: 0,
-        carry: false,
-        flipflop: false,
-        set: false,
-        asynchronous: false,
-    }; 8];
-    let mut i = 0;
-    while i < 8 {
+    std::array::from_fn(|i| {
         let value = read_value(bits, i);
-        cells[i] = Cell::new((value % 65536) as u16, (value / 65536) as u16);
-        i += 1;
-    }
-    cells
+        Cell::new((value % 65536) as u16, (value / 65536) as u16)
+    })
 }
 
 // The cells that a tile's settings hold.
@@ -74,21 +62,10 @@ pub fn cells_of(settings: &[u16]) -> [Cell; 8]
     requires { length settings.now ≡ settings_length }
     ensures { result ≡ cell_settings settings.now }
 {
-    let mut cells = [Cell {
-        table: 0,
-        carry: false,
-        flipflop: false,
-        set: false,
-        asynchronous: false,
-    }; 8];
-    let mut i = 0;
-    while i < 8 {
-        let table = settings[CELLS_FROM + 2 * i];
-        let flags = settings[CELLS_FROM + 2 * i + 1];
-        cells[i] = Cell::new(table, flags);
-        i += 1;
-    }
-    cells
+    std::array::from_fn(|i| Cell::new(
+        settings[CELLS_FROM + 2 * i],
+        settings[CELLS_FROM + 2 * i + 1],
+    ))
 }
 
 // Whether a tile's settings have no cell with anything set. No early exit, so the loop vectorises.
@@ -97,15 +74,9 @@ fn has_no_cells(settings: &[u16]) -> bool
     requires { length settings.now ≡ settings_length }
     ensures { result ≡ no_cells settings.now }
 {
-    let mut none = true;
-    let mut k = 0;
-    while k < CELL_NUMBERS {
-        if settings[CELLS_FROM + k] != 0 {
-            none = false;
-        }
-        k += 1;
-    }
-    none
+    settings[CELLS_FROM..CELLS_FROM + CELL_NUMBERS]
+        .iter()
+        .fold(true, |none, number| none & (*number == 0))
 }
 
 // Bit j of a number, moved to place k.
@@ -114,7 +85,7 @@ fn moved_bit(value: u32, j: u32, k: u32) -> u64
     ensures is { result ≡ moved_bit value j k }
     ensures small { result < 1024 }
 {
-    (((value >> j) & 1) as u64) << k
+    u64::from((value >> j) & 1) << k
 }
 
 // What a cell's first row holds of its value: logic cell bits 0 to 9. One by one and with no loop, for every place is known.
@@ -163,17 +134,20 @@ fn write_value(bits: &mut [u64], i: usize, value: u32)
     bits[2 * i + 1] = second + (high_ten(value) << FIRST_TEN);
 }
 
+// A cell's 20 bits as one number: its table, and its flags with weight 65,536.
+fn cell_number(cell: Cell) -> u32
+    ensures { result ≡ cell_number cell }
+{
+    u32::from(cell.table) + 65536 * u32::from(cell.flags())
+}
+
 // Eight cells written to a tile's bits, which are clear.
 fn write_cells(bits: &mut [u64], cells: [Cell; 8])
     requires { bits.old ≡ zeros tile_numbers }
     ensures { bits.new ≡ write_cells bits.old cells 8 }
 {
-    let mut i = 0;
-    while i < 8 {
-        let c = cells[i];
-        let value = c.table as u32 + 65536 * (c.flags() as u32);
-        write_value(bits, i, value);
-        i += 1;
+    for (i, cell) in cells.iter().enumerate() {
+        write_value(bits, i, cell_number(*cell));
     }
 }
 
@@ -182,11 +156,9 @@ pub fn encode_cells(settings: &[u16], bits: &mut [u64])
     requires { (length settings.now ≡ settings_length) × (bits.old ≡ zeros tile_numbers) }
     ensures { bits.new ≡ write_cells bits.old (cell_settings settings.now) 8 }
 {
-    if has_no_cells(settings) {
-        return;
+    if !has_no_cells(settings) {
+        write_cells(bits, cells_of(settings));
     }
-    let cells = cells_of(settings);
-    write_cells(bits, cells);
 }
 
 // Eight cells put into a tile's settings.
@@ -194,12 +166,9 @@ pub fn put_cells(settings: &mut [u16], cells: [Cell; 8])
     requires { length settings.old ≡ settings_length }
     ensures { settings.new ≡ put_cells settings.old cells 8 }
 {
-    let mut i = 0;
-    while i < 8 {
-        let c = cells[i];
-        settings[CELLS_FROM + 2 * i] = c.table;
-        settings[CELLS_FROM + 2 * i + 1] = c.flags();
-        i += 1;
+    for (i, cell) in cells.iter().enumerate() {
+        settings[CELLS_FROM + 2 * i] = cell.table;
+        settings[CELLS_FROM + 2 * i + 1] = cell.flags();
     }
 }
 
@@ -207,10 +176,5 @@ pub fn put_cells(settings: &mut [u16], cells: [Cell; 8])
 pub fn is_same_cell(a: Cell, b: Cell) -> bool
     ensures { result ≡ same_cell a b }
 {
-    if a.table != b.table {
-        return false;
-    }
-    let here = a.flags();
-    let there = b.flags();
-    here == there
+    a == b
 }

@@ -24,36 +24,31 @@ pub fn is_group_fault(table: &[u16], g: usize, bits: &[u64], p: usize) -> bool
     requires { GroupLent table.now g bits.now }
     ensures { result ≡ points_to p (read_group logic_tile table.now (bit_at bits.now) g) }
 {
-    let r = read_group(table, g, bits);
-    match r {
+    match read_group(table, g, bits) {
         GroupRead::Setting(_) => false,
         GroupRead::Unlisted(first) => first == p,
     }
 }
 
 // CarryInSet together with the chain switch.
+#[tactic(auto, using(crate::proofs::TileRunLaws::field_position_lt), unfolding(crate::specs::Fault::carry_pair))]
 pub fn is_carry_pair(table: &[u16], bits: &[u64]) -> bool
     requires { (TableRules logic_tile table.now) × (length bits.now ≡ tile_numbers) }
     ensures { result ≡ carry_pair table.now (bit_at bits.now) }
 {
     let set = routing::table::field(table, CARRY_IN_SET);
     let chain = routing::table::field(table, CARRY_CHAIN);
-    if read_bit(bits, set) == 1 {
-        return read_bit(bits, chain) == 1;
-    }
-    false
+    read_bit(bits, set) == 1 && read_bit(bits, chain) == 1
 }
 
 // Whether p is the last column of a row with a set bit past it.
 // Rules out: such a bit let through; a fault in another column of the row.
+#[tactic(auto, unfolding(crate::specs::Fault::past_at))]
 fn is_past_at(bits: &[u64], p: usize) -> bool
     requires { (length bits.now ≡ tile_numbers) × (p < logic_tile.positions) }
     ensures { result ≡ past_at (tile_of bits.now) p }
 {
-    if p % UNIT == UNIT - 1 {
-        return PAST_COLUMNS <= bits[p / UNIT];
-    }
-    false
+    p % UNIT == UNIT - 1 && PAST_COLUMNS <= bits[p / UNIT]
 }
 
 // Whether position p is at fault by what claims it; `own` says which slot does.
@@ -63,29 +58,25 @@ fn is_owned_fault(table: &[u16], own: &[u16], bits: &[u64], p: usize) -> bool
         (length bits.now ≡ tile_numbers) × (p < logic_tile.positions) }
     ensures { result ≡ owned_fault table.now (tile_of bits.now) p }
 {
-    let code = own[p] as usize;
+    let code = usize::from(own[p]);
     if code == 0 {
-        return read_bit(bits, p) == 1;
+        read_bit(bits, p) == 1
+    } else if code == SET_FIELD {
+        is_carry_pair(table, bits)
+    } else if code < GROUP_CODES {
+        false
+    } else {
+        is_group_fault(table, (code - GROUP_CODES) / MAX_POSITIONS, bits, p)
     }
-    if code == SET_FIELD {
-        return is_carry_pair(table, bits);
-    }
-    if code < GROUP_CODES {
-        return false;
-    }
-    let g = (code - GROUP_CODES) / MAX_POSITIONS;
-    is_group_fault(table, g, bits, p)
 }
 
 // Whether position p is at fault.
 // Rules out: the last column of a row at fault only for what claims it.
+#[tactic(auto, unfolding(crate::specs::Fault::fault_at))]
 pub fn is_fault_at(table: &[u16], own: &[u16], bits: &[u64], p: usize) -> bool
     requires { (TableRules logic_tile table.now) × (TableOwned logic_tile table.now (slot_count logic_tile) own.now) ×
         (length bits.now ≡ tile_numbers) × (p < logic_tile.positions) }
     ensures { result ≡ fault_at table.now (tile_of bits.now) p }
 {
-    if is_past_at(bits, p) {
-        return true;
-    }
-    is_owned_fault(table, own, bits, p)
+    is_past_at(bits, p) || is_owned_fault(table, own, bits, p)
 }

@@ -19,17 +19,16 @@ pub enum GroupRead {
 }
 
 // The pattern that a group's bits have, the first position with weight 1.
+#[tactic(auto, using(crate::proofs::TileRunLaws::group_position_lt))]
 fn read_pattern(table: &[u16], g: usize, bits: &[u64]) -> u16
     requires { GroupLent table.now g bits.now }
     ensures { result ≡ group_pattern logic_tile table.now (bit_at bits.now) g }
 {
     let n = routing::table::width(table, g);
     let mut pattern: u16 = 0;
-    let mut k = 0;
-    while k < n {
+    for k in 0..n {
         let p = routing::table::position(table, g, k);
-        pattern += (read_bit(bits, p) as u16) << k;
-        k += 1;
+        pattern += u16::from(read_bit(bits, p)) << k;
     }
     pattern
 }
@@ -44,12 +43,11 @@ pub fn setting_of(table: &[u16], g: usize, pattern: u16) -> GroupRead
         return GroupRead::Setting(0);
     }
     let e = routing::table::find_entry(table, g, pattern);
-    let n = routing::table::entry_count(table, g);
-    if e < n {
-        return GroupRead::Setting(e as u16 + 1);
+    if e < routing::table::entry_count(table, g) {
+        GroupRead::Setting(e as u16 + 1)
+    } else {
+        GroupRead::Unlisted(routing::table::position(table, g, 0))
     }
-    let first = routing::table::position(table, g, 0);
-    GroupRead::Unlisted(first)
 }
 
 // The setting that a group's bits give.
@@ -71,11 +69,9 @@ fn write_others(table: &[u16], g: usize, bits: &mut [u64], held: HeldRow, patter
 {
     let n = routing::table::width(table, g);
     let mut next = held;
-    let mut k = 1;
-    while k < n {
+    for k in 1..n {
         let p = routing::table::position(table, g, k);
         next = write_digit(bits, next, p, pattern, k);
-        k += 1;
     }
     next
 }
@@ -112,6 +108,6 @@ pub fn write_group(
     if setting == 0 {
         return held;
     }
-    let pattern = routing::table::pattern(table, g, setting as usize - 1);
+    let pattern = routing::table::pattern(table, g, usize::from(setting) - 1);
     write_pattern(table, g, bits, held, pattern)
 }

@@ -22,8 +22,10 @@ pub fn hold_first(bits: &[u64]) -> HeldRow
     ensures row { result.row < tile_numbers }
     ensures bits { with_held bits.now result ≡ bits.now }
 {
-    let word = bits[0];
-    HeldRow { row: 0, word }
+    HeldRow {
+        row: 0,
+        word: bits[0],
+    }
 }
 
 // The row of a position. A product in place of a quotient: 1,214 is a little more than 65,536 / 54, and exact for a tile's positions.
@@ -48,14 +50,15 @@ fn hold_row(bits: &mut [u64], held: HeldRow, p: usize) -> HeldRow
     ensures row { result.row ≡ p / unit }
     ensures bits { with_held bits.new result ≡ with_held bits.old held }
 {
-    let row = held.row;
-    let i = row_of(p);
-    if i == row {
+    let row = row_of(p);
+    if row == held.row {
         return held;
     }
-    bits[row] = held.word;
-    let word = bits[i];
-    HeldRow { row: i, word }
+    bits[held.row] = held.word;
+    HeldRow {
+        row,
+        word: bits[row],
+    }
 }
 
 // Digit k of a pattern written to position p, which is clear: there is nothing to take away.
@@ -66,7 +69,7 @@ pub fn write_digit(bits: &mut [u64], held: HeldRow, p: usize, pattern: u16, k: u
     ensures bits { with_held bits.new result ≡ set_bit (with_held bits.old held) p (digit pattern k) }
 {
     let mut next = hold_row(bits, held, p);
-    next.word += (((pattern >> k) & 1) as u64) << column_of(p);
+    next.word += u64::from((pattern >> k) & 1) << column_of(p);
     next
 }
 
@@ -75,6 +78,5 @@ pub fn store_held(bits: &mut [u64], held: HeldRow)
     requires { (length bits.old ≡ tile_numbers) × (held.row < tile_numbers) }
     ensures { bits.new ≡ with_held bits.old held }
 {
-    let row = held.row;
-    bits[row] = held.word;
+    bits[held.row] = held.word;
 }

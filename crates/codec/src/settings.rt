@@ -25,55 +25,49 @@ pub fn group_setting(table: &[u16], g: usize, bits: &[u64]) -> u16
     requires { GroupLent table.now g bits.now }
     ensures { result ≡ setting_number (read_group logic_tile table.now (bit_at bits.now) g) }
 {
-    let r = read_group(table, g, bits);
-    match r {
+    match read_group(table, g, bits) {
         GroupRead::Setting(s) => s,
         GroupRead::Unlisted(_) => 0,
     }
 }
 
 // Setting n of what the bits read to, below the groups: a field or a passive bit.
+#[tactic(auto, using(crate::proofs::TileRunLaws::field_position_lt, crate::proofs::TileRunLaws::passive_position_lt), unfolding(crate::specs::Decode::setting_at))]
 pub fn setting_at(table: &[u16], bits: &[u64], n: usize) -> u16
     requires { (TableRules logic_tile table.now) × (length bits.now ≡ tile_numbers) × (n < groups_from logic_tile) }
     ensures { result ≡ setting_at table.now (bit_at bits.now) n }
 {
     if n < PASSIVES_FROM {
-        let p = routing::table::field(table, n);
-        return read_bit(bits, p) as u16;
+        u16::from(read_bit(bits, routing::table::field(table, n)))
+    } else if n - PASSIVES_FROM < routing::table::passive_count(table) {
+        u16::from(read_bit(bits, routing::table::passive(table, n - PASSIVES_FROM)))
+    } else {
+        0
     }
-    let j = n - PASSIVES_FROM;
-    if j < routing::table::passive_count(table) {
-        let p = routing::table::passive(table, j);
-        return read_bit(bits, p) as u16;
-    }
-    0
 }
 
 // The largest value of setting n.
+#[tactic(auto, unfolding(crate::specs::Limits::limit_at))]
 pub fn limit_at(table: &[u16], n: usize) -> u16
     requires { (TableRules logic_tile table.now) × (n < settings_length) }
     ensures { result ≡ limit_at table.now n }
 {
     if n < PASSIVES_FROM {
-        return 1;
-    }
-    if n < GROUPS_FROM {
-        if n - PASSIVES_FROM < routing::table::passive_count(table) {
-            return 1;
-        }
-        return 0;
-    }
-    if n < CELLS_FROM {
+        1
+    } else if n < GROUPS_FROM {
+        u16::from(n - PASSIVES_FROM < routing::table::passive_count(table))
+    } else if n < CELLS_FROM {
         let g = n - GROUPS_FROM;
         if g < routing::table::group_count(table) {
-            return routing::table::entry_count(table, g) as u16;
+            routing::table::entry_count(table, g) as u16
+        } else {
+            0
         }
-        return 0;
+    } else if (n - CELLS_FROM) % 2 == 0 {
+        65535
+    } else {
+        15
     }
-    if (n - CELLS_FROM) % 2 == 0 {
-        return 65535;
-    }
-    15
 }
 
 // The largest values of all settings, for a caller with many tiles.
@@ -81,22 +75,14 @@ pub fn limits(table: &[u16]) -> [u16; SETTINGS_LENGTH]
     requires { TableRules logic_tile table.now }
     ensures { result ≡ limits_of table.now }
 {
-    let mut limits = [0u16; SETTINGS_LENGTH];
-    let mut n = 0;
-    while n < SETTINGS_LENGTH {
-        limits[n] = limit_at(table, n);
-        n += 1;
-    }
-    limits
+    std::array::from_fn(|n| limit_at(table, n))
 }
 
 // Whether settings have CarryInSet together with the chain switch.
+#[tactic(auto, unfolding(crate::specs::Limits::both_carries))]
 pub fn has_both_carries(settings: &[u16]) -> bool
     requires { length settings.now ≡ settings_length }
     ensures { result ≡ both_carries settings.now }
 {
-    if settings[CARRY_IN_SET] == 1 {
-        return settings[CARRY_CHAIN] == 1;
-    }
-    false
+    settings[CARRY_IN_SET] == 1 && settings[CARRY_CHAIN] == 1
 }

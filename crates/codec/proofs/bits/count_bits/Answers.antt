@@ -1,16 +1,18 @@
--- `count_bits` meets its contract. Invariant: n is the count over the rows so far. Measure: the rows left. Assumes nothing.
-use Rattle.codec.proofs.BitLaws.{bit_count_step}
-use Rattle.lists.specs.Search.{count_below}
-use lib.ListN.{get_or}
-use lib.Count.{ones-le}
-use borrow.Author.Rules.{rules}
-use native.Mathlib.Omega.{arith}
-use Prim.Native.Nat.{◌%◌, ◌^◌}
+-- `count_bits` meets its contract: the rows' ones together are the tile's set bits (`bit_count_rows`). Assumes nothing.
+use Rattle.std.proofs.Common.{rules, ◌∙◌}
+use Rattle.std.proofs.lemmas.Iterator.{YieldsList-from_slice, YieldsList-from_map}
+use Rattle.std.proofs.lemmas.Iterator.Consumers.{sum_by_from_yields_List, fits_by_from_yields_list}
+use Rattle.codec.proofs.BitLaws.{row_ones, bit_count_rows, row_ones_few}
 use Rattle.codec.proofs.bits.count_bits.Goals as goal
 
-pub loop-i-init : goal.loop-i-init
-unfolding count_below
-loop-i-init c = search rules
+pub sum-requires-clause-fits : goal.sum-requires-clause-fits
+sum-requires-clause-fits c =
+    fits_by_from_yields_list row_ones c.args.bits.now c.map.result _
+    (YieldsList-from_map _ row_ones (YieldsList-from_slice c.args.bits.now cc) c.map.ensures.closure (λ x r q k. search rules))
+    (row_ones_few c.args.bits.now c.requires)
 
-pub loop-i-preserved : goal.loop-i-preserved
-loop-i-preserved c = (omega arith, omega (arith, bit_count_step c.args.bits.now c.loop-i.i), omega (arith, ones-le 54 (get_or c.args.bits.now c.loop-i.i 0 % 2 ^ 54) (omega arith)))
+pub returns : goal.returns
+returns c =
+    sum_by_from_yields_List row_ones c.args.bits.now c.map.result c.sum.result c.sum.ensures.ran
+    (YieldsList-from_map _ row_ones (YieldsList-from_slice c.args.bits.now cc) c.map.ensures.closure (λ x r q k. search rules))
+    ∙ bit_count_rows c.args.bits.now c.requires

@@ -1,14 +1,14 @@
--- `is_empty` meets its contract. Invariant: the rows from i on decide. Measure: the rows left. Assumes nothing.
-use Rattle.lists.proofs.SearchLaws.{all_turn_hit, all_turn_skip, all_turn_end}
-use borrow.Author.Tests.{eq-eqb, ne_eqb}
-use native.Mathlib.Omega.{arith}
+-- `is_empty` meets its contract: every row is 0. Assumes nothing.
+use Rattle.std.proofs.Common.{rules, tests, ap, ◌∙◌, eqb}
+use Rattle.std.proofs.lemmas.Iterator.{YieldsList-from_slice}
+use Rattle.std.proofs.lemmas.Iterator.Search.{all_from_yields_List}
+use Rattle.lists.specs.Search.{all_from}
+use Rattle.lists.proofs.StdLaws.{list_all-is}
+use Rattle.codec.specs.Bits.{is_zero_at}
 use Rattle.codec.proofs.bits.is_empty.Goals as goal
 
-pub returns-then-bits-i-ne0 : goal.returns-then-bits-i-ne0
-returns-then-bits-i-ne0 c = all_turn_hit _ _ _ _ c.loop-i.invariant.1 (omega arith) (ne_eqb _ _ c.if-bits-i-ne0.true)
-
-pub loop-i-preserved : goal.loop-i-preserved
-loop-i-preserved c = (omega arith, all_turn_skip _ _ _ _ c.loop-i.invariant.1 (omega arith) (eq-eqb _ _ c.if-bits-i-ne0.false))
-
 pub returns : goal.returns
-returns c = all_turn_end _ _ _ _ c.loop-i.invariant.1 (omega arith)
+returns c =
+    let bits = c.args.bits.now in
+    let all = all_from_yields_List (λ x. eqb x 0) _ _ c.all.result c.all.ensures.ran (YieldsList-from_slice bits cc) (λ x b q k. search (rules, tests)) in
+    all ∙ list_all-is (λ x. eqb x 0) 0 bits ∙ ap (all_from (is_zero_at bits) 0) c.requires

@@ -4,7 +4,7 @@ use native.Mathlib.Omega.{arith}
 use Rattle.codec.proofs.CellLaws.{no_cells_written}
 use Rattle.codec.proofs.cells.encode_cells.Goals as goal
 
-pub returns-then-has_no_cells : goal.returns-then-has_no_cells
-returns-then-has_no_cells c =
-    sym (no_cells_written c.args.settings.now c.args.bits.now (sym c.has_no_cells.ensures ∙ c.if-has_no_cells.true)
+pub returns-else-not-has_no_cells : goal.returns-else-not-has_no_cells
+returns-else-not-has_no_cells c =
+    sym (no_cells_written c.args.settings.now c.args.bits.now (sym c.has_no_cells.ensures ∙ c.if-not-has_no_cells.false)
     c.requires.1 8 (omega arith))

@@ -1,22 +1,11 @@
--- `has_no_cells` meets its contract. Invariant: `none` says whether the first k numbers of the cells are 0. Measure: the numbers left. Assumes nothing.
-use mathlib.Core.Path.{◌∙◌}
-use native.Mathlib.Omega.{arith}
-use borrow.Author.Tests.{eq-eqb, ne_eqb}
-use borrow.Author.Rules.{rules}
-use Rattle.lists.specs.Search.{all_from}
-use Rattle.lists.proofs.SomeLaws.{all_more_pass, all_more_fail}
+-- `has_no_cells` meets its contract: every number of the cells is 0. Assumes nothing.
+use Rattle.std.proofs.Common.{rules, tests, true, ◌∙◌, ◌&&◌, eqb}
+use Rattle.std.proofs.lemmas.Iterator.{YieldsList-from_slice}
+use Rattle.std.proofs.lemmas.Iterator.Consumers.{fold_from_yields_List}
+use Rattle.codec.proofs.CellLaws.{all_cells_zero}
 use Rattle.codec.proofs.cells.has_no_cells.Goals as goal
-use Rattle.codec.proofs.cells.has_no_cells.Goals.{then-settings-k-ne0, else-settings-k-ne0}
 
-pub loop-k-init : goal.loop-k-init
-unfolding all_from
-loop-k-init c = search rules
-
-pub loop-k-preserved : goal.loop-k-preserved
-loop-k-preserved c = (
-  omega arith,
-  elim c.if-settings-k-ne0.branch [
-    | then-settings-k-ne0 w ↦ w.none-is ∙ all_more_fail _ _ _ c.loop-k.invariant.1 (ne_eqb _ _ w.if-settings-k-ne0.true)
-    | else-settings-k-ne0 w ↦ w.none-is ∙ all_more_pass _ _ _ c.loop-k.invariant.1 (eq-eqb _ _ w.if-settings-k-ne0.false)
-  ],
-)
+pub returns : goal.returns
+returns c =
+    fold_from_yields_List _ (λ a x. a && eqb x 0) true c.fold.result c.fold.ensures.ran (YieldsList-from_slice _ c.iter.ensures.rest) (λ a x b q k. search (rules, tests))
+    ∙ all_cells_zero c.args.settings.now c.requires

@@ -1,6 +1,6 @@
 -- `moved_bit` meets its contract: a bit at a place below ten is below 2 ^ 10. Assumes nothing.
-use mathlib.Core.Path.{refl}
-use Prim.Native.Nat.{◌+◌, ◌/◌, ◌^◌, ◌<◌}
+use mathlib.Core.Path.{ap}
+use Prim.Native.Nat.{ℕ, ◌*◌, ◌%◌, ◌+◌, ◌/◌, ◌^◌, ◌<◌}
 use native.Mathlib.Omega.{arith}
 use lib.Bits.{bit_and}
 use lib.Pow.{pow_mono, shl_lt, shl_exact}
@@ -13,4 +13,5 @@ returns c =
     let below = shl_lt 1 c.args.k two in
     let exact = shl_exact 1 c.args.k 64 two (omega arith) in
     let past = pow_mono {i = 1 + c.args.k} {j = 10} (omega arith) in
-    record { is = refl; small = omega (arith, below, exact, past) }
+    let moved = ap (λ (b : ℕ). (b * 2 ^ c.args.k) % 2 ^ 64) c.from.ensures in
+    record { is = moved; small = omega (arith, moved, below, exact, past) }

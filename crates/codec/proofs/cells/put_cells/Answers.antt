@@ -1,5 +1,4 @@
--- `put_cells` meets its contract. Invariant: the first i cells are put in. Measure: the cells left. Assumes nothing.
-use native.Mathlib.Omega.{arith}
+-- `put_cells` meets its contract. Invariant: the first i cells are put in. Assumes nothing.
 use borrow.Author.Rules.{rules}
 use lib.ListN.{length-set}
 use Rattle.codec.specs.Cells.{put_cells}
@@ -14,7 +13,6 @@ pub loop-i-preserved : goal.loop-i-preserved
 loop-i-preserved c = (
   c.loop-i.invariant.0,
   simp length-set c.loop-i.invariant.1,
-  omega arith,
   put_cells_turn c.args.cells c.loop-i.i _
-      c.flags.ensures c.args.settings.now c.loop-i.settings c.loop-i.invariant.3,
+      c.flags.ensures c.args.settings.now c.loop-i.settings c.loop-i.invariant.2,
 )

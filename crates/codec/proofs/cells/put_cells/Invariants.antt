@@ -1,13 +1,9 @@
--- `put_cells` meets its contract. Invariant: the first i cells are put in. Measure: the cells left. Assumes nothing.
+-- `put_cells` meets its contract. Invariant: the first i cells are put in. Assumes nothing.
 use mathlib.Core.Path.{◌≡◌}
-use Prim.Native.Nat.{◌-◌, ◌≤◌}
 use lib.ListN.{length}
 use Rattle.codec.specs.Cells.{put_cells}
 use Rattle.ports.specs.Lengths.{settings_length}
 use Rattle.codec.proofs.cells.put_cells.Given as goal
 
 abbrev pub invariant-loop-i : goal.invariant-loop-i
-invariant-loop-i l = (length l.cells ≡ 8) × (length l.settings ≡ settings_length) × (l.i ≤ 8) × (l.settings ≡ put_cells l.initial.settings l.cells l.i)
-
-abbrev pub decreases-loop-i : goal.decreases-loop-i
-decreases-loop-i l = 8 - l.i
+invariant-loop-i l = (length l.cell-items ≡ 8) × (length l.settings ≡ settings_length) × (l.settings ≡ put_cells l.initial.settings l.cell-items l.i)

@@ -1,5 +1,5 @@
--- `read_value` meets its contract. Invariant: the value so far has the first j of the tens' digits, in the order of the cell. Measure: the bits
--- left. Assumes nothing.
+-- `read_value` meets its contract. Invariant: the value so far has the first j of the tens' digits, in the order of the cell.
+-- Assumes nothing.
 use mathlib.Core.Path.{◌≡◌, ap, ◌∙◌}
 use Prim.Native.Nat.{ℕ, ◌+◌, ◌*◌}
 use native.Mathlib.Omega.{arith}
@@ -31,21 +31,19 @@ pub overflow_add-value : goal.overflow_add-value
 overflow_add-value c =
     let both : ℕ = c.read_ten-first.result + 1024 * c.read_ten-second.result in
     record {
-      fits = digits_fit 32 (tens_digit both) (λ k. omega arith) _ c.loop-j.j _ c.loop-j.invariant.1
+      fits = digits_fit 32 (tens_digit both) (λ k. omega arith) _ c.loop-j.j _ c.loop-j.invariant
           (tens_digit_is both c.loop-j.j c.lc_bit-k.ensures) (omega arith);
     }
 
 pub loop-j-preserved : goal.loop-j-preserved
 loop-j-preserved c =
-    let both : ℕ = c.read_ten-first.result + 1024 * c.read_ten-second.result in (
-      omega arith,
-      digits_turn 32 (tens_digit both) (λ k. omega arith) _ c.loop-j.j _ c.loop-j.invariant.1
-          (tens_digit_is both c.loop-j.j c.lc_bit-k.ensures) (omega arith),
-    )
+    let both : ℕ = c.read_ten-first.result + 1024 * c.read_ten-second.result in
+    digits_turn 32 (tens_digit both) (λ k. omega arith) _ c.loop-j.j _ c.loop-j.invariant
+    (tens_digit_is both c.loop-j.j c.lc_bit-k.ensures) (omega arith)
 
 pub returns : goal.returns
 returns c =
     let both : ℕ = c.read_ten-first.result + 1024 * c.read_ten-second.result in
-    c.loop-j.invariant.1 ∙ ap (from_digits (tens_digit both)) (let e : c.loop-j.j ≡ bits_per_cell = omega arith in e)
+    c.loop-j.invariant ∙ ap (from_digits (tens_digit both)) (let e : c.loop-j.j ≡ bits_per_cell = omega arith in e)
     ∙ value_of_tens c.args.bits.now c.args.i both
     (let e : both ≡ tens_of c.args.bits.now c.args.i = omega arith in e)

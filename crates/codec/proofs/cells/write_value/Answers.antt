@@ -17,23 +17,20 @@ returns-then-value-eq0 c =
 
 pub overflow_add-bits : goal.overflow_add-bits
 overflow_add-bits c =
-    let known = c.slice_known-3-1.given in
     let R = rows_all c.args.bits.now c.args.i c.args.value c.requires.0 c.requires.1 c.requires.2
-    (omega (arith, known (2 * c.args.i))) (omega (arith, known (2 * c.args.i + 1))) in
+    (omega arith) (omega arith) in
     record { fits = subst (λ (x : ℕ). get_or c.args.bits.now (2 * c.args.i) 0 + (x * 2 ^ 36) % 2 ^ 64 < 2 ^ 64) (sym c.low_ten.ensures) R.first_fits }
 
 pub overflow_add-bits-2 : goal.overflow_add-bits-2
 overflow_add-bits-2 c =
-    let known = c.slice_known-3-1.given in
     let R = rows_all c.args.bits.now c.args.i c.args.value c.requires.0 c.requires.1 c.requires.2
-    (omega (arith, known (2 * c.args.i))) (omega (arith, known (2 * c.args.i + 1))) in
+    (omega arith) (omega arith) in
     record { fits = subst (λ (x : ℕ). get_or c.args.bits.now (2 * c.args.i + 1) 0 + (x * 2 ^ 36) % 2 ^ 64 < 2 ^ 64) (sym c.high_ten.ensures) R.second_fits }
 
 pub returns : goal.returns
 returns c =
-    let known = c.slice_known-3-1.given in
     let R = rows_all c.args.bits.now c.args.i c.args.value c.requires.0 c.requires.1 c.requires.2
-    (omega (arith, known (2 * c.args.i))) (omega (arith, known (2 * c.args.i + 1))) in
+    (omega arith) (omega arith) in
     ap₂ (λ (x y : ℕ). set (set c.args.bits.now (2 * c.args.i) (get_or c.args.bits.now (2 * c.args.i) 0 + (x * 2 ^ 36) % 2 ^ 64))
     (2 * c.args.i + 1) (get_or c.args.bits.now (2 * c.args.i + 1) 0 + (y * 2 ^ 36) % 2 ^ 64))
     c.low_ten.ensures c.high_ten.ensures

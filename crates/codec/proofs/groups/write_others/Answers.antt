@@ -1,5 +1,4 @@
--- `write_others` meets its contract. Invariant: the digits before the k-th are written, and the positions from it on are clear. Measure: the
--- positions left. Assumes nothing.
+-- `write_others` meets its contract. Invariant: the digits before the k-th are written, and the positions from it on are clear. Assumes nothing.
 use mathlib.Core.Path.{sym, ap, ◌∙◌, subst}
 use Prim.Native.Nat.{ℕ, ◌<◌}
 use native.Mathlib.Omega.{arith}
@@ -19,11 +18,11 @@ write_digit-next-requires c =
       subst (λ (x : ℕ). x < 864) (sym c.position-p.ensures)
           (group_position_lt c.args.table.now c.requires.0.0 c.args.g c.loop-k.k c.requires.0.1
           (omega (arith, c.width-n.ensures))),
+      c.loop-k.invariant.0,
       c.loop-k.invariant.1,
-      c.loop-k.invariant.2,
       omega (arith, c.width-n.ensures, few),
       ap (bit_at (with_held c.loop-k.bits c.loop-k.next)) c.position-p.ensures
-          ∙ c.loop-k.invariant.3 c.loop-k.k (omega arith) (omega (arith, c.width-n.ensures)),
+          ∙ c.loop-k.invariant.2 c.loop-k.k (omega arith) (omega (arith, c.width-n.ensures)),
     )
 
 pub loop-k-preserved : goal.loop-k-preserved
@@ -35,11 +34,10 @@ loop-k-preserved c =
     let v = c.args.pattern in
     let small : digit v k < 2 = omega arith in
     let inside : k < width_of logic_tile table g = omega (arith, c.width-n.ensures) in (
-      omega arith,
-      c.write_digit-next.auto.bits ∙ c.loop-k.invariant.1,
+      c.write_digit-next.auto.bits ∙ c.loop-k.invariant.0,
       c.write_digit-next.ensures.row,
-      clear_more (position_at logic_tile table g) k (width_of logic_tile table g) _ (digit v k) now _ c.loop-k.invariant.3 small c.position-p.ensures
+      clear_more (position_at logic_tile table g) k (width_of logic_tile table g) _ (digit v k) now _ c.loop-k.invariant.2 small c.position-p.ensures
           c.write_digit-next.ensures.bits
           (λ j a b e. omega (arith, group_position_once table c.requires.0.0 g j k c.requires.0.1 b inside e)),
-      digits_more (position_at logic_tile table g) v 1 k _ _ now _ c.loop-k.invariant.4 c.position-p.ensures c.write_digit-next.ensures.bits,
+      digits_more (position_at logic_tile table g) v 1 k _ _ now _ c.loop-k.invariant.3 c.position-p.ensures c.write_digit-next.ensures.bits,
     )

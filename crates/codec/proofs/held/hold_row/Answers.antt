@@ -5,4 +5,4 @@ use Rattle.codec.proofs.held.hold_row.Goals as goal
 
 pub returns : goal.returns
 unfolding with_held
-returns c = record { row = c.row_of-i.ensures; bits = held_there _ _ }
+returns c = record { row = c.row_of-row.ensures; bits = held_there _ _ }

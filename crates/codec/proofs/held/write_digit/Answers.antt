@@ -8,10 +8,10 @@ pub overflow_add-next : goal.overflow_add-next
 overflow_add-next c =
     let held = c.hold_row-next.ensures in
     record {
-      fits = held_added_lt c.hold_row-next.new.bits _ c.hold_row-next.result held.bits c.args.p c.args.pattern
+      fits = rw c.from.ensures (held_added_lt c.hold_row-next.new.bits _ c.hold_row-next.result held.bits c.args.p c.args.pattern
           c.args.k _ held.row c.column_of.ensures
           (omega (arith, held.row, c.requires.0, c.requires.1, c.hold_row-next.auto.bits)) c.requires.4
-          (search rules);
+          (search rules));
     }
 
 pub returns : goal.returns
@@ -19,7 +19,7 @@ returns c =
     let held = c.hold_row-next.ensures in
     record {
       row = omega (arith, held.row, c.requires.0);
-      bits = held_added c.hold_row-next.new.bits _ c.hold_row-next.result held.bits c.args.p c.args.pattern
+      bits = rw c.from.ensures (held_added c.hold_row-next.new.bits _ c.hold_row-next.result held.bits c.args.p c.args.pattern
           c.args.k _ held.row c.column_of.ensures
-          (omega (arith, held.row, c.requires.0, c.requires.1, c.hold_row-next.auto.bits)) c.requires.4;
+          (omega (arith, held.row, c.requires.0, c.requires.1, c.hold_row-next.auto.bits)) c.requires.4);
     }

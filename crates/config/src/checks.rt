@@ -46,8 +46,8 @@ pub fn read_checks(
     if let Some(part) = routing::rules::check_table(table, &mut own) {
         return Err(Refusal::Table(part as u32));
     }
-    let place = crate::blocks::read_block(table, &own, bits, &mut room[..settings], n);
-    if place < POSITIONS * n {
+    let room = &mut room[..settings];
+    if let Some(place) = crate::blocks::read_block(table, &own, bits, room, n) {
         return Err(Refusal::Undecodable(place as u32));
     }
     Ok(())
@@ -74,9 +74,8 @@ pub fn check_settings(table: &[u16], settings: &[u16], n: usize) -> Result<(), R
     if let Some(part) = routing::rules::faulty_part(table) {
         return Err(Refusal::Table(part as u32));
     }
-    let t = crate::blocks::bitless_tile(table, settings, n);
-    if t < n {
-        return Err(Refusal::NoSuchSettings(t as u32));
+    if let Some(tile) = crate::blocks::bitless_tile(table, settings, n) {
+        return Err(Refusal::NoSuchSettings(tile as u32));
     }
     Ok(())
 }

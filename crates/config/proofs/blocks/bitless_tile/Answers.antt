@@ -1,5 +1,4 @@
--- `config::blocks::bitless_tile` meets its contract. Invariant: the search from t on finds what the search from 0 finds. Measure: the tiles
--- that are left. Assumes nothing.
+-- `config::blocks::bitless_tile` meets its contract. Invariant: the search from t on finds what the search from 0 finds. Assumes nothing.
 use mathlib.Core.Path.{sym, ap, ◌∙◌}
 use mathlib.Core.Bool.{not}
 use Prim.Native.Nat.{ℕ, ◌*◌}
@@ -10,7 +9,9 @@ use Rattle.lists.proofs.PartLaws.{part_size}
 use Rattle.ports.specs.Lengths.{settings_length}
 use Rattle.codec.specs.Limits.{settings_fit}
 use Rattle.codec.proofs.LimitLaws.{within_fits}
-use Rattle.config.specs.Blocks.{bitless_at}
+use Rattle.config.specs.Blocks.{bitless_at, bitless_tile}
+use Rattle.lists.proofs.BelowLaws.{below_is, below_past}
+use Rattle.std.specs.Prelude.{Some}
 use Rattle.config.proofs.blocks.bitless_tile.Goals as goal
 
 -- tile t is the lowest
@@ -20,7 +21,8 @@ returns-then-not-settings_fit c =
     let fit = (c.settings_fit.ensures ∙ within_fits c.args.table.now _ _ c.limits-limits.ensures ∙ ap
     (λ (x : ℕ). settings_fit c.args.table.now (take x (drop (settings_length * c.loop-t.t) c.args.settings.now)))
     (part_size settings_length c.loop-t.t)) in
-    first_turn_hit _ _ _ _ c.loop-t.invariant.1 (omega arith) (ap not (sym fit ∙ c.if-not-settings_fit.true))
+    let found = first_turn_hit _ _ _ _ c.loop-t.invariant.1 (omega arith) (ap not (sym fit ∙ c.if-not-settings_fit.true)) in
+    ap Some found ∙ sym (below_is c.args.n (bitless_tile c.args.table.now c.args.settings.now c.args.n) (omega (arith, found)))
 
 pub loop-t-preserved : goal.loop-t-preserved
 unfolding bitless_at
@@ -33,4 +35,5 @@ loop-t-preserved c =
 -- there is none
 pub returns : goal.returns
 returns c =
-    first_turn_end _ _ _ _ c.loop-t.invariant.1 (omega arith)
+    let none = first_turn_end _ _ _ _ c.loop-t.invariant.1 (omega arith) in
+    sym (below_past c.args.n (bitless_tile c.args.table.now c.args.settings.now c.args.n) (omega (arith, none)))

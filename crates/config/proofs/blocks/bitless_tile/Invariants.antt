@@ -1,5 +1,4 @@
--- `config::blocks::bitless_tile` meets its contract. Invariant: the search from t on finds what the search from 0 finds. Measure: the tiles
--- that are left. Assumes nothing.
+-- `config::blocks::bitless_tile` meets its contract. Invariant: the search from t on finds what the search from 0 finds. Assumes nothing.
 use mathlib.Core.Path.{◌≡◌}
 use Prim.Native.Nat.{◌-◌, ◌≤◌}
 use Rattle.lists.specs.Search.{first}
@@ -8,6 +7,3 @@ use Rattle.config.proofs.blocks.bitless_tile.Given as goal
 
 abbrev pub invariant-loop-t : goal.invariant-loop-t
 invariant-loop-t l = (l.t ≤ l.n) × (first (bitless_at l.table l.settings) l.t (l.n - l.t) ≡ first (bitless_at l.table l.settings) 0 l.n)
-
-abbrev pub decreases-loop-t : goal.decreases-loop-t
-decreases-loop-t l = l.n - l.t

@@ -1,5 +1,5 @@
 -- `config::blocks::decode_block` meets its contract. Invariant: the first t parts of the settings are those that were decoded, and the length
--- is the old one. Measure: the tiles that are left. Assumes nothing.
+-- is the old one. Assumes nothing.
 use mathlib.Core.Path.{ap, ◌∙◌}
 use Prim.Native.Nat.{◌+◌, ◌*◌}
 use native.Mathlib.Omega.{arith}

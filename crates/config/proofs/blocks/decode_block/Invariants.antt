@@ -1,5 +1,5 @@
 -- `config::blocks::decode_block` meets its contract. Invariant: the first t parts of the settings are those that were decoded, and the length
--- is the old one. Measure: the tiles that are left. Assumes nothing.
+-- is the old one. Assumes nothing.
 use mathlib.Core.Path.{◌≡◌}
 use Prim.Native.Nat.{◌-◌, ◌*◌, ◌≤◌}
 use lib.ListN.{length, take}
@@ -10,6 +10,3 @@ use Rattle.config.proofs.blocks.decode_block.Given as goal
 
 abbrev pub invariant-loop-t : goal.invariant-loop-t
 invariant-loop-t l = (l.t ≤ l.n) × (length l.settings ≡ settings_length * l.n) × (take (settings_length * l.t) l.settings ≡ joined (decoded_at l.table (tiles_of l.bits)) l.t)
-
-abbrev pub decreases-loop-t : goal.decreases-loop-t
-decreases-loop-t l = l.n - l.t

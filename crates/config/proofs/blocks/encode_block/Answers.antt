@@ -1,5 +1,5 @@
 -- `config::blocks::encode_block` meets its contract. Invariant: the first t parts of the bits are those that were encoded, and the length is
--- the old one. Measure: the tiles that are left. Assumes nothing.
+-- the old one. Assumes nothing.
 use mathlib.Core.Path.{ap, ◌∙◌}
 use Prim.Native.Nat.{◌+◌, ◌*◌}
 use native.Mathlib.Omega.{arith}

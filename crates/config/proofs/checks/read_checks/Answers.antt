@@ -1,6 +1,8 @@
 -- `config::checks::read_checks` meets its contract: each return is one way through `read_answer`, and the last has read all tiles into the front of the
 -- room. Assumes nothing.
-use mathlib.Core.Path.{sym, ap, ◌∙◌}
+use mathlib.Core.Path.{refl, sym, ap, ◌∙◌}
+use borrow.Author.Rules.{rules}
+use Rattle.lists.proofs.BelowLaws.{below_some, below_none}
 use Prim.Native.Nat.{ℕ, ◌+◌, ◌*◌}
 use native.Mathlib.Omega.{arith}
 use borrow.Author.Tests.{eq-eqb}
@@ -13,7 +15,7 @@ use Rattle.routing.proofs.TableCheckLaws.{table_exact}
 use Rattle.routing.proofs.PartSearch.{broken_some, broken_none}
 use Rattle.routing.specs.LogicTile.{logic_tile}
 use Rattle.routing.specs.TableCheck.{breaks, faulty_part, part_count}
-use Rattle.config.specs.Blocks.{faulty_place, tiles_of}
+use Rattle.config.specs.Blocks.{fault_place, tiles_of}
 use Rattle.config.specs.Facts.{Checked}
 use Rattle.config.proofs.EntryLaws.{lengths_exact, read_size, read_length, read_table, read_undecodable, read_done}
 use Rattle.config.proofs.BlocksLaws.{front_length}
@@ -50,8 +52,8 @@ returns-in-Some c =
     let part = broken_some logic_tile table c.in-Some.part c.in-Some.ensures.part in
     record { answer = read_table args.s table args.bits.now args.settings size lengths _ part.0 (λ e. absurd (omega (arith, part.1))); room = λ e. refused_not_done e }
 
-pub slice_bounds-read_block-end-2 : goal.slice_bounds-read_block-end-2
-slice_bounds-read_block-end-2 c =
+pub slice_bounds-room-end : goal.slice_bounds-room-end
+slice_bounds-room-end c =
     let args = c.args in
     let table = args.table.now in
     let size = (allowed_exact args.s).0 (sym c.is_allowed.ensures ∙ c.if-not-is_allowed.false) in
@@ -59,8 +61,8 @@ slice_bounds-read_block-end-2 c =
     let few = tile_count_le args.s size in
     omega (arith, lengths.settings_long, c.requires)
 
-pub slice_bounds-read_block-end-3 : goal.slice_bounds-read_block-end-3
-slice_bounds-read_block-end-3 c =
+pub slice_bounds-room-end-2 : goal.slice_bounds-room-end-2
+slice_bounds-room-end-2 c =
     let args = c.args in
     let table = args.table.now in
     let size = (allowed_exact args.s).0 (sym c.is_allowed.ensures ∙ c.if-not-is_allowed.false) in
@@ -68,8 +70,8 @@ slice_bounds-read_block-end-3 c =
     let few = tile_count_le args.s size in
     sym (front_length (tile_count args.s) args.settings args.room.now few lengths.settings_long c.requires)
 
-pub read_block-place-requires : goal.read_block-place-requires
-read_block-place-requires c =
+pub read_block-requires : goal.read_block-requires
+read_block-requires c =
     let args = c.args in
     let table = args.table.now in
     let size = (allowed_exact args.s).0 (sym c.is_allowed.ensures ∙ c.if-not-is_allowed.false) in
@@ -80,8 +82,8 @@ read_block-place-requires c =
     (few, rules, c.check_table.ensures.map passes, lengths.bits_long, front_length (tile_count args.s) args.settings args.room.now few lengths.settings_long c.requires ∙ lengths.settings_long)
 
 -- a tile that cannot be decoded
-pub returns-then-place-n : goal.returns-then-place-n
-returns-then-place-n c =
+pub returns-in-Some-read_block : goal.returns-in-Some-read_block
+returns-in-Some-read_block c =
     let args = c.args in
     let table = args.table.now in
     let size = (allowed_exact args.s).0 (sym c.is_allowed.ensures ∙ c.if-not-is_allowed.false) in
@@ -89,7 +91,8 @@ returns-then-place-n c =
     let passes = broken_none logic_tile table c.in_default.ensures.part in
     let rules = (table_exact logic_tile table lengths.table_long).0 passes in
     let checked : Checked args.s table (length args.bits.now) args.settings = record { size = size; lengths = lengths; rules = rules } in
-    record { answer = read_undecodable args.s table args.bits.now args.settings checked _ c.read_block-place.ensures.place c.if-place-n.true; room = λ e. refused_not_done e }
+    let found = below_some (864 * tile_count args.s) (fault_place table (tiles_of args.bits.now) (tile_count args.s)) c.in-Some-read_block.place (sym c.in-Some-read_block.ensures.place) in
+    record { answer = read_undecodable args.s table args.bits.now args.settings checked _ found.0 (omega (arith, found.0, found.1)); room = λ e. refused_not_done e }
 
 -- none of these
 pub returns : goal.returns
@@ -101,7 +104,8 @@ returns c =
     let passes = broken_none logic_tile table c.in_default.ensures.part in
     let rules = (table_exact logic_tile table lengths.table_long).0 passes in
     let checked : Checked args.s table (length args.bits.now) args.settings = record { size = size; lengths = lengths; rules = rules } in
-    let part = c.read_block-place.new.settings in
+    let part = c.read_block.new.settings in
     let few = tile_count_le args.s size in
-    let long = c.read_block-place.auto.settings ∙ front_length (tile_count args.s) args.settings args.room.now few lengths.settings_long c.requires in
-    record { answer = read_done args.s table args.bits.now args.settings checked _ c.read_block-place.ensures.place c.if-place-n.false; room = λ e. take_at part (drop args.settings args.room.now) args.settings long ∙ c.read_block-place.ensures.settings (omega (arith, c.if-place-n.false, c.read_block-place.ensures.place, first_le (faulty_place table (tiles_of args.bits.now)) 0 (864 * tile_count args.s))) }
+    let long = c.read_block.auto.settings ∙ front_length (tile_count args.s) args.settings args.room.now few lengths.settings_long c.requires in
+    let pass = below_none (864 * tile_count args.s) (fault_place table (tiles_of args.bits.now) (tile_count args.s)) (sym c.in_default-read_block.ensures.place) in
+    record { answer = read_done args.s table args.bits.now args.settings checked _ refl pass; room = λ e. take_at part (drop args.settings args.room.now) args.settings long ∙ c.read_block.ensures.settings (search rules) }

@@ -1,5 +1,6 @@
 -- The answers of following a driver, ground by ground, each where the grounds before it have passed; and the work room after any answer.
--- Main laws: `port_driven`, `settings_port`, `follow_settings`; `follow_room`. Assumes nothing.
+-- Main laws: `port_driven`, `settings_are`, `follow_settings`; `follow_room`. Assumes nothing.
+use Rattle.config.specs.Entry as config
 use Rattle.drivers.specs.declared.follow.Driver.{Driver}
 use Rattle.refusal.specs.Grounds.{answer_number}
 use Rattle.refusal.specs.declared.Refusal.{Refusal}
@@ -63,6 +64,11 @@ module _ (B : Block) (t st : List ℕ) (tile port : ℕ) where
     pub settings_port : tiles B ≤ bitless_tile t st (tiles B) → port_answer B t st tile port ≡ settings_answer B t st tile port
     unfolding settings_answer
     settings_port l = rw (pass, le-leb (tiles B) (bitless_tile t st (tiles B)) l)
+
+  -- they are those of `config`, in front of grounds 5 and 20
+  pub settings_are : config.settings_answer t st (tiles B) (port_answer B t st tile port) ≡ settings_answer B t st tile port
+  unfolding settings_answer config.settings_answer
+  settings_are = refl
 
 -- ---- grounds 1 and 2
 

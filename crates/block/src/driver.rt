@@ -56,15 +56,6 @@ pub fn follow_settings(
     requires wires_len { (length wires.old ≡ ports b) × (length sources.old ≡ ports b) × (length marks.old ≡ ports b) }
     ensures { result ≡ settings_answer b table.now st.now tile port }
 {
-    let n = (b.h * b.w) as usize;
-    let part = routing::rules::faulty_part(table);
-    let parts = 2 + routing::table::group_count(table);
-    if part != parts {
-        return Err(Refusal::Table(part as u32));
-    }
-    let bitless = config::blocks::bitless_tile(table, st, n);
-    if bitless < n {
-        return Err(Refusal::NoSuchSettings(bitless as u32));
-    }
+    config::checks::check_settings(table, st, (b.h * b.w) as usize)?;
     follow_port(b, table, st, tile, port, wires, sources, marks)
 }

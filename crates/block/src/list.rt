@@ -120,13 +120,10 @@ pub fn list_bits(
 {
     let n = (b.h * b.w) as usize;
     let mut own = [0u16; POSITIONS];
-    let part = routing::rules::check_table(table, &mut own);
-    let parts = 2 + routing::table::group_count(table);
-    if part != parts {
+    if let Some(part) = routing::rules::check_table(table, &mut own) {
         return Err(Refusal::Table(part as u32));
     }
-    let place = config::blocks::read_block(table, &own, bits, settings, n);
-    if place < POSITIONS * n {
+    if let Some(place) = config::blocks::read_block(table, &own, bits, settings, n) {
         return Err(Refusal::Undecodable(place as u32));
     }
     list_settings(b, table, settings, list, wires, sources, rows, marks, queue)

@@ -13,9 +13,11 @@ ghost use Rattle.compare.specs.Entry.{rows_answer, rows_list, bits_answer, compa
 
 use crate::settings::ROW_LENGTH;
 use crate::tiles::{count_tile, list_tile};
+use config::blocks::read_block;
 use ports::lengths::{POSITIONS, SETTINGS_LENGTH};
 use ports::size::Size;
 use refusal::Refusal;
+use routing::rules::check_table;
 
 // How many differences n tiles have.
 fn count_block(before: &[u16], after: &[u16], n: usize) -> usize
@@ -83,18 +85,14 @@ pub fn compare_bits(
 {
     let n = (s.h * s.w) as usize;
     let mut own = [0u16; POSITIONS];
-    let part = routing::rules::check_table(table, &mut own);
-    let parts = 2 + routing::table::group_count(table);
-    if part != parts {
+    if let Some(part) = check_table(table, &mut own) {
         return Err(Refusal::Table(part as u32));
     }
-    let one = config::blocks::read_block(table, &own, first, before, n);
-    if one < POSITIONS * n {
-        return Err(Refusal::Undecodable(one as u32));
+    if let Some(place) = read_block(table, &own, first, before, n) {
+        return Err(Refusal::Undecodable(place as u32));
     }
-    let other = config::blocks::read_block(table, &own, second, after, n);
-    if other < POSITIONS * n {
-        return Err(Refusal::Undecodable(other as u32));
+    if let Some(place) = read_block(table, &own, second, after, n) {
+        return Err(Refusal::Undecodable(place as u32));
     }
     list_settings(before, after, n, list)
 }

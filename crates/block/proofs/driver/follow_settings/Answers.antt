@@ -1,72 +1,40 @@
 -- `driver::follow_settings` meets its contract: the table keeps the rules, and some bits have the settings, so they are routed. Assumes nothing.
-use Rattle.block.proofs.DriverLaws.{settings_table, settings_bitless, settings_port}
+use Rattle.std.proofs.lemmas.Result.{err_from_is_err_and}
+use Rattle.block.proofs.DriverLaws.{settings_are}
 use Rattle.block.proofs.RoutedLaws.{routed_of_fit}
+use Rattle.block.specs.Drivers.{port_answer}
+use Rattle.config.proofs.SettingsLaws.{settings_no, settings_yes, settings_shows}
 use Rattle.routing.proofs.TableCheckLaws.{table_exact}
-use Rattle.routing.specs.TableCheck.{breaks, faulty_part, part_count}
 use Rattle.routing.specs.LogicTile.{logic_tile}
 use Rattle.ports.proofs.BlockLaws.{tiles_le}
-use Rattle.lists.proofs.SearchLaws.{first_le}
-use borrow.Author.Tests.{eq-eqb}
+use Rattle.ports.specs.Block.{tiles}
+use Rattle.std.specs.Prelude.{Ok}
 use native.Mathlib.Omega.{arith}
-use mathlib.Core.Path.{sym, ap, ◌∙◌}
-use Prim.Native.Nat.{ℕ, ◌+◌}
+use mathlib.Core.Path.{sym, ◌∙◌}
 use Rattle.block.proofs.driver.follow_settings.Goals as goal
 
-pub overflow_cast-result : goal.overflow_cast-result
-overflow_cast-result c =
-    let table = c.args.table.now in
-    omega (arith, c.shared_slice_known-1.given 68, c.faulty_part-part.ensures, first_le (breaks logic_tile table) 0 (part_count logic_tile table))
-
--- the table breaks a rule
-pub returns-then-part-parts : goal.returns-then-part-parts
-returns-then-part-parts c =
-    let B = c.args.b in
-    let table = c.args.table.now in
-    let st = c.args.st.now in
-    let tile = c.args.tile in
-    settings_table B table st tile c.args.port _ c.faulty_part-part.ensures (λ e. c.if-part-parts.true (e ∙ sym (ap (λ (x : ℕ). 2 + x) c.group_count-parts.ensures)))
-
-pub bitless_tile-bitless-requires : goal.bitless_tile-bitless-requires
-bitless_tile-bitless-requires c =
-    let table = c.args.table.now in
-    let B = c.args.b in
-    let passes = eq-eqb (faulty_part logic_tile table) (part_count logic_tile table) (sym c.faulty_part-part.ensures ∙ c.if-part-parts.false ∙ ap (λ (x : ℕ). 2 + x) c.group_count-parts.ensures) in
-    let rules = (table_exact logic_tile table c.requires.sized.1).0 passes in
-    let few = tiles_le B c.requires.sized.0 in
-    (few, rules, c.requires.sized.2)
-
--- no bits have a tile's settings
-pub returns-then-bitless-n : goal.returns-then-bitless-n
-returns-then-bitless-n c =
-    let table = c.args.table.now in
-    let B = c.args.b in
-    let st = c.args.st.now in
-    let tile = c.args.tile in
-    let port = c.args.port in
-    let passes = eq-eqb (faulty_part logic_tile table) (part_count logic_tile table) (sym c.faulty_part-part.ensures ∙ c.if-part-parts.false ∙ ap (λ (x : ℕ). 2 + x) c.group_count-parts.ensures) in
-    let rules = (table_exact logic_tile table c.requires.sized.1).0 passes in
-    let few = tiles_le B c.requires.sized.0 in
-    settings_bitless B table st tile port passes _ c.bitless_tile-bitless.ensures c.if-bitless-n.true
+-- grounds 3 and 9
+pub returns-in_err-check_settings : goal.returns-in_err-check_settings
+returns-in_err-check_settings c =
+    let a = c.args in
+    let later = port_answer a.b a.table.now a.st.now a.tile a.port in
+    let p = err_from_is_err_and c.from_residual.result c.from_residual.ensures.1 in
+    rw (p.1, p.2) (settings_no a.table.now a.st.now (tiles a.b) later _ (sym c.check_settings.ensures ∙ c.in_err-check_settings.was)
+    ∙ settings_are a.b a.table.now a.st.now a.tile a.port)
 
 pub follow_port-requires : goal.follow_port-requires
 follow_port-requires c =
-    let table = c.args.table.now in
-    let B = c.args.b in
-    let st = c.args.st.now in
-    let passes = eq-eqb (faulty_part logic_tile table) (part_count logic_tile table) (sym c.faulty_part-part.ensures ∙ c.if-part-parts.false ∙ ap (λ (x : ℕ). 2 + x) c.group_count-parts.ensures) in
-    let rules = (table_exact logic_tile table c.requires.sized.1).0 passes in
-    let few = tiles_le B c.requires.sized.0 in
-    (routed_of_fit B table st c.requires.sized.0 rules c.requires.sized.2 (omega (arith, c.bitless_tile-bitless.ensures, c.if-bitless-n.false)), c.requires.wires_len.0, c.requires.wires_len.1, c.requires.wires_len.2)
+    let a = c.args in
+    let t = a.table.now in
+    let few = tiles_le a.b c.requires.sized.0 in
+    let shown = settings_shows t a.st.now (tiles a.b) (Ok tt) tt (sym c.check_settings.ensures ∙ c.in_ok-check_settings.was) in
+    let rules = (table_exact logic_tile t c.requires.sized.1).0 shown.0 in
+    (routed_of_fit a.b t a.st.now c.requires.sized.0 rules c.requires.sized.2 shown.1, c.requires.wires_len.0, c.requires.wires_len.1, c.requires.wires_len.2)
 
 -- the answer for settings that some bits have
 pub returns : goal.returns
 returns c =
-    let table = c.args.table.now in
-    let B = c.args.b in
-    let st = c.args.st.now in
-    let tile = c.args.tile in
-    let port = c.args.port in
-    let passes = eq-eqb (faulty_part logic_tile table) (part_count logic_tile table) (sym c.faulty_part-part.ensures ∙ c.if-part-parts.false ∙ ap (λ (x : ℕ). 2 + x) c.group_count-parts.ensures) in
-    let rules = (table_exact logic_tile table c.requires.sized.1).0 passes in
-    let few = tiles_le B c.requires.sized.0 in
-    c.follow_port.ensures ∙ settings_port B table st tile port passes (omega (arith, c.bitless_tile-bitless.ensures, c.if-bitless-n.false))
+    let a = c.args in
+    c.follow_port.ensures
+    ∙ settings_yes a.table.now a.st.now (tiles a.b) (port_answer a.b a.table.now a.st.now a.tile a.port) (sym c.check_settings.ensures ∙ c.in_ok-check_settings.was)
+    ∙ settings_are a.b a.table.now a.st.now a.tile a.port

@@ -6,6 +6,9 @@ use Rattle.block.specs.Building.{list_answer}
 use Rattle.equations.specs.Settling.{block_list}
 use Rattle.equations.specs.Routed.{Routed}
 use Rattle.routing.proofs.TableCheckLaws.{table_exact}
+use Rattle.routing.proofs.PartSearch.{broken_some, broken_none}
+use Rattle.lists.proofs.BelowLaws.{below_some, below_none}
+use borrow.Author.Rules.{rules}
 use Rattle.routing.specs.TableCheck.{breaks, faulty_part, part_count}
 use Rattle.routing.specs.LogicTile.{logic_tile}
 use Rattle.config.specs.Blocks.{faulty_place, fault_place, tiles_of}
@@ -23,42 +26,45 @@ use Rattle.block.proofs.list.list_bits.Goals as goal
 pub overflow_cast-result : goal.overflow_cast-result
 overflow_cast-result c =
     let table = c.args.table.now in
-    omega (arith, c.shared_slice_known-1.given 68, c.check_table-part.ensures.part, first_le (breaks logic_tile table) 0 (part_count logic_tile table))
+    let part = broken_some logic_tile table c.in-Some.part c.in-Some.ensures.part in
+    omega (arith, c.type_inv.table 68, part.1)
 
 -- the table breaks a rule
-pub returns-then-part-parts : goal.returns-then-part-parts
-returns-then-part-parts c =
+pub returns-in-Some : goal.returns-in-Some
+returns-in-Some c =
     let B = c.args.b in
     let table = c.args.table.now in
-    record { answer = bits_table B table c.args.bits.now _ c.check_table-part.ensures.part (λ e. c.if-part-parts.true (e ∙ sym (ap (λ (x : ℕ). 2 + x) c.group_count-parts.ensures))); list = refl }
+    let part = broken_some logic_tile table c.in-Some.part c.in-Some.ensures.part in
+    record { answer = bits_table B table c.args.bits.now _ part.0 (λ e. absurd (omega (arith, part.1))); list = refl }
 
-pub read_block-place-requires : goal.read_block-place-requires
-read_block-place-requires c =
+pub read_block-requires : goal.read_block-requires
+read_block-requires c =
     let table = c.args.table.now in
     let B = c.args.b in
-    let passes = eq-eqb (faulty_part logic_tile table) (part_count logic_tile table) (sym c.check_table-part.ensures.part ∙ c.if-part-parts.false ∙ ap (λ (x : ℕ). 2 + x) c.group_count-parts.ensures) in
+    let passes = broken_none logic_tile table c.in_default.ensures.part in
     let rules = (table_exact logic_tile table c.requires.build_long.table_long).0 passes in
     let few = tiles_le B c.requires.sized in
-    (few, rules, c.check_table-part.ensures.map passes, c.requires.build_long.bits_long, c.requires.build_long.settings_long)
+    (few, rules, c.check_table.ensures.map passes, c.requires.build_long.bits_long, c.requires.build_long.settings_long)
 
 -- a tile cannot be decoded
-pub returns-then-place-n : goal.returns-then-place-n
-returns-then-place-n c =
+pub returns-in-Some-read_block : goal.returns-in-Some-read_block
+returns-in-Some-read_block c =
     let table = c.args.table.now in
     let B = c.args.b in
     let bits = c.args.bits.now in
-    let passes = eq-eqb (faulty_part logic_tile table) (part_count logic_tile table) (sym c.check_table-part.ensures.part ∙ c.if-part-parts.false ∙ ap (λ (x : ℕ). 2 + x) c.group_count-parts.ensures) in
-    record { answer = bits_undecodable B table bits passes _ c.read_block-place.ensures.place c.if-place-n.true; list = refl }
+    let passes = broken_none logic_tile table c.in_default.ensures.part in
+    let found = below_some (864 * tiles B) (fault_place table (tiles_of bits) (tiles B)) c.in-Some-read_block.place (sym c.in-Some-read_block.ensures.place) in
+    record { answer = bits_undecodable B table bits passes _ found.0 (omega (arith, found.0, found.1)); list = refl }
 
 pub list_settings-requires : goal.list_settings-requires
 list_settings-requires c =
     let table = c.args.table.now in
     let B = c.args.b in
     let bits = c.args.bits.now in
-    let passes = eq-eqb (faulty_part logic_tile table) (part_count logic_tile table) (sym c.check_table-part.ensures.part ∙ c.if-part-parts.false ∙ ap (λ (x : ℕ). 2 + x) c.group_count-parts.ensures) in
+    let passes = broken_none logic_tile table c.in_default.ensures.part in
     let rules = (table_exact logic_tile table c.requires.build_long.table_long).0 passes in
-    let pass : logic_tile.positions * tiles B ≤ fault_place table (tiles_of bits) (tiles B) = omega (arith, c.read_block-place.ensures.place, c.if-place-n.false) in
-    let read = c.read_block-place.ensures.settings (omega (arith, c.read_block-place.ensures.place, first_le (faulty_place table (tiles_of bits)) 0 (logic_tile.positions * tiles B))) in
+    let pass = below_none (864 * tiles B) (fault_place table (tiles_of bits) (tiles B)) (sym c.in_default-read_block.ensures.place) in
+    let read = c.read_block.ensures.settings (search rules) in
     record { routed = subst (λ (s : List ℕ). Routed B table s) (sym read) (routed_of_read B table bits c.requires.sized rules pass); room_long = c.requires.build_long.room_long }
 
 -- the answer for the settings that were read
@@ -68,7 +74,7 @@ returns c =
     let B = c.args.b in
     let bits = c.args.bits.now in
     let list = c.args.list.now in
-    let passes = eq-eqb (faulty_part logic_tile table) (part_count logic_tile table) (sym c.check_table-part.ensures.part ∙ c.if-part-parts.false ∙ ap (λ (x : ℕ). 2 + x) c.group_count-parts.ensures) in
-    let pass : logic_tile.positions * tiles B ≤ fault_place table (tiles_of bits) (tiles B) = omega (arith, c.read_block-place.ensures.place, c.if-place-n.false) in
-    let read = c.read_block-place.ensures.settings (omega (arith, c.read_block-place.ensures.place, first_le (faulty_place table (tiles_of bits)) 0 (logic_tile.positions * tiles B))) in
+    let passes = broken_none logic_tile table c.in_default.ensures.part in
+    let pass = below_none (864 * tiles B) (fault_place table (tiles_of bits) (tiles B)) (sym c.in_default-read_block.ensures.place) in
+    let read = c.read_block.ensures.settings (search rules) in
     record { answer = c.list_settings.ensures.answer ∙ ap (list_answer B table) read ∙ bits_list B table bits passes pass; list = c.list_settings.ensures.list ∙ ap (λ (s : List ℕ). output (answer_number c.list_settings.result) list (block_list B table s)) read }

@@ -235,14 +235,14 @@ fold_bits-zero xs e k = omega (arith, fold_bits-at 0 xs k)
 
 -- ---- tests summed as numbers, which vectorises where a filter that is counted does not
 
+pub from_bool-is : (b : Bool) → from_bool b ≡ cond {A = ℕ} b 1 0
+from_bool-is true = refl
+from_bool-is false = refl
+
 pub sum_tests-is : {X : Type 0} (p : X → Bool) (xs : List X) → sum_by (λ x. from_bool (p x)) xs ≡ count_by p xs
 sum_tests-is p [] = refl
 sum_tests-is p (x ∷ xs) =
-    sum_by-cons (λ x. from_bool (p x)) x xs ∙ ap₂ ◌+◌ (go (p x)) (sum_tests-is p xs) ∙ sym (sum_by-cons (λ x. cond (p x) 1 0) x xs)
-  where
-    go : (b : Bool) → from_bool b ≡ cond {A = ℕ} b 1 0
-    go true = refl
-    go false = refl
+    sum_by-cons (λ x. from_bool (p x)) x xs ∙ ap₂ ◌+◌ (from_bool-is (p x)) (sum_tests-is p xs) ∙ sym (sum_by-cons (λ x. cond (p x) 1 0) x xs)
 
 -- ---- numbers that are copied to a place, as the code lends it, stand there one after another
 

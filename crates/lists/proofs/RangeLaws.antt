@@ -2,16 +2,15 @@
 -- `any_below`. `find_range`, of a test p, takes four `_`, the call's clause `ran`, and that each call of the closure computes p and changes nothing that it
 -- holds, mostly `λ x b q k. search (rules, tests)`. Those from 0 on take two tests, four `_`, `refl`, the same two facts of p, the code's test, and that q,
 -- the contract's, agrees with it (`λ k l. refl` where they are one).
-use Prim.Native.Nat.{ℕ, ◌-◌, ◌<◌, ◌≤◌}
+use Prim.Native.Nat.{ℕ, ◌-◌, ◌<◌}
 use mathlib.Core.Path.{◌≡◌, refl, sym, ap, ◌∙◌}
 use mathlib.Core.Bool.{Bool, true, false, not}
-use mathlib.Core.Logic.{⊎_elim}
 use mathlib.Core.List.{List}
 use native.Mathlib.Omega.{arith}
 use native.Mathlib.Nat.{sub-zero}
 use denote.Param.Members.{Mut}
 use denote.Ref.{Bor}
-use Rattle.std.specs.Prelude.{Option, Some, None, MatchOption, ⊤}
+use Rattle.std.specs.Prelude.{Option, MatchOption, ⊤}
 use Rattle.std.specs.Fn.{Called, CalledAt}
 use Rattle.std.specs.Iterator.{YieldsThen}
 use Rattle.std.specs.List.{FoldsTo}
@@ -20,22 +19,9 @@ use Rattle.std.proofs.iter.Yields.{nat_range_steps}
 use Rattle.std.proofs.lemmas.Iterator.{first_from_Range, YieldsList-from_range}
 use Rattle.std.proofs.lemmas.Iterator.Search.{all_from_yields_List, any_from_yields_List}
 use Rattle.lists.specs.Search.{first, all_from, some_below, below}
-use Rattle.lists.proofs.CaseLaws.{lt_or_le}
-use Rattle.lists.proofs.StdLaws.{all_range-is, any_range-is}
-use Rattle.lists.proofs.SearchLaws.{first_past, first_hit, first_end, first_ext, all_ext}
+use Rattle.lists.proofs.StdLaws.{found_between, all_range-is, any_range-is}
+use Rattle.lists.proofs.SearchLaws.{first_ext, all_ext}
 use Rattle.lists.proofs.SomeLaws.{some_ext}
-use Rattle.lists.proofs.BelowLaws.{below_is, below_past}
-
--- the first number from a on that passes, below b
-found : (p : ℕ → Bool) (a b : ℕ) (r : Option ℕ)
-    → MatchOption r ((k : ℕ) → a ≤ k → k < b → p k ≡ false) (λ i. (a ≤ i) × (i < b) × (p i ≡ true) × ((k : ℕ) → a ≤ k → k < i → p k ≡ false))
-    → r ≡ below b (first p a (b - a))
-found p a b None h =
-    ⊎_elim
-    (λ (l : a < b). let e = first_past p b a b (omega arith) (omega arith) h in let f = first_end p b b (omega arith) in sym (below_past b _ (omega arith)))
-    (λ (l : b ≤ a). let e = first_end p a b l in sym (below_past b _ (omega arith))) (lt_or_le a b)
-found p a b (Some i) h =
-    sym (ap (below b) (first_past p b a i h.0 (let l = h.1 in omega arith) h.3 ∙ first_hit p i b h.1 h.2) ∙ below_is b i h.1)
 
 -- a call of the closure, over what it holds
 abbrev Find : {F : Type 0} → Mut F (Bor ℕ × Unit {0}) Bool → Range ℕ → Range ℕ → F → Option ℕ → Type 0
@@ -53,7 +39,7 @@ module _ {F : Type 0} {g : Mut F (Bor ℕ × Unit {0}) Bool} where
   pub find_range : (p : ℕ → Bool) (s u : Range ℕ) (f : F) (r : Option ℕ) → Find g s u f r
       → ((x : ℕ) (b : Bool) (q : F) → CalledAt g f x b q → (q ≡ f) × (b ≡ p x)) → r ≡ below s.end (first p s.start (s.end - s.start))
   find_range p s u f r ran calls =
-      found p s.start s.end r
+      found_between p s.start s.end r
       (first_from_Range s u f r (λ k. p k ≡ true) (λ k. p k ≡ false) ran (λ x q k. sym (calls x true q k).1)
       (λ x q k. let c = calls x false q k in (c.0, sym c.1)))
 

@@ -1,8 +1,8 @@
 -- std's words for what an iterator answers (`position`, `find`, `list_all`, `list_any`, `count_by`, `fold`), as the words of
 -- specs/Search.antt. A test p of the elements is the test `λ k. p (get_or xs k d)` of the places. Main laws: `position-is`, `list_all-is`,
--- `list_any-is`, `count_by-is`; of numbers a .. a + n `find_range-is`, `found_or`, `all_range-is`, `any_range-is`, `count_range-is`; of a list from a
--- place on `position_from-is`, `all_from-is`, `any_from-is`, `count_from-is`; `fold_and-is`, `fold_or-is`, `fold_bits-zero`; `sum_tests-is`; `copied_at-is`;
--- `from_fn-is` of an array.
+-- `list_any-is`, `count_by-is`; of the numbers a .. a + n `find_range-is`, `all_range-is`, `any_range-is`, `count_range-is`, and of a find over them
+-- `found_or`, `found_between`, `found_below`; of a list from a place on `position_from-is`, `position_or_from-is`, `all_from-is`; `fold_and-is`,
+-- `fold_or-is`, `fold_bits-zero`; `from_bool-is`, `sum_tests-is`; `copied_at-is`; `from_fn-is` of an array.
 use Prim.Native.Nat.{ℕ, zero, suc, ◌+◌, ◌-◌, ◌<◌, ◌≤◌}
 use mathlib.Core.Path.{◌≡◌, refl, sym, ap, ap₂, subst, ◌∙◌}
 use mathlib.Core.Bool.{Bool, true, false, cond, not, ◌&&◌, ◌||◌}
@@ -10,6 +10,7 @@ use mathlib.Core.List.{List, [], ◌∷◌, ◌++◌, append_assoc}
 use mathlib.Core.Logic.{⊎_elim}
 use native.Mathlib.Omega.{arith}
 use native.Mathlib.Numerals.{add-one}
+use native.Mathlib.Nat.{sub-zero}
 use lib.ListN.{length, get_or, take, drop, length-drop}
 use borrow.Rule.Slice.PartMut.{put_mid}
 use lib.Seq.{sets, sets-eq, get_or-drop, drop-drop, take_all}
@@ -26,7 +27,7 @@ use Rattle.lists.specs.Tables.{tabulate}
 use Rattle.lists.proofs.TableLaws.{tabulate_is}
 use Rattle.lists.specs.Search.{first, all_from, some_below, count_below, below}
 use Rattle.lists.proofs.CaseLaws.{lt_or_le}
-use Rattle.lists.proofs.SearchLaws.{first_at, first_none, first_le, first_true, first_before, first_ext, all_ext}
+use Rattle.lists.proofs.SearchLaws.{first_at, first_none, first_le, first_true, first_before, first_ext, first_past, first_hit, first_end, all_ext}
 use Rattle.lists.proofs.CountLaws.{count_ext}
 use Rattle.lists.proofs.BelowLaws.{below_is, below_past, below_or}
 
@@ -173,12 +174,21 @@ module _ (p : ℕ → Bool) where
   found_or n None h = sym (first_none p n (λ k l. h k (omega arith) l))
   found_or n (Some i) h = sym (first_at p i n h.1 h.2 (λ k l. h.3 k (omega arith) l))
 
-  -- the same, where None is an answer of its own
+  -- the same of the numbers from a on, below b, where None is an answer of its own
+  pub found_between : (a b : ℕ) (r : Option ℕ)
+      → MatchOption r ((k : ℕ) → a ≤ k → k < b → p k ≡ false) (λ i. (a ≤ i) × (i < b) × (p i ≡ true) × ((k : ℕ) → a ≤ k → k < i → p k ≡ false))
+      → r ≡ below b (first p a (b - a))
+  found_between a b None h =
+      ⊎_elim
+      (λ (l : a < b). let e = first_past p b a b (omega arith) (omega arith) h in let f = first_end p b b (omega arith) in sym (below_past b _ (omega arith)))
+      (λ (l : b ≤ a). let e = first_end p a b l in sym (below_past b _ (omega arith))) (lt_or_le a b)
+  found_between a b (Some i) h =
+      sym (ap (below b) (first_past p b a i h.0 (let l = h.1 in omega arith) h.3 ∙ first_hit p i b h.1 h.2) ∙ below_is b i h.1)
+
   pub found_below : (n : ℕ) (r : Option ℕ)
       → MatchOption r ((k : ℕ) → 0 ≤ k → k < n → p k ≡ false) (λ i. (0 ≤ i) × (i < n) × (p i ≡ true) × ((k : ℕ) → 0 ≤ k → k < i → p k ≡ false))
       → r ≡ below n (first p 0 n)
-  found_below n None h = sym (below_past n (first p 0 n) (let e = first_none p n (λ k l. h k (omega arith) l) in omega arith))
-  found_below n (Some i) h = sym (ap (below n) (first_at p i n h.1 h.2 (λ k l. h.3 k (omega arith) l)) ∙ below_is n i h.1)
+  found_below n r h = found_between 0 n r h ∙ ap (λ k. below n (first p 0 k)) (sub-zero n)
 
   pub all_range-is : (a n : ℕ) → list_all p (range_with_len a n) ≡ all_from p a n
   unfolding all_from
@@ -235,14 +245,14 @@ fold_bits-zero xs e k = omega (arith, fold_bits-at 0 xs k)
 
 -- ---- tests summed as numbers, which vectorises where a filter that is counted does not
 
+pub from_bool-is : (b : Bool) → from_bool b ≡ cond {A = ℕ} b 1 0
+from_bool-is true = refl
+from_bool-is false = refl
+
 pub sum_tests-is : {X : Type 0} (p : X → Bool) (xs : List X) → sum_by (λ x. from_bool (p x)) xs ≡ count_by p xs
 sum_tests-is p [] = refl
 sum_tests-is p (x ∷ xs) =
-    sum_by-cons (λ x. from_bool (p x)) x xs ∙ ap₂ ◌+◌ (go (p x)) (sum_tests-is p xs) ∙ sym (sum_by-cons (λ x. cond (p x) 1 0) x xs)
-  where
-    go : (b : Bool) → from_bool b ≡ cond {A = ℕ} b 1 0
-    go true = refl
-    go false = refl
+    sum_by-cons (λ x. from_bool (p x)) x xs ∙ ap₂ ◌+◌ (from_bool-is (p x)) (sum_tests-is p xs) ∙ sym (sum_by-cons (λ x. cond (p x) 1 0) x xs)
 
 -- ---- numbers that are copied to a place, as the code lends it, stand there one after another
 

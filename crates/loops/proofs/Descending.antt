@@ -13,9 +13,12 @@ use Rattle.loops.specs.declared.ranking.Descent.{Descent}
 use Rattle.netlist.proofs.MarkLaws.{unmarked_mark, unmarked_set_le, unmarked_le}
 
 -- whichever wires are marked at the start
-pub descending_start : (m q : List ℕ) → length m ≤ length q → Descending m q (record { depth = 0; held = 0; ranks = 0 })
-descending_start m q room =
+pub descending_start : (m q : List ℕ) (at : Descent) → length m ≤ length q → (at.depth ≡ 0) × ((at.held ≡ 0) × (at.ranks ≡ 0)) → Descending m q at
+descending_start m q at room none =
     let u = unmarked_le m in
+    let d = none.0 in
+    let h = none.1.0 in
+    let r = none.1.1 in
     record {
       room = room;
       left = omega arith;

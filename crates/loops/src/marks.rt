@@ -8,13 +8,7 @@ pub fn write_listed(marks: &[u16], listed: &mut [u16])
     requires { length listed.old ≡ length marks.now }
     ensures { listed.new ≡ only_listed marks.now }
 {
-    let mut w = 0;
-    while w < marks.len() {
-        if marks[w] == 1 {
-            listed[w] = 1;
-        } else {
-            listed[w] = 0;
-        }
-        w += 1;
+    for w in 0..marks.len() {
+        listed[w] = u16::from(marks[w] == 1);
     }
 }

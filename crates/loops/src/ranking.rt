@@ -1,6 +1,6 @@
 // A guess at ranks by which the wires of a loop have one: the strong components of what is read, found depth first (after Pearce) in the
 // lent room. Listed wires are left out. Only what bounds that room is proved of it, and `is_ranked` checks what it gives.
-ghost use Rattle.std.specs.Prelude.{◌≡◌, ℕ, ◌+◌, ◌*◌, ◌<◌, ◌≤◌, length, get_or};
+ghost use Rattle.std.specs.Prelude.{◌≡◌, ℕ, ◌+◌, ◌*◌, ◌<◌, ◌≤◌, length, get_or, IfSome};
 ghost use Rattle.netlist.specs.Graph.{Closed};
 ghost use Rattle.netlist.specs.Marks.{unmarked, max_wires};
 ghost use Rattle.netlist.specs.Rows.{row_length, graph_of};
@@ -8,34 +8,31 @@ ghost use Rattle.loops.specs.Ranks.{Descending, steps_left};
 ghost use Rattle.loops.specs.declared.ranking.Descent.{Descent};
 
 use crate::ranks::highest_mark;
-use netlist::row::{arity, operand, row_at, wide};
+use netlist::row::{arity, operand, row_at};
 
 // Where the ranking is: wires on the path, at the front of the queue; wires left that lead back to the path, held at the end of the queue;
 // ranks given. A wire that is on the path or held has a mark above them.
-#[derive(Clone, Copy)]
+#[derive(Clone, Copy, Default)]
 pub struct Descent {
     pub depth: usize,
     pub held: usize,
     pub ranks: usize,
 }
 
-// The first operand of v without a mark, or the number of indices.
-fn first_unmarked(rows: &[u16], marks: &[u16], v: usize) -> usize
+// The first operand of v without a mark.
+fn first_unmarked(rows: &[u16], marks: &[u16], v: usize) -> Option<usize>
     requires rows_len { length rows.now ≡ row_length * length marks.now }
     requires closed { Closed (graph_of rows.now) (length marks.now) × (v < length marks.now) }
-    ensures { result < length marks.now → get_or marks.now result 0 ≡ 0 }
+    ensures { IfSome result (λ d. (d < length marks.now) × (get_or marks.now d 0 ≡ 0)) }
 {
     let row = row_at(rows, v);
-    let count = arity(row);
-    let mut j = 0;
-    while j < count {
-        let d = wide(operand(row, j));
+    for j in 0..arity(row) {
+        let d = usize::from(operand(row, j));
         if marks[d] == 0 {
-            return d;
+            return Some(d);
         }
-        j += 1;
     }
-    marks.len()
+    None
 }
 
 // Goes on to a wire without a mark: it is on the path.
@@ -50,8 +47,7 @@ fn enter(marks: &mut [u16], queue: &mut [u16], at: Descent, d: usize) -> Descent
     queue[depth] = d as u16;
     Descent {
         depth: depth + 1,
-        held: at.held,
-        ranks: at.ranks,
+        ..at
     }
 }
 
@@ -62,16 +58,14 @@ fn rank_held(marks: &mut [u16], queue: &[u16], held: usize, own: u16, rank: u16)
     ensures { (result ≤ held) × (unmarked marks.new ≤ unmarked marks.old) }
 {
     let n = marks.len();
-    let mut left = held;
-    while 0 < left {
-        let w = wide(queue[n - left]);
+    for i in n - held..n {
+        let w = usize::from(queue[i]);
         if own < marks[w] {
-            return left;
+            return n - i;
         }
         marks[w] = rank;
-        left -= 1;
     }
-    left
+    0
 }
 
 // Goes back from the last wire of the path. It is held if it leads back to a wire on the path; else it has a rank of its own, with those
@@ -85,7 +79,7 @@ fn leave(rows: &[u16], marks: &mut [u16], queue: &mut [u16], at: Descent) -> Des
 {
     let depth = at.depth - 1;
     let held = at.held;
-    let v = wide(queue[depth]);
+    let v = usize::from(queue[depth]);
     let own = marks[v];
     let high = highest_mark(rows, marks, v);
     if own < high {
@@ -93,39 +87,35 @@ fn leave(rows: &[u16], marks: &mut [u16], queue: &mut [u16], at: Descent) -> Des
         marks[v] = high;
         queue[back] = v as u16;
         return Descent {
-            depth: depth,
+            depth,
             held: held + 1,
-            ranks: at.ranks,
+            ..at
         };
     }
     let ranks = at.ranks + 1;
     let left = rank_held(marks, queue, held, own, ranks as u16);
     marks[v] = ranks as u16;
     Descent {
-        depth: depth,
+        depth,
         held: left,
-        ranks: ranks,
+        ranks,
     }
 }
 
-// Follows readings from the wire on the path until it is left.
+// Follows readings from the wire on the path until it is left. The path grows and shrinks, so the turns are not counted by an index.
 fn rank_path(rows: &[u16], marks: &mut [u16], queue: &mut [u16], from: Descent) -> Descent
     requires rows_len { length rows.now ≡ row_length * length marks.old }
     requires closed { Closed (graph_of rows.now) (length marks.old) × (length marks.old ≤ max_wires) }
     requires descending { Descending marks.old queue.old from }
     ensures { Descending marks.new queue.new result }
 {
-    let n = marks.len();
     let mut at = from;
     while 0 < at.depth {
-        let top = at.depth - 1;
-        let v = wide(queue[top]);
-        let d = first_unmarked(rows, marks, v);
-        if d < n {
-            at = enter(marks, queue, at, d);
-        } else {
-            at = leave(rows, marks, queue, at);
-        }
+        let v = usize::from(queue[at.depth - 1]);
+        at = match first_unmarked(rows, marks, v) {
+            Some(d) => enter(marks, queue, at, d),
+            None => leave(rows, marks, queue, at),
+        };
     }
     at
 }
@@ -137,19 +127,12 @@ pub fn rank_wires(rows: &[u16], marks: &mut [u16], queue: &mut [u16], listed: &[
     requires marks_in_bounds { (length marks.old ≤ length queue.old) × (length marks.old ≤ max_wires) }
     requires listed_len { length listed.now ≡ length marks.old }
 {
-    let n = marks.len();
-    lists::copy(listed, marks);
-    let mut at = Descent {
-        depth: 0,
-        held: 0,
-        ranks: 0,
-    };
-    let mut start = 0;
-    while start < n {
+    marks.copy_from_slice(listed);
+    let mut at = Descent::default();
+    for start in 0..marks.len() {
         if marks[start] == 0 {
             at = enter(marks, queue, at, start);
             at = rank_path(rows, marks, queue, at);
         }
-        start += 1;
     }
 }

@@ -94,7 +94,7 @@ module _ (m : List ℕ) where
   unfolding only_listed
   only_listed_length = length-map m _
 
-  only_listed_at : (w : ℕ) → get_or (only_listed m) w 0 ≡ cond (eqb (get_or m w 0) 1) 1 0
+  pub only_listed_at : (w : ℕ) → get_or (only_listed m) w 0 ≡ cond (eqb (get_or m w 0) 1) 1 0
   unfolding only_listed
   only_listed_at w = get_or-map (λ (x : ℕ). cond (eqb x 1) 1 0) m w 0
 

@@ -60,13 +60,9 @@ pub fn write_row(list: &mut [u16], i: usize, row: Row)
     ensures { list.new ≡ set_row list.old i row }
 {
     let at = ROW_LENGTH * i;
-    list[at] = row.kind;
-    list[at + 1] = row.wire;
-    list[at + 2] = row.a;
-    list[at + 3] = row.b;
-    list[at + 4] = row.c;
-    list[at + 5] = row.d;
-    list[at + 6] = row.table;
+    list[at..at + ROW_LENGTH].copy_from_slice(&[
+        row.kind, row.wire, row.a, row.b, row.c, row.d, row.table,
+    ]);
 }
 
 // The unused row.

@@ -1,7 +1,7 @@
 -- Ground 10 over joined lists: the first byte above 1, and that there is none.
--- Main laws: `joined_first`, `joined_second`, `joined_third`, `bits_of_joined`, `joined_of_bits`.
+-- Main laws: `bad_byte_here`, `bad_byte_next`, `joined_found`, `bits_of_joined`, `joined_of_bits`.
 use Prim.Native.Nat.{ℕ, ◌+◌, ◌-◌, ◌<◌, ◌≤◌}
-use mathlib.Core.Path.{◌≡◌, sym, ◌∙◌, ap}
+use mathlib.Core.Path.{◌≡◌, sym, ◌∙◌, ap, ap₂}
 use mathlib.Core.Bool.{false}
 use mathlib.Core.Logic.{⊎_elim}
 use mathlib.Core.List.{List, ◌++◌}
@@ -10,6 +10,9 @@ use borrow.Author.Tests.{ltb-true, ltb-false, le-ltb}
 use lib.Dec.{ltb}
 use lib.ListN.{length, get_or, length-append, get_or-append, get_or-eq_default}
 use lib.Seq.{get_or-append-add}
+use Rattle.std.specs.Prelude.{Option, Some, None, MatchOption, option_map}
+use Rattle.lists.specs.Search.{below}
+use Rattle.lists.proofs.BelowLaws.{below_is, below_past, below_some, below_none}
 use Rattle.lists.proofs.CaseLaws.{lt_or_le}
 use Rattle.lists.proofs.SearchLaws.{first_le, first_at, first_none, first_true, first_before}
 use Rattle.netlist.specs.Running.{Bits}
@@ -31,7 +34,7 @@ module _ (xs ys : List ℕ) where
   above_right : (i : ℕ) → above_one (xs ++ ys) (length xs + i) ≡ above_one ys i
   above_right i = ap (λ (n : ℕ). ltb 1 n) (get_or-append-add xs ys i 0)
 
-  bad_byte_here : bad_byte xs < length xs → bad_byte (xs ++ ys) ≡ bad_byte xs
+  pub bad_byte_here : bad_byte xs < length xs → bad_byte (xs ++ ys) ≡ bad_byte xs
   bad_byte_here l =
       let n = length-append xs ys in
       first_at (above_one (xs ++ ys)) (bad_byte xs) (length (xs ++ ys)) (omega arith)
@@ -47,7 +50,7 @@ module _ (xs ys : List ℕ) where
         let e : i ≡ length xs + (i - length xs) = omega arith in
         ap (above_one (xs ++ ys)) e ∙ above_right (i - length xs) ∙ h (i - length xs) (omega arith)) (lt_or_le i (length xs))
 
-    bad_byte_next : bad_byte (xs ++ ys) ≡ length xs + bad_byte ys
+    pub bad_byte_next : bad_byte (xs ++ ys) ≡ length xs + bad_byte ys
     bad_byte_next =
         let n = length-append xs ys in
         let le = bad_byte_le ys in
@@ -61,38 +64,34 @@ module _ (xs ys : List ℕ) where
         (λ k lk. before (length ys) (λ j lj. first_before (above_one ys) 0 (length ys) j (omega arith) (omega arith)) k (omega arith)) ∙ (omega arith))
         (lt_or_le (bad_byte ys) (length ys))
 
-  bits_left : Bits (xs ++ ys) → Bits xs
+  pub bits_left : Bits (xs ++ ys) → Bits xs
   bits_left h i =
       ⊎_elim (λ (l : i < length xs). rw (sym (get_or-append xs ys 0 i l)) (h i))
       (λ (l : length xs ≤ i). rw (get_or-eq_default xs 0 l) (omega arith)) (lt_or_le i (length xs))
 
-  bits_right : Bits (xs ++ ys) → Bits ys
+  pub bits_right : Bits (xs ++ ys) → Bits ys
   bits_right h i = rw (sym (get_or-append-add xs ys i 0)) (h (length xs + i))
 
--- ---- three lists joined
+-- ---- the search of the code, which goes from one list to the next
 
-module _ (xs ys zs : List ℕ) where
-  pub joined_first : bad_byte xs < length xs → bad_byte (xs ++ ys ++ zs) ≡ bad_byte xs
-  joined_first l =
-      let e = bad_byte_here xs ys l in
-      let n = length-append xs ys in
-      bad_byte_here (xs ++ ys) zs (omega arith) ∙ e
+shifted : (n m i : ℕ) → option_map (λ k. n + k) (below m i) ≡ below (n + m) (n + i)
+shifted n m i =
+    ⊎_elim (λ (l : i < m). ap (option_map (λ k. n + k)) (below_is m i l) ∙ sym (below_is (n + m) (n + i) (omega arith)))
+    (λ (l : m ≤ i). ap (option_map (λ k. n + k)) (below_past m i l) ∙ sym (below_past (n + m) (n + i) (omega arith))) (lt_or_le i m)
 
-  module _ (none : length xs ≤ bad_byte xs) where
-    pub joined_second : bad_byte ys < length ys → bad_byte (xs ++ ys ++ zs) ≡ length xs + bad_byte ys
-    joined_second l =
-        let e = bad_byte_next xs ys none in
-        let n = length-append xs ys in
-        bad_byte_here (xs ++ ys) zs (omega arith) ∙ e
-
-    pub joined_third : length ys ≤ bad_byte ys → bad_byte (xs ++ ys ++ zs) ≡ length xs + length ys + bad_byte zs
-    joined_third l =
-        let e = bad_byte_next xs ys none in
-        let n = length-append xs ys in
-        bad_byte_next (xs ++ ys) zs (omega arith) ∙ ap (λ (m : ℕ). m + bad_byte zs) n
-
-pub joined_length : (xs ys zs : List ℕ) → length (xs ++ ys ++ zs) ≡ length xs + length ys + length zs
-joined_length xs ys zs = length-append (xs ++ ys) zs ∙ ap (λ (m : ℕ). m + length zs) (length-append xs ys)
+-- r is what the search in xs finds, t what stands for it or for what the search in ys finds, n places further on
+pub joined_found : (xs ys : List ℕ) (n : ℕ) (r t : Option ℕ) (P : Type 0) → n ≡ length xs → r ≡ below (length xs) (bad_byte xs)
+    → MatchOption r P (λ x. t ≡ Some x) → (P → t ≡ option_map (λ k. n + k) (below (length ys) (bad_byte ys)))
+    → t ≡ below (length (xs ++ ys)) (bad_byte (xs ++ ys))
+joined_found xs ys n None t P e is m f =
+    let none = below_none (length xs) (bad_byte xs) (sym is) in
+    f m ∙ shifted n (length ys) (bad_byte ys)
+    ∙ ap₂ below (let l = length-append xs ys in omega arith) (let b = bad_byte_next xs ys none in omega arith)
+joined_found xs ys n (Some x) t P e is m f =
+    let here = below_some (length xs) (bad_byte xs) x (sym is) in
+    let l = length-append xs ys in
+    let b = bad_byte_here xs ys here.1 in
+    m ∙ ap Some (omega arith) ∙ sym (below_is (length (xs ++ ys)) (bad_byte (xs ++ ys)) (omega arith))
 
 -- ---- no byte above 1
 
@@ -110,7 +109,7 @@ bits_of_joined xs ys zs none =
 
 -- ---- the other way
 
-bits_append : (xs ys : List ℕ) → Bits xs → Bits ys → Bits (xs ++ ys)
+pub bits_append : (xs ys : List ℕ) → Bits xs → Bits ys → Bits (xs ++ ys)
 bits_append xs ys hx hy i =
     ⊎_elim (λ (l : i < length xs). rw (get_or-append xs ys 0 i l) (hx i))
     (λ (l : length xs ≤ i).
@@ -118,7 +117,7 @@ bits_append xs ys hx hy i =
     let g = ap (λ (k : ℕ). get_or (xs ++ ys) k 0) e ∙ get_or-append-add xs ys (i - length xs) 0 in
     rw g (hy (i - length xs))) (lt_or_le i (length xs))
 
-none_of_bits : (xs : List ℕ) → Bits xs → length xs ≤ bad_byte xs
+pub none_of_bits : (xs : List ℕ) → Bits xs → length xs ≤ bad_byte xs
 none_of_bits xs h =
     ⊎_elim
     (λ (l : bad_byte xs < length xs).

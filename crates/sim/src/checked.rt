@@ -1,19 +1,48 @@
 // A step whose block has a size and whose lengths are right: the checks of the contents, then what is written.
-ghost use Rattle.std.specs.Prelude.{◌≡◌};
+ghost use Rattle.std.specs.Prelude.{◌≡◌, length};
 ghost use Rattle.refusal.specs.Grounds.{answer_number};
 ghost use Rattle.refusal.specs.Memory.{output};
 ghost use Rattle.ports.specs.Block.{Sized};
-ghost use Rattle.stepper.specs.Settling.{settled_by, port_values};
+ghost use Rattle.ports.specs.Lengths.{ports};
+ghost use Rattle.fabric.specs.Wire.{wires_of};
+ghost use Rattle.stepper.specs.Settling.{settled_by, port_values, wire_marks};
 ghost use Rattle.stepper.specs.Clocking.{next_states};
 ghost use Rattle.sim.specs.Stepping.{inputs_answer};
 ghost use Rattle.sim.specs.Lengths.{inputs_lent, InputsLong, step_room_lent, StepRoomLong};
 
-use crate::checks::check_inputs;
+use crate::checks::{check_bytes, check_rows, check_settings};
 use ports::size::Block;
 use refusal::Refusal;
 use stepper::write_step;
 
-// Grounds 3, 9, 12 and 10, and on a yes what is written.
+// Grounds 3, 9, 12 and 10, in this order (`inputs_answer`). On a yes `wires` has the wire of each port, and `own` marks those that are
+// their own wires. It is not given the outputs.
+#[tactic(auto, unfolding(crate::specs::Stepping::inputs_answer, crate::specs::Stepping::run_answer))]
+fn check_inputs(
+    b: Block,
+    table: &[u16],
+    settings: &[u16],
+    list: &[u16],
+    state: &[u8],
+    before: &[u8],
+    after: &[u8],
+    wires: &mut [u16],
+    own: &mut [u16],
+    marks: &mut [u16],
+) -> Result<(), Refusal>
+    requires sized { Sized b × InputsLong b (inputs_lent table.now settings.now list.now state.now before.now after.now) }
+    requires wires_len { (length wires.old ≡ ports b) × (length own.old ≡ ports b) × (length marks.old ≡ ports b) }
+    ensures answer { result ≡ inputs_answer b table.now settings.now list.now
+        state.now before.now after.now }
+    ensures wires { result ≡ (Ok tt) → wires.new ≡ wires_of b }
+    ensures own { result ≡ (Ok tt) → own.new ≡ wire_marks b }
+{
+    check_settings(table, settings, (b.h * b.w) as usize)?;
+    check_rows(b, list, state.len(), wires, own, marks)?;
+    check_bytes(state, before, after)
+}
+
+// Those checks, and on a yes what is written.
 pub fn step_checked(
     b: Block,
     table: &[u16],

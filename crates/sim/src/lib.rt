@@ -18,7 +18,7 @@ use ports::size::Block;
 use refusal::Refusal;
 
 mod checked;
-mod checks;
+pub mod checks;
 pub mod lengths;
 
 // One step. Grounds 1, 2, 3, 9, 12, 10, in this order (`step_answer`). The outputs are values and next; the work room is wires, own,
@@ -82,21 +82,17 @@ pub fn step(
         first: first.len(),
         second: second.len(),
     };
-    let lent = StepLent {
-        inputs: inputs,
-        room: room,
-    };
-    if !is_step_exact(b, lent) {
+    if !is_step_exact(b, StepLent { inputs, room }) {
         return Err(Refusal::WrongLength);
     }
     let r = checked::step_checked(
         b, table, settings, list, state, before, after, values, next, wires, own, marks, first,
         second,
     );
-    lists::clear(wires);
-    lists::clear(own);
-    lists::clear(marks);
-    lists::clear_bytes(first);
-    lists::clear_bytes(second);
+    wires.fill(0);
+    own.fill(0);
+    marks.fill(0);
+    first.fill(0);
+    second.fill(0);
     r
 }

@@ -1,21 +1,16 @@
 -- `depends_on_itself` meets its contract. Invariant: what is queued is reached from the start, and what the first of the queue read is
--- marked (`Reaching`); in the inner loop, the operands below j too (`Taking`). Measures: the indices, and the operands, left. Assumes nothing.
+-- marked (`Reaching`); in the inner loop, the operands below j too (`Taking`). Measure: the indices left. Assumes nothing.
 use Rattle.loops.proofs.Reaching.{Reaching, Taking}
 use Rattle.netlist.specs.Rows.{graph_of}
 use lib.ListN.{length}
-use mathlib.Core.Path.{◌≡◌}
-use Prim.Native.Nat.{◌≤◌, ◌-◌}
+use Prim.Native.Nat.{◌-◌}
 use Rattle.loops.proofs.depends_on_itself.Given as goal
 
 abbrev pub invariant-loop-j : goal.invariant-loop-j
-invariant-loop-j l =
-    Taking (graph_of l.rows) l.n l.start l.listed l.marks l.queue l.head l.tail l.v l.j × ((l.j ≤ l.count) × (length l.queue ≡ length l.initial.queue))
-
-abbrev pub decreases-loop-j : goal.decreases-loop-j
-decreases-loop-j l = l.count - l.j
+invariant-loop-j l = Taking (graph_of l.rows) (length l.fn.marks) l.start l.listed l.marks l.queue l.head l.tail l.v l.j
 
 abbrev pub invariant-loop-head : goal.invariant-loop-head
-invariant-loop-head l = Reaching (graph_of l.rows) l.n l.start l.listed l.marks l.queue l.head l.tail × (length l.queue ≡ length l.initial.queue)
+invariant-loop-head l = Reaching (graph_of l.rows) (length l.fn.marks) l.start l.listed l.marks l.queue l.head l.tail
 
 abbrev pub decreases-loop-head : goal.decreases-loop-head
-decreases-loop-head l = l.n - l.head
+decreases-loop-head l = length l.fn.marks - l.head

@@ -37,4 +37,4 @@ returns c =
     let cleared : (old : List ℕ) (n : ℕ) → n ≡ length old → zeros n ≡ work_room (answer_number r) old =
     λ old n l. room_cleared a.b a.table.now a.settings.now a.list.now a.state.now a.before.now a.after.now old r n done.answer l in
     let answer = done.answer ∙ step_inputs a.b _ _ _ _ _ _ _ is long in
-    record { answer = answer; values = done.values; next = done.next; wires = c.clear.ensures ∙ cleared a.wires.now _ kept.wires; own = c.clear-2.ensures ∙ cleared a.own.now _ kept.own; marks = c.clear-3.ensures ∙ cleared a.marks.now _ kept.marks; first = c.clear_bytes.ensures ∙ cleared a.first.now _ kept.first; second = c.clear_bytes-2.ensures ∙ cleared a.second.now _ kept.second; says = step_says a.b a.table.now a.settings.now a.list.now a.state.now a.before.now a.after.now (step_room_lent a.values.now a.next.now a.wires.now a.own.now a.marks.now a.first.now a.second.now) _ answer }
+    record { answer = answer; values = done.values; next = done.next; wires = c.fill.ensures.after (λ y e. e) ∙ cleared a.wires.now _ kept.wires; own = c.fill-2.ensures.after (λ y e. e) ∙ cleared a.own.now _ kept.own; marks = c.fill-3.ensures.after (λ y e. e) ∙ cleared a.marks.now _ kept.marks; first = c.fill-4.ensures.after (λ y e. e) ∙ cleared a.first.now _ kept.first; second = c.fill-5.ensures.after (λ y e. e) ∙ cleared a.second.now _ kept.second; says = step_says a.b a.table.now a.settings.now a.list.now a.state.now a.before.now a.after.now (step_room_lent a.values.now a.next.now a.wires.now a.own.now a.marks.now a.first.now a.second.now) _ answer }

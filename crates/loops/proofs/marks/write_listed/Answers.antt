@@ -1,13 +1,13 @@
--- `marks::write_listed` meets its contract. Invariant: the first w marks are written without who waits (`Copied`). Measure: those that are left.
--- Assumes nothing.
+-- `marks::write_listed` meets its contract. Invariant: the first w marks are written without who waits (`Copied`). Assumes nothing.
 use Rattle.lists.proofs.Copying.{copied_start, copied_step, copied_end}
-use Rattle.netlist.proofs.MarkLaws.{only_listed_length, only_listed_one, only_listed_zero}
+use Rattle.netlist.proofs.MarkLaws.{only_listed_length, only_listed_at}
 use Rattle.netlist.specs.Marks.{only_listed}
-use lib.ListN.{length}
+use Rattle.lists.proofs.StdLaws.{from_bool-is}
+use lib.Dec.{eqb}
+use lib.ListN.{length, get_or}
 use mathlib.Core.Path.{sym, ◌∙◌}
 use native.Mathlib.Omega.{arith}
 use Prim.Native.Nat.{◌<◌}
-use Rattle.loops.proofs.marks.write_listed.Goals.{then-marks-w-eq1, else-marks-w-eq1}
 use Rattle.loops.proofs.marks.write_listed.Goals as goal
 
 pub loop-w-init : goal.loop-w-init
@@ -18,10 +18,7 @@ loop-w-preserved c =
     let marks = c.args.marks.now in
     let w = c.loop-w.w in
     let inside : w < length (only_listed marks) = omega (arith, only_listed_length marks, c.loop-w-test.true) in
-    elim c.if-marks-w-eq1.branch [
-      | then-marks-w-eq1 x ↦ rw x.listed-is (copied_step (only_listed marks) _ _ _ c.loop-w.invariant inside (sym (only_listed_one marks w x.if-marks-w-eq1.true)))
-      | else-marks-w-eq1 x ↦ rw x.listed-is (copied_step (only_listed marks) _ _ _ c.loop-w.invariant inside (sym (only_listed_zero marks w x.if-marks-w-eq1.false)))
-    ]
+    copied_step (only_listed marks) _ _ _ c.loop-w.invariant inside (c.from.ensures ∙ from_bool-is (eqb (get_or marks w 0) 1) ∙ sym (only_listed_at marks w))
 
 pub returns : goal.returns
 returns c =

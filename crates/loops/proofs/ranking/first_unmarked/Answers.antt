@@ -1,22 +1,17 @@
--- `ranking::first_unmarked` meets its contract. Invariant: some operands are looked at. Measure: those that are left. Assumes nothing.
+-- `ranking::first_unmarked` meets its contract. Assumes nothing.
 use Rattle.netlist.proofs.ValueLaws.{arity_le}
-use Rattle.netlist.proofs.GraphLaws.{row_reads}
-use lib.ListN.{length}
+use Rattle.netlist.proofs.GraphLaws.{row_reads_lt}
 use native.Mathlib.Omega.{arith}
-use mathlib.Core.Path.{◌∙◌}
-use Prim.Native.Nat.{◌<◌}
-use Rattle.loops.proofs.ranking.first_unmarked.Goals.{After-wide-d}
 use Rattle.loops.proofs.ranking.first_unmarked.Goals as goal
 
-operand_lt : (c : After-wide-d) → c.wide-d.result < length c.args.marks.now
-operand_lt c =
-    c.requires.closed.0.below _ _ (row_reads _ _ _ c.row_at-row.ensures _ c.arity-count.ensures c.loop-j.j c.wide-d.result
-    c.loop-j-test.true
-    (c.wide-d.ensures ∙ c.operand.ensures))
-
 pub operand-requires : goal.operand-requires
-operand-requires c =
-    omega (arith, arity_le c.row_at-row.result, c.arity-count.ensures)
+operand-requires c = omega (arith, arity_le c.row_at-row.result, c.arity-j-end.ensures)
 
 pub bounds-marks-d : goal.bounds-marks-d
-bounds-marks-d c = operand_lt (goal.at.bounds-marks-d c).After-wide-d
+bounds-marks-d c = omega (arith, row_reads_lt _ _ _ c.row_at-row.ensures _ c.requires.closed.0 c.loop-j.j, c.operand.ensures, c.from-d.ensures, c.arity-j-end.ensures)
+
+pub returns-then-marks-d-eq0 : goal.returns-then-marks-d-eq0
+returns-then-marks-d-eq0 c = (
+  omega (arith, row_reads_lt _ _ _ c.row_at-row.ensures _ c.requires.closed.0 c.loop-j.j, c.operand.ensures, c.from-d.ensures, c.arity-j-end.ensures),
+  c.if-marks-d-eq0.true,
+)

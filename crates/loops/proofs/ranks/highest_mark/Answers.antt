@@ -1,23 +1,11 @@
--- `ranks::highest_mark` meets its contract. Invariant: no operand below j has a higher mark. Measure: the operands that are left. Assumes nothing.
+-- `ranks::highest_mark` meets its contract. Invariant: no operand below j has a higher mark. Assumes nothing.
 use Rattle.netlist.proofs.ValueLaws.{arity_le}
-use Rattle.netlist.proofs.GraphLaws.{row_reads}
-use lib.ListN.{length}
+use Rattle.netlist.proofs.GraphLaws.{row_reads_lt}
 use native.Mathlib.Omega.{arith}
-use mathlib.Core.Path.{◌∙◌}
-use Prim.Native.Nat.{◌<◌}
-use Rattle.loops.proofs.ranks.highest_mark.Goals.{After-wide-d}
 use Rattle.loops.proofs.ranks.highest_mark.Goals as goal
 
-operand_lt : (c : After-wide-d) → c.wide-d.result < length c.args.marks.now
-operand_lt c =
-    c.requires.closed.0.below _ _ (row_reads _ _ _ c.row_at-row.ensures _ c.arity-count.ensures c.loop-j.j c.wide-d.result
-    c.loop-j-test.true
-    (c.wide-d.ensures ∙ c.operand.ensures))
-
 pub operand-requires : goal.operand-requires
-operand-requires c =
-    omega (arith, arity_le c.row_at-row.result, c.arity-count.ensures)
+operand-requires c = omega (arith, arity_le c.row_at-row.result, c.arity-j-end.ensures)
 
-pub bounds-marks-d : goal.bounds-marks-d
-bounds-marks-d c =
-    operand_lt (goal.at.bounds-marks-d c).After-wide-d
+pub bounds-marks-from : goal.bounds-marks-from
+bounds-marks-from c = omega (arith, row_reads_lt _ _ _ c.row_at-row.ensures _ c.requires.closed.0 c.loop-j.j, c.operand.ensures, c.from.ensures, c.arity-j-end.ensures)

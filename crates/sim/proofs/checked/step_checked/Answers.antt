@@ -1,6 +1,7 @@
 -- `checked::step_checked` meets its contract: a no keeps the outputs, a yes shows that the list can be run. Assumes nothing.
 use Rattle.std.specs.Prelude.{Ok}
 use mathlib.Core.Path.{◌≡◌, sym, ◌∙◌}
+use native.Mathlib.Omega.{arith}
 use Rattle.sim.proofs.StepLaws.{inputs_shows, run_shows}
 use Rattle.sim.proofs.checked.step_checked.Goals as goal
 
@@ -16,7 +17,7 @@ write_step-requires c =
       c.check_inputs.ensures.own done,
       runs.0,
       runs.1,
-      room.values_long,
+      omega (arith, room.values_long),
       room.next_long,
       room.first_long,
       room.second_long,

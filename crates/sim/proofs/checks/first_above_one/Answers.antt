@@ -1,21 +1,24 @@
--- `checks::first_above_one` meets its contract. Invariant: the search from i on is the whole search; where the bytes or-ed are below 2, it finds none. Measure: the bytes that are left. Assumes nothing.
+-- `checks::first_above_one` meets its contract: bytes that or-ed are below 2 have none above 1, else std's search is ours. Assumes nothing.
+use mathlib.Core.Path.{sym, ◌∙◌}
 use native.Mathlib.Omega.{arith}
-use borrow.Author.Tests.{lt-ltb, le-ltb}
+use lib.Dec.{ltb}
+use lib.ListN.{length}
+use Rattle.std.proofs.Common.{rules, tests}
+use Rattle.std.proofs.lemmas.Iterator.{YieldsList-from_slice}
+use Rattle.std.proofs.lemmas.Iterator.Search.{position_from_yields_List}
+use Rattle.lists.proofs.StdLaws.{position-is}
+use Rattle.lists.proofs.BelowLaws.{below_past}
+use Rattle.sim.specs.Stepping.{bad_byte}
 use Rattle.sim.proofs.ByteLaws.{low_bytes}
-use Rattle.lists.proofs.SearchLaws.{first_turn_hit, first_turn_skip, first_turn_end}
 use Rattle.sim.proofs.checks.first_above_one.Goals as goal
 
 pub returns-then-or_bytes-lt2 : goal.returns-then-or_bytes-lt2
-returns-then-or_bytes-lt2 c = low_bytes c.args.bytes.now c.or_bytes.result c.or_bytes.ensures c.if-or_bytes-lt2.true
+returns-then-or_bytes-lt2 c =
+    let bytes = c.args.bytes.now in
+    sym (below_past (length bytes) (bad_byte bytes) (omega (arith, low_bytes bytes c.or_bytes.result c.or_bytes.ensures c.if-or_bytes-lt2.true)))
 
-pub returns-then-bytes-i-gt1 : goal.returns-then-bytes-i-gt1
-returns-then-bytes-i-gt1 c =
-    first_turn_hit _ _ _ _ c.loop-i.invariant.0 (omega arith) (lt-ltb _ _ c.if-bytes-i-gt1.true)
-
-pub loop-i-preserved : goal.loop-i-preserved
-loop-i-preserved c =
-    (first_turn_skip _ _ _ _ c.loop-i.invariant.0 (omega arith) (le-ltb _ _ c.if-bytes-i-gt1.false), c.loop-i.invariant.1, omega arith)
-
-pub returns : goal.returns
-returns c =
-    first_turn_end _ _ _ _ c.loop-i.invariant.0 (omega arith)
+pub returns-else-or_bytes-lt2 : goal.returns-else-or_bytes-lt2
+returns-else-or_bytes-lt2 c =
+    let bytes = c.args.bytes.now in
+    position_from_yields_List (ltb 1) _ _ _ c.position.ensures.ran (YieldsList-from_slice bytes (cc)) (λ x b q k. search (rules, tests))
+    ∙ position-is (ltb 1) 0 bytes

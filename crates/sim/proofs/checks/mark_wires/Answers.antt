@@ -1,4 +1,4 @@
--- `checks::mark_wires` meets its contract. Invariant: the first p marks are the ports' (`Filled`). Measure: the ports that are left. Assumes nothing.
+-- `checks::mark_wires` meets its contract. Invariant: the first p marks are the ports' (`Filled`). Assumes nothing.
 use native.Mathlib.Omega.{arith}
 use lib.ListN.{get_or}
 use lib.Dec.{eqb}
@@ -19,6 +19,6 @@ bounds-wires-p c =
 pub returns : goal.returns
 returns c =
     let a = c.args in
-    filled_end _ 0 _ _ _ c.loop-p.invariant.0 (omega arith)
-    ∙ ap (λ (m : ℕ). tabulate (λ p. cond (eqb (get_or a.wires.now p 0) p) 1 0) 0 m) (c.loop-p.invariant.1 ∙ c.requires.1)
+    filled_end _ 0 _ _ _ c.loop-p.invariant (omega arith)
+    ∙ ap (λ (m : ℕ). tabulate (λ p. cond (eqb (get_or a.wires.now p 0) p) 1 0) 0 m) c.requires.1
     ∙ wire_marks_is a.b a.wires.now c.requires.0

@@ -1,7 +1,13 @@
--- `checks::or_bytes` meets its contract. Invariant: no byte passed is higher. Measure: the bytes that are left. Assumes nothing.
-use Rattle.netlist.proofs.OrLaws.{at_most_more}
+-- `checks::or_bytes` meets its contract: no byte is higher than the bytes or-ed. Assumes nothing.
+use lib.Bits.{bit_or}
+use Rattle.std.proofs.Common.{rules, tests}
+use Rattle.std.proofs.lemmas.Iterator.{YieldsList-from_slice}
+use Rattle.std.proofs.lemmas.Iterator.Consumers.{fold_from_yields_List}
+use Rattle.lists.proofs.StdLaws.{fold_bits-at}
 use Rattle.sim.proofs.checks.or_bytes.Goals as goal
 
-pub loop-i-preserved : goal.loop-i-preserved
-loop-i-preserved c =
-    (at_most_more c.args.bytes.now 0 c.loop-i.i c.loop-i.any c.loop-i.invariant.0, c.loop-i.invariant.1)
+pub returns : goal.returns
+returns c = λ k l.
+    let bytes = c.args.bytes.now in
+    let or = fold_from_yields_List _ (λ any byte. bit_or any byte) 0 _ c.fold.ensures.ran (YieldsList-from_slice bytes (cc)) (λ a x b q k. search (rules, tests)) in
+    rw or (fold_bits-at 0 bytes k)

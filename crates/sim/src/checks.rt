@@ -13,30 +13,20 @@ ghost use Rattle.config.specs.Blocks.{bitless_tile};
 ghost use Rattle.stepper.specs.Settling.{wire_marks, bad_row};
 ghost use Rattle.sim.specs.Stepping.{bad_byte};
 
-use config::blocks::bitless_tile;
 use netlist::check::{count_wires, first_bad_row};
 use ports::size::Block;
 use refusal::Refusal;
-use routing::rules::faulty_part;
-use routing::table::group_count;
 use wiring::fill_wires;
 
 // Grounds 3 and 9 of n tiles.
+#[tactic(auto, unfolding(config::specs::Entry::settings_answer))]
 pub fn check_settings(table: &[u16], settings: &[u16], n: usize) -> Result<(), Refusal>
     requires { (n ≤ 64) × (length table.now ≡ table_length) × (length settings.now ≡ settings_length * n) }
     ensures { result ≡ unless (table_ok logic_tile table.now) (Err (Table (faulty_part logic_tile table.now)))
         (unless (leb n (bitless_tile table.now settings.now n)) (Err (NoSuchSettings (bitless_tile table.now settings.now n)))
         (Ok tt)) }
 {
-    let part = faulty_part(table);
-    if part != 2 + group_count(table) {
-        return Err(Refusal::Table(part as u32));
-    }
-    let tile = bitless_tile(table, settings, n);
-    if tile < n {
-        return Err(Refusal::NoSuchSettings(tile as u32));
-    }
-    Ok(())
+    config::checks::check_settings(table, settings, n)
 }
 
 // Marks the ports that are their own wires.

@@ -1,8 +1,9 @@
 -- std's words for what an iterator answers (`position`, `find`, `list_all`, `list_any`, `count_by`, `fold`), as the words of
 -- specs/Search.antt. A test p of the elements is the test `λ k. p (get_or xs k d)` of the places. Main laws: `position-is`, `list_all-is`,
--- `list_any-is`, `count_by-is`; of two lists `list_all_zip-is`; of the numbers a .. a + n `find_range-is`, `all_range-is`, `any_range-is`, `count_range-is`, and of a find over them
--- `found_or`, `found_between`, `found_below`; of a list from a place on `position_from-is`, `position_or_from-is`, `all_from-is`; `fold_and-is`,
--- `fold_or-is`, `fold_bits-zero`; `from_bool-is`, `sum_tests-is`; `copied_at-is`; `from_fn-is` of an array.
+-- `list_any-is`, `count_by-is`; of two lists `list_all_zip-is`; of the numbers a .. a + n `find_range-is`, `all_range-is`, `any_range-is`,
+-- `count_range-is`, and of a find over them `found_or`, `found_between`, `found_below`; of a list from a place on `position_from-is`,
+-- `position_or_from-is`, `all_from-is`; `fold_and-is`, `fold_or-is`, `fold_bits-zero`; `from_bool-is`, `sum_tests-is`; `copied_at-is`; `from_fn-is` of
+-- an array.
 use Prim.Native.Nat.{ℕ, zero, suc, ◌+◌, ◌-◌, ◌<◌, ◌≤◌}
 use mathlib.Core.Path.{◌≡◌, refl, sym, ap, ap₂, subst, ◌∙◌}
 use mathlib.Core.Bool.{Bool, true, false, cond, not, ◌&&◌, ◌||◌}

@@ -1,8 +1,9 @@
 -- std's words for what an iterator answers (`position`, `find`, `list_all`, `list_any`, `count_by`, `fold`), as the words of
 -- specs/Search.antt. A test p of the elements is the test `λ k. p (get_or xs k d)` of the places. Main laws: `position-is`, `list_all-is`,
--- `list_any-is`, `count_by-is`; of the numbers a .. a + n `find_range-is`, `all_range-is`, `any_range-is`, `count_range-is`, and of a find over them
--- `found_or`, `found_between`, `found_below`; of a list from a place on `position_from-is`, `position_or_from-is`, `all_from-is`; `fold_and-is`,
--- `fold_or-is`, `fold_bits-zero`; `from_bool-is`, `sum_tests-is`; `copied_at-is`; `from_fn-is` of an array.
+-- `list_any-is`, `count_by-is`; of two lists `list_all_zip-is`; of the numbers a .. a + n `find_range-is`, `all_range-is`, `any_range-is`,
+-- `count_range-is`, and of a find over them `found_or`, `found_between`, `found_below`; of a list from a place on `position_from-is`,
+-- `position_or_from-is`, `all_from-is`; `fold_and-is`, `fold_or-is`, `fold_bits-zero`; `from_bool-is`, `sum_tests-is`; `copied_at-is`; `from_fn-is` of
+-- an array.
 use Prim.Native.Nat.{ℕ, zero, suc, ◌+◌, ◌-◌, ◌<◌, ◌≤◌}
 use mathlib.Core.Path.{◌≡◌, refl, sym, ap, ap₂, subst, ◌∙◌}
 use mathlib.Core.Bool.{Bool, true, false, cond, not, ◌&&◌, ◌||◌}
@@ -18,7 +19,8 @@ use Rattle.std.specs.Prelude.{Option, Some, None, MatchOption, unwrap_or, option
 use Rattle.std.specs.Int.{from_bool}
 use denote.Param.Members.{Mut, Called}
 use Rattle.std.specs.Array.{IsFromFnResult, IsFromFnResultFrom}
-use Rattle.std.specs.List.{list_all, list_any, range_with_len, position_or_len}
+use Rattle.std.proofs.lemmas.Slice.Zip.{length-zip, get_or-zip}
+use Rattle.std.specs.List.{zip, list_all, list_any, range_with_len, position_or_len}
 use Rattle.std.proofs.lemmas.List.Sums.{position_or_len_is, sum_by_more, sum_by-cons}
 use Rattle.std.proofs.lemmas.List.FromFn.{length-range_with_len, get_or-range_with_len}
 use lib.Bits.{bit_or, or_add_and, and_le_r, or_comm}
@@ -91,6 +93,15 @@ module _ {X : Type 0} (p : X → Bool) (d : X) where
   list_all-is (x ∷ xs) =
       all_step (p x) (list_all p xs) (all_from (λ k. p (get_or (x ∷ xs) k d)) 1 (length xs))
       (list_all-is xs ∙ sym (all_suc (λ k. p (get_or (x ∷ xs) k d)) 0 (length xs)))
+
+-- two lists of n, element by element
+pub list_all_zip-is : {X Y : Type 0} (p : X × Y → Bool) (d : X) (e : Y) (xs : List X) (ys : List Y) (n : ℕ) → length xs ≡ n → length ys ≡ n
+    → list_all p (zip xs ys) ≡ all_from (λ k. p (get_or xs k d, get_or ys k e)) 0 n
+list_all_zip-is p d e xs ys n lx ly =
+    let long : length (zip xs ys) ≡ n = omega (arith, length-zip xs ys) in
+    list_all-is p (d, e) (zip xs ys) ∙ ap (all_from (λ k. p (get_or (zip xs ys) k (d, e))) 0) long
+    ∙ all_ext (λ k. p (get_or (zip xs ys) k (d, e))) (λ k. p (get_or xs k d, get_or ys k e)) 0 n
+    (λ k a l. ap p (get_or-zip xs ys k (d, e) (omega arith) (omega arith)))
 
 list_any-not : {X : Type 0} (p : X → Bool) (xs : List X) → list_any p xs ≡ not (list_all (λ x. not (p x)) xs)
 list_any-not p [] = refl

@@ -42,16 +42,11 @@ pub fn find_settings(table: &[u16], settings: &mut [u16]) -> bool
         if pattern == 0 {
             g = after_off(settings, g, n);
         } else {
-            let r = setting_of(table, g, pattern);
-            match r {
-                GroupRead::Setting(s) => {
-                    settings[GROUPS_FROM + g] = s;
-                    g += 1;
-                }
-                GroupRead::Unlisted(_) => {
-                    return false;
-                }
-            }
+            let GroupRead::Setting(setting) = setting_of(table, g, pattern) else {
+                return false;
+            };
+            settings[GROUPS_FROM + g] = setting;
+            g += 1;
         }
     }
     true

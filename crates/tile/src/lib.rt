@@ -35,14 +35,9 @@ pub fn tile_fault(table: &[u16], own: &[u16], bits: &[u64]) -> usize
         (length bits.now ≡ tile_numbers) }
     ensures { result ≡ tile_fault table.now (tile_of bits.now) }
 {
-    let mut p = 0;
-    while p < POSITIONS {
-        if is_fault_at(table, own, bits, p) {
-            return p;
-        }
-        p += 1;
-    }
-    p
+    (0..POSITIONS)
+        .find(|p| is_fault_at(table, own, bits, *p))
+        .unwrap_or(POSITIONS)
 }
 
 // A tile's settings read from its bits; the cells go through the array by value. Many tiles of a block have no bit set, and take no time.
@@ -52,27 +47,18 @@ pub fn decode_tile(table: &[u16], bits: &[u64], settings: &mut [u16])
     ensures { settings.new ≡ decode table.now (bit_at bits.now) }
 {
     if is_empty(bits) {
-        lists::clear(settings);
+        settings.fill(0);
         return;
     }
-    let mut n = 0;
-    while n < GROUPS_FROM {
+    for n in 0..GROUPS_FROM {
         settings[n] = setting_at(table, bits, n);
-        n += 1;
     }
     let count = routing::table::group_count(table);
-    let mut g = 0;
-    while g < count {
+    for g in 0..count {
         settings[GROUPS_FROM + g] = group_setting(table, g, bits);
-        g += 1;
     }
-    let mut rest = GROUPS_FROM + count;
-    while rest < CELLS_FROM {
-        settings[rest] = 0;
-        rest += 1;
-    }
-    let cells = decode_cells(bits);
-    put_cells(settings, cells);
+    settings[GROUPS_FROM + count..CELLS_FROM].fill(0);
+    put_cells(settings, decode_cells(bits));
 }
 
 // The lowest position at fault, with cleared settings; where there is none, 864 with the settings read. Only of a tile that cannot be decoded are
@@ -85,36 +71,34 @@ pub fn read_tile(table: &[u16], own: &[u16], bits: &[u64], settings: &mut [u16])
     ensures cleared { result < logic_tile.positions → settings.new ≡ zeros settings_length }
 {
     if try_decode(table, own, bits, settings) {
-        return POSITIONS;
+        POSITIONS
+    } else {
+        settings.fill(0);
+        tile_fault(table, own, bits)
     }
-    lists::clear(settings);
-    tile_fault(table, own, bits)
 }
 
 // The fields written to bits that hold the cells.
+#[tactic(auto, using(codec::proofs::TileRunLaws::field_position_lt, codec::proofs::LimitLaws::fit_field))]
 fn write_fields(table: &[u16], settings: &[u16], bits: &mut [u64])
     requires { (Writable table.now settings.now) × (TileWritten table.now settings.now (field_slots logic_tile) bits.old) }
     ensures { TileWritten table.now settings.now (passive_slots logic_tile) bits.new }
 {
-    let mut f = 0;
-    while f < PASSIVES_FROM {
+    for f in 0..PASSIVES_FROM {
         let p = routing::table::field(table, f);
         write_bit(bits, p, settings[f] as u8);
-        f += 1;
     }
 }
 
 // The passive bits written after the fields.
+#[tactic(auto, using(codec::proofs::TileRunLaws::passive_position_lt, codec::proofs::LimitLaws::fit_passive))]
 fn write_passives(table: &[u16], settings: &[u16], bits: &mut [u64])
     requires { (Writable table.now settings.now) × (TileWritten table.now settings.now (passive_slots logic_tile) bits.old) }
     ensures { TileWritten table.now settings.now (group_slots logic_tile) bits.new }
 {
-    let n = routing::table::passive_count(table);
-    let mut j = 0;
-    while j < n {
+    for j in 0..routing::table::passive_count(table) {
         let p = routing::table::passive(table, j);
         write_bit(bits, p, settings[PASSIVES_FROM + j] as u8);
-        j += 1;
     }
 }
 
@@ -144,7 +128,7 @@ pub fn encode_tile(table: &[u16], settings: &[u16], bits: &mut [u64])
         (settings_fit table.now settings.now ≡ true) × (length bits.old ≡ tile_numbers) }
     ensures { bits.new ≡ encode table.now settings.now }
 {
-    lists::clear_words(bits);
+    bits.fill(0);
     encode_cells(settings, bits);
     write_fields(table, settings, bits);
     write_passives(table, settings, bits);
@@ -158,16 +142,9 @@ pub fn settings_fit(limits: &[u16; SETTINGS_LENGTH], settings: &[u16]) -> bool
     requires { length settings.now ≡ settings_length }
     ensures { result ≡ fits_within limits.now settings.now }
 {
-    if has_both_carries(settings) {
-        return false;
-    }
-    let mut fit = true;
-    let mut n = 0;
-    while n < SETTINGS_LENGTH {
-        if limits[n] < settings[n] {
-            fit = false;
-        }
-        n += 1;
-    }
-    fit
+    !has_both_carries(settings)
+        && settings
+            .iter()
+            .zip(limits)
+            .fold(true, |fit, (setting, limit)| fit & (*setting <= *limit))
 }

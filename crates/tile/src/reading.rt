@@ -27,17 +27,16 @@ fn take_bit(table: &[u16], own: &[u16], bits: &[u64], p: usize, settings: &mut [
         Taken table.now settings.new p }
     ensures no { result ≡ false → Undecodable table.now bits.now }
 {
-    let code = own[p] as usize;
+    let code = usize::from(own[p]);
     if code < FIELD_CODES {
         return code != 0;
     }
     if code < GROUP_CODES {
         settings[code - FIELD_CODES] = 1;
-        return true;
+    } else {
+        let n = code - GROUP_CODES;
+        settings[GROUPS_FROM + n / MAX_POSITIONS] |= 1 << (n % MAX_POSITIONS);
     }
-    let n = code - GROUP_CODES;
-    let i = GROUPS_FROM + n / MAX_POSITIONS;
-    settings[i] = settings[i] | (1 << (n % MAX_POSITIONS));
     true
 }
 
@@ -85,21 +84,18 @@ pub fn try_decode(table: &[u16], own: &[u16], bits: &[u64], settings: &mut [u16]
     ensures answer { result ≡ eqb (tile_fault table.now (tile_of bits.now)) logic_tile.positions }
     ensures settings { result ≡ true → settings.new ≡ decode table.now (bit_at bits.now) }
 {
-    lists::clear(settings);
+    settings.fill(0);
     if is_empty(bits) {
         return true;
     }
-    let mut i = 0;
-    while i < TILE_NUMBERS {
+    for i in 0..TILE_NUMBERS {
         if !take_row(table, own, bits, i, settings) {
             return false;
         }
-        i += 1;
     }
     if !find_settings(table, settings) {
         return false;
     }
-    let cells = decode_cells(bits);
-    put_cells(settings, cells);
+    put_cells(settings, decode_cells(bits));
     !has_both_carries(settings)
 }

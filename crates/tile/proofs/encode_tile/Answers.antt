@@ -13,7 +13,7 @@ write_fields-requires c = (
   (record { rules = c.requires.0; long = c.requires.1; fit = c.requires.2 }),
   cells_end c.args.table.now
       c.args.settings.now _ (record { rules = c.requires.0; long = c.requires.1; fit = c.requires.2 }) _ _ c.requires.3
-      c.clear_words.ensures c.encode_cells.ensures,
+      (c.fill.ensures.after (λ y e. e)) c.encode_cells.ensures,
 )
 
 pub returns : goal.returns

@@ -12,8 +12,8 @@ use Rattle.moments.specs.Clocking.{Clockable}
 use Rattle.moments.specs.Checks.{settings_answer, bytes_answer}
 use Rattle.moments.specs.Clocking.{clock_answer}
 use Rattle.moments.specs.Lengths.{clock_lent, ClockLong}
-use Rattle.sim.proofs.ByteLaws.{bits_of}
-use Rattle.moments.proofs.ByteLaws.{bits_left, bits_right, bits_append, none_of_bits, bytes_done, bytes_shows}
+use Rattle.sim.proofs.ByteLaws.{bits_of, bits_left, bits_right, bits_append, none_of_bits}
+use Rattle.moments.proofs.ByteLaws.{bytes_done, bytes_shows}
 
 -- ---- ground 10, of three joined
 

@@ -29,9 +29,9 @@ use Rattle.sim.specs.Stepping.{bad_byte}
 use Rattle.moments.specs.Checks.{settings_answer, bytes_answer}
 use Rattle.moments.specs.Settling.{run_answer, settle_answer}
 use Rattle.moments.specs.Meaning.{Stands}
-use Rattle.sim.proofs.ByteLaws.{bits_of}
+use Rattle.sim.proofs.ByteLaws.{bits_of, bits_left, bits_right}
 use Rattle.sim.proofs.StepLaws.{bad_row_first}
-use Rattle.moments.proofs.ByteLaws.{bits_left, bits_right, bytes_shows}
+use Rattle.moments.proofs.ByteLaws.{bytes_shows}
 
 -- ---- grounds 12 and 10
 

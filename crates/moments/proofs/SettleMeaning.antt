@@ -32,8 +32,8 @@ use Rattle.moments.specs.declared.lengths.SettleLent.{SettleLent}
 use Rattle.moments.specs.declared.lengths.SettleRoomLent.{SettleRoomLent}
 use Rattle.moments.specs.Lengths.{settle_lent, settle_exact, SettleLong}
 use Rattle.moments.specs.Meaning.{Settleable, Stands, SettleNo, SettleSays, wrong_size, wrong_length, broken, bitless, bad_row_lem, not_a_bit}
-use Rattle.sim.proofs.ByteLaws.{bits_of}
-use Rattle.moments.proofs.ByteLaws.{bits_left, bits_right, bits_append, none_of_bits, bytes_bad, bytes_done, first_above, above_is}
+use Rattle.sim.proofs.ByteLaws.{bits_of, bits_left, bits_right, bits_append, none_of_bits}
+use Rattle.moments.proofs.ByteLaws.{bytes_bad, bytes_done, first_above, above_is}
 use Rattle.moments.proofs.ChecksLaws.{settings_table, settings_bitless, settings_later}
 use Rattle.moments.proofs.LengthLaws.{settle_long_exact}
 use Rattle.sim.proofs.StepLaws.{bad_row_first}

@@ -8,11 +8,12 @@ ghost use Rattle.moments.specs.Checks.{settings_answer, bytes_answer};
 ghost use Rattle.moments.specs.Lengths.{clock_lent, ClockLong};
 
 use crate::cells;
-use crate::checks::{check_settings, check_settled};
 use ports::size::{Size, tile_count};
 use refusal::Refusal;
+use sim::checks::{check_bytes, check_settings};
 
 // Grounds 3, 9 and 10, and on a yes what is written.
+#[tactic(auto, unfolding(crate::specs::Checks::settings_answer, crate::specs::Checks::bytes_answer))]
 pub fn clock_checked(
     s: Size,
     table: &[u16],
@@ -29,7 +30,7 @@ pub fn clock_checked(
         (next_states s settings.now (handed before.now) (handed after.now) state.now) }
 {
     check_settings(table, settings, tile_count(s))?;
-    check_settled(state, before, after)?;
+    check_bytes(state, before, after)?;
     cells::clock(s, settings, before, after, state, next);
     Ok(())
 }

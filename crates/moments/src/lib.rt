@@ -22,7 +22,6 @@ use ports::size::{Block, Size};
 use refusal::Refusal;
 
 pub mod cells;
-mod checks;
 mod clocking;
 pub mod lengths;
 mod settling;
@@ -71,7 +70,7 @@ pub fn settle(
         list: list.len(),
         state: state.len(),
         lent: lent.len(),
-        room: room,
+        room,
     };
     if !is_settle_exact(b, all) {
         return Err(Refusal::WrongLength);
@@ -79,9 +78,9 @@ pub fn settle(
     let r = settling::settle_checked(
         b, table, settings, list, state, lent, values, wires, own, marks,
     );
-    lists::clear(wires);
-    lists::clear(own);
-    lists::clear(marks);
+    wires.fill(0);
+    own.fill(0);
+    marks.fill(0);
     r
 }
 

@@ -8,12 +8,13 @@ ghost use Rattle.moments.specs.Checks.{settings_answer};
 ghost use Rattle.moments.specs.Settling.{run_answer};
 ghost use Rattle.moments.specs.Lengths.{settle_room_lent, settle_lent, SettleLong};
 
-use crate::checks::{check_run, check_settings};
 use crate::spread::settle_ports;
 use ports::size::Block;
 use refusal::Refusal;
+use sim::checks::{check_bytes, check_rows, check_settings};
 
 // Grounds 3, 9, 12 and 10, and on a yes what is written.
+#[tactic(auto, unfolding(crate::specs::Checks::settings_answer, crate::specs::Checks::bytes_answer, crate::specs::Settling::run_answer))]
 pub fn settle_checked(
     b: Block,
     table: &[u16],
@@ -34,7 +35,8 @@ pub fn settle_checked(
         (port_values b (settled_by b list.now state.now lent.now)) }
 {
     check_settings(table, settings, (b.h * b.w) as usize)?;
-    check_run(b, list, state, lent, wires, own, marks)?;
+    check_rows(b, list, state.len(), wires, own, marks)?;
+    check_bytes(state, lent, &[])?;
     settle_ports(b, list, state, lent, wires, own, values);
     Ok(())
 }

@@ -7,7 +7,6 @@ ghost use Rattle.fabric.specs.Wire.{wires_of};
 ghost use Rattle.stepper.specs.Settling.{settled_by, port_values, wire_marks, Runnable};
 
 use netlist::check::count_wires;
-use netlist::row::wide;
 use ports::size::Block;
 use stepper::settle::settle;
 
@@ -38,12 +37,7 @@ pub fn spread_values(b: Block, wires: &[u16], values: &mut [u8])
     requires { (wires.now ≡ wires_of b) × (length values.old ≡ ports b) }
     ensures { values.new ≡ port_values b values.old }
 {
-    let n = values.len();
-    let mut p = 0;
-    while p < n {
-        let w = wide(wires[p]);
-        let v = values[w];
-        values[p] = v;
-        p += 1;
+    for (p, wire) in wires.iter().enumerate() {
+        values[p] = values[usize::from(*wire)];
     }
 }

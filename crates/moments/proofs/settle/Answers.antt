@@ -36,4 +36,4 @@ returns c =
     let cleared : (old : List ℕ) (n : ℕ) → n ≡ length old → zeros n ≡ work_room (answer_number r) old =
     λ old n l. settle_cleared a.b a.table.now a.settings.now a.list.now a.state.now a.lent.now old r n done.answer l in
     let answer = done.answer ∙ settle_inputs a.b a.table.now a.settings.now a.list.now a.state.now a.lent.now _ is (sym c.is_settle_exact.ensures ∙ c.if-not-is_settle_exact.false) in
-    record { answer = answer; values = done.values; wires = c.clear.ensures ∙ cleared a.wires.now _ kept.wires; own = c.clear-2.ensures ∙ cleared a.own.now _ kept.own; marks = c.clear-3.ensures ∙ cleared a.marks.now _ kept.marks; says = settle_says a.b a.table.now a.settings.now a.list.now a.state.now a.lent.now (settle_room_lent a.values.now a.wires.now a.own.now a.marks.now) _ answer }
+    record { answer = answer; values = done.values; wires = c.fill.ensures.after (λ y e. e) ∙ cleared a.wires.now _ kept.wires; own = c.fill-2.ensures.after (λ y e. e) ∙ cleared a.own.now _ kept.own; marks = c.fill-3.ensures.after (λ y e. e) ∙ cleared a.marks.now _ kept.marks; says = settle_says a.b a.table.now a.settings.now a.list.now a.state.now a.lent.now (settle_room_lent a.values.now a.wires.now a.own.now a.marks.now) _ answer }

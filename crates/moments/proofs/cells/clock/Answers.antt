@@ -1,4 +1,4 @@
--- `cells::clock` meets its contract. Invariant: the first c states are the next ones (`Filled`). Measure: the cells that are left. Assumes nothing.
+-- `cells::clock` meets its contract. Invariant: the first c states are the next ones (`Filled`). Assumes nothing.
 use Rattle.moments.specs.Clocking.{next_states}
 use Rattle.lists.proofs.TableLaws.{filled_end}
 use native.Mathlib.Omega.{arith}
@@ -6,4 +6,4 @@ use Rattle.moments.proofs.cells.clock.Goals as goal
 
 pub returns : goal.returns
 unfolding next_states
-returns c = filled_end _ 0 _ _ _ c.loop-c.invariant.0 (omega arith)
+returns c = filled_end _ 0 _ _ _ c.loop-c.invariant (omega arith)

@@ -1,33 +1,16 @@
--- `clocking::clock_checked` meets its contract: a no keeps the output, a yes shows that the cells can be clocked. Assumes nothing.
-use Rattle.std.proofs.lemmas.Result.{err_from_is_err_and}
-use Rattle.moments.proofs.ClockLaws.{bytes_clockable}
-use Rattle.moments.proofs.ChecksLaws.{settings_no, settings_yes}
-use Rattle.moments.specs.Checks.{settings_answer, bytes_answer}
-use lib.ListN.{length}
-use mathlib.Core.Path.{sym, ◌∙◌, ap}
+-- `clocking::clock_checked` meets its contract: a yes of the checks shows that the cells can be clocked. Assumes nothing.
+use mathlib.Core.Path.{◌≡◌}
 use mathlib.Core.List.{◌++◌}
-use Prim.Native.Nat.{ℕ}
+use lib.ListN.{length}
+use Rattle.std.proofs.Common.{rules}
+use Rattle.std.specs.Prelude.{Ok}
+use Rattle.moments.proofs.ClockLaws.{bytes_clockable}
+use Rattle.moments.specs.Checks.{bytes_answer}
 use Rattle.moments.proofs.clocking.clock_checked.Goals as goal
 
-pub returns-in_err-check_settings-clause-answer : goal.returns-in_err-check_settings-clause-answer
-returns-in_err-check_settings-clause-answer c =
-    let a = c.args in
-    let e = c.in_err-check_settings.was in
-    let bytes = bytes_answer (a.state.now ++ a.before.now ++ a.after.now) in
-    let p = err_from_is_err_and c.from_residual.result c.from_residual.ensures.1 in
-    rw (p.1, p.2) (settings_no a.table.now a.settings.now c.tile_count.result bytes _ (sym c.check_settings.ensures ∙ e)
-    ∙ ap (λ (n : ℕ). settings_answer a.table.now a.settings.now n bytes) c.tile_count.ensures.0)
-
-pub returns-in_err-check_settled-clause-answer : goal.returns-in_err-check_settled-clause-answer
-returns-in_err-check_settled-clause-answer c =
-    let a = c.args in
-    let bytes = bytes_answer (a.state.now ++ a.before.now ++ a.after.now) in
-    let p = err_from_is_err_and c.from_residual-in_err-check_settled.result c.from_residual-in_err-check_settled.ensures.1 in
-    rw (p.1, p.2) (sym c.in_err-check_settled.was ∙ c.check_settled.ensures
-    ∙ settings_yes a.table.now a.settings.now c.tile_count.result bytes (sym c.check_settings.ensures ∙ c.in_ok-check_settings.was)
-    ∙ ap (λ (n : ℕ). settings_answer a.table.now a.settings.now n bytes) c.tile_count.ensures.0)
-
 pub clock-requires : goal.clock-requires
+unfolding bytes_answer
 clock-requires c =
     let a = c.args in
-    (bytes_clockable a.s a.table.now a.settings.now a.state.now a.before.now a.after.now (length a.next.now) c.requires.0 c.requires.1 (sym c.check_settled.ensures ∙ c.in_ok-check_settled.was), c.requires.1.next_long)
+    let passed : bytes_answer (a.state.now ++ a.before.now ++ a.after.now) ≡ (Ok tt) = search rules in
+    (bytes_clockable a.s a.table.now a.settings.now a.state.now a.before.now a.after.now (length a.next.now) c.requires.0 c.requires.1 passed, c.requires.1.next_long)

@@ -2,7 +2,7 @@
 use Rattle.refusal.specs.declared.Refusal.{Refusal}
 use Rattle.std.specs.Prelude.{ℕ, Bool, List, leb, Result, Ok, Err}
 use Rattle.lists.specs.Listing.{zero_filled}
-use Rattle.refusal.specs.Grounds.{unless, number_of, place_of}
+use Rattle.refusal.specs.Grounds.{unless}
 use Rattle.refusal.specs.declared.Refusal.TheVariants.{ListTooShort}
 use Rattle.ports.specs.declared.size.Block.{Block}
 use Rattle.ports.specs.Block.{tiles}

@@ -1,6 +1,6 @@
 // How many cells are in use, and how many flip-flops there are.
-ghost use Rattle.std.specs.Prelude.{◌≡◌, ◌*◌, ◌/◌, ◌≤◌, length};
-ghost use Rattle.lists.specs.Search.{count_below};
+ghost use Rattle.std.specs.Prelude.{◌≡◌, ◌*◌, ◌/◌, ◌≤◌, length, count_by};
+ghost use Rattle.std.specs.List.{range_with_len};
 ghost use Rattle.ports.specs.Lengths.{settings_length};
 ghost use Rattle.equations.specs.Tiles.{TileInside};
 ghost use Rattle.card.specs.Cells.{used_cell, flop_cell};
@@ -16,10 +16,7 @@ fn is_used(st: &[u16], c: usize) -> bool
 {
     let tile = c / CELLS_PER_TILE;
     let n = CELLS_FROM + 2 * (c % CELLS_PER_TILE);
-    if tile_setting(st, tile, n) != 0 {
-        return true;
-    }
-    tile_setting(st, tile, n + 1) != 0
+    tile_setting(st, tile, n) != 0 || tile_setting(st, tile, n + 1) != 0
 }
 
 // Whether cell c of a block has its flip-flop enabled.
@@ -27,40 +24,21 @@ pub fn is_flop(st: &[u16], c: usize) -> bool
     requires { TileInside st.now (c / 8) }
     ensures { result ≡ flop_cell st.now c }
 {
-    let cell = cell_at(st, c / CELLS_PER_TILE, c % CELLS_PER_TILE);
-    cell.flipflop
+    cell_at(st, c / CELLS_PER_TILE, c % CELLS_PER_TILE).flipflop
 }
 
 // How many of the cells of n tiles are not all zero.
 pub fn count_used(st: &[u16], n: usize) -> usize
     requires { (n ≤ 64) × (length st.now ≡ settings_length * n) }
-    ensures { result ≡ count_below (used_cell st.now) (8 * n) }
+    ensures { result ≡ count_by (used_cell st.now) (range_with_len 0 (8 * n)) }
 {
-    let cells = CELLS_PER_TILE * n;
-    let mut k = 0;
-    let mut c = 0;
-    while c < cells {
-        if is_used(st, c) {
-            k += 1;
-        }
-        c += 1;
-    }
-    k
+    (0..CELLS_PER_TILE * n).filter(|c| is_used(st, *c)).count()
 }
 
 // How many of the cells of n tiles are flip-flops.
 pub fn count_flops(st: &[u16], n: usize) -> usize
     requires { (n ≤ 64) × (length st.now ≡ settings_length * n) }
-    ensures { result ≡ count_below (flop_cell st.now) (8 * n) }
+    ensures { result ≡ count_by (flop_cell st.now) (range_with_len 0 (8 * n)) }
 {
-    let cells = CELLS_PER_TILE * n;
-    let mut k = 0;
-    let mut c = 0;
-    while c < cells {
-        if is_flop(st, c) {
-            k += 1;
-        }
-        c += 1;
-    }
-    k
+    (0..CELLS_PER_TILE * n).filter(|c| is_flop(st, *c)).count()
 }

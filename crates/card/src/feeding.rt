@@ -10,7 +10,7 @@ use crate::cells::is_flop;
 use crate::marks::mark_ports;
 use equations::rows::row_of;
 use netlist::row;
-use netlist::row::{Row, wide};
+use netlist::row::Row;
 use ports::lengths::CELLS_PER_TILE;
 use ports::size::Block;
 
@@ -19,13 +19,12 @@ fn mark_flop(b: Block, st: &[u16], wires: &[u16], c: usize, marks: &mut [u16])
     requires { Mapped b st.now wires.now × (c < 8 * tiles b) × (length marks.old ≡ ports b) }
     ensures { marks.new ≡ flop_mark b st.now c marks.old }
 {
-    if !is_flop(st, c) {
-        return;
+    if is_flop(st, c) {
+        let tile = c / CELLS_PER_TILE;
+        let i = (c % CELLS_PER_TILE) as u32;
+        mark_ports(b, wires, tile, ports::IN + 4 * i, 4, marks);
+        mark_ports(b, wires, tile, ports::CLK, 3, marks);
     }
-    let tile = c / CELLS_PER_TILE;
-    let i = (c % CELLS_PER_TILE) as u32;
-    mark_ports(b, wires, tile, ports::IN + 4 * i, 4, marks);
-    mark_ports(b, wires, tile, ports::CLK, 3, marks);
 }
 
 // The same of every cell.
@@ -34,10 +33,8 @@ fn mark_flops(b: Block, st: &[u16], wires: &[u16], marks: &mut [u16])
     ensures { marks.new ≡ flop_marks b st.now (8 * tiles b) marks.old }
 {
     let cells = CELLS_PER_TILE * (b.h * b.w) as usize;
-    let mut c = 0;
-    while c < cells {
+    for c in 0..cells {
         mark_flop(b, st, wires, c, marks);
-        c += 1;
     }
 }
 
@@ -46,12 +43,9 @@ fn mark_reads(row: Row, marks: &mut [u16])
     requires { ReadsWithin (length marks.old) row }
     ensures { marks.new ≡ read_marks row (arity_of row) marks.old }
 {
-    let n = row::arity(row);
-    let mut j = 0;
-    while j < n {
-        let d = wide(row::operand(row, j));
+    for j in 0..row::arity(row) {
+        let d = usize::from(row::operand(row, j));
         marks[d] = 1;
-        j += 1;
     }
 }
 
@@ -61,11 +55,10 @@ fn touch_row(list: &[u16], i: usize, marks: &mut [u16])
     ensures { marks.new ≡ touched (row_at list.now i) marks.old }
 {
     let row = row::row_at(list, i);
-    let w = wide(row.wire);
-    if marks[w] == 0 {
-        return;
+    let w = usize::from(row.wire);
+    if marks[w] != 0 {
+        mark_reads(row, marks);
     }
-    mark_reads(row, marks);
 }
 
 // What the marked wires depend on, at any distance, is marked too. A row reads only wires of earlier rows, so one pass is enough: from the last row down.
@@ -73,9 +66,7 @@ fn mark_reached(list: &[u16], count: usize, marks: &mut [u16])
     requires { RowsTouchable list.now count (length marks.old) }
     ensures { marks.new ≡ reach list.now count marks.old }
 {
-    let mut i = count;
-    while 0 < i {
-        i -= 1;
+    for i in (0..count).rev() {
         touch_row(list, i, marks);
     }
 }
@@ -85,8 +76,7 @@ fn is_open(b: Block, st: &[u16], wires: &[u16], sources: &[u16], p: usize) -> bo
     requires { Mapped b st.now wires.now × (length sources.now ≡ ports b) × (p < ports b) }
     ensures { result ≡ open_from b st.now sources.now p }
 {
-    let row = row_of(b, st, wires, sources, p);
-    row.kind == row::LENT
+    row_of(b, st, wires, sources, p).kind == row::LENT
 }
 
 // A mark stays where the wire is open.
@@ -94,24 +84,17 @@ fn keep_open_at(b: Block, st: &[u16], wires: &[u16], sources: &[u16], w: usize, 
     requires { Mapped b st.now wires.now × (length sources.now ≡ ports b) × (length marks.old ≡ ports b) × (w < ports b) }
     ensures { marks.new ≡ kept_at (open_from b st.now sources.now) w marks.old }
 {
-    if marks[w] == 0 {
-        return;
+    if marks[w] != 0 && !is_open(b, st, wires, sources, w) {
+        marks[w] = 0;
     }
-    if is_open(b, st, wires, sources, w) {
-        return;
-    }
-    marks[w] = 0;
 }
 
 fn keep_open(b: Block, st: &[u16], wires: &[u16], sources: &[u16], marks: &mut [u16])
     requires { Mapped b st.now wires.now × (length sources.now ≡ ports b) × (length marks.old ≡ ports b) }
     ensures { marks.new ≡ open_marks b st.now sources.now marks.old }
 {
-    let n = marks.len();
-    let mut w = 0;
-    while w < n {
+    for w in 0..marks.len() {
         keep_open_at(b, st, wires, sources, w, marks);
-        w += 1;
     }
 }
 

@@ -1,10 +1,10 @@
 // The wires that leave the block: those with an enabled switch and a port whose join to another tile fails, as that tile is outside.
-ghost use Rattle.std.specs.Prelude.{◌≡◌, ◌<◌, length};
+ghost use Rattle.std.specs.Prelude.{◌≡◌, ◌+◌, ◌<◌, ◌≤◌, cond, length, fold, All};
 ghost use Rattle.lists.specs.Tables.{zeros};
 ghost use Rattle.ports.specs.Block.{Sized, tiles};
-ghost use Rattle.ports.specs.Lengths.{ports};
+ghost use Rattle.ports.specs.Lengths.{ports, ports_per_tile};
 ghost use Rattle.fabric.specs.Wire.{wires_of};
-ghost use Rattle.card.specs.Marks.{west_marks, east_marks, south_marks, north_marks, exit_marks, driven_marks};
+ghost use Rattle.card.specs.Marks.{mark_ports, exit_marks, driven_marks};
 
 use crate::marks::mark_ports;
 use ports::size::Block;
@@ -14,54 +14,40 @@ const SP4: u32 = 48;
 
 const SP12: u32 = 24;
 
-// In the west column, sp4_h_l and sp12_h_l go out to the west, and sp4_v_b is the sp4_r_v_b of a tile there.
-fn mark_west(b: Block, wires: &[u16], tile: usize, marks: &mut [u16])
-    requires { Sized b × (wires.now ≡ wires_of b) × (tile < tiles b) × (length marks.old ≡ ports b) }
-    ensures { marks.new ≡ west_marks b tile marks.old }
-{
-    if tile % (b.w as usize) != 0 {
-        return;
-    }
-    mark_ports(b, wires, tile, ports::SP4_H_L, SP4, marks);
-    mark_ports(b, wires, tile, ports::SP4_V_B, SP4, marks);
-    mark_ports(b, wires, tile, ports::SP12_H_L, SP12, marks);
-}
+// The spans that go out on each side: their first port, and how many they are. In the west, sp4_v_b is the sp4_r_v_b of a tile there.
+const WEST: [(u32, u32); 3] = [
+    (ports::SP4_H_L, SP4),
+    (ports::SP4_V_B, SP4),
+    (ports::SP12_H_L, SP12),
+];
 
-// In the east column, sp4_h_r, sp4_r_v_b and sp12_h_r go out to the east.
-fn mark_east(b: Block, wires: &[u16], tile: usize, marks: &mut [u16])
-    requires { Sized b × (wires.now ≡ wires_of b) × (tile < tiles b) × (length marks.old ≡ ports b) }
-    ensures { marks.new ≡ east_marks b tile marks.old }
-{
-    if tile % (b.w as usize) + 1 != b.w as usize {
-        return;
-    }
-    mark_ports(b, wires, tile, ports::SP4_H_R, SP4, marks);
-    mark_ports(b, wires, tile, ports::SP4_R_V_B, SP4, marks);
-    mark_ports(b, wires, tile, ports::SP12_H_R, SP12, marks);
-}
+const EAST: [(u32, u32); 3] = [
+    (ports::SP4_H_R, SP4),
+    (ports::SP4_R_V_B, SP4),
+    (ports::SP12_H_R, SP12),
+];
 
-// In the bottom row, sp4_v_b and sp12_v_b go out to the south.
-fn mark_south(b: Block, wires: &[u16], tile: usize, marks: &mut [u16])
-    requires { Sized b × (wires.now ≡ wires_of b) × (tile < tiles b) × (length marks.old ≡ ports b) }
-    ensures { marks.new ≡ south_marks b tile marks.old }
-{
-    if tile / (b.w as usize) != 0 {
-        return;
-    }
-    mark_ports(b, wires, tile, ports::SP4_V_B, SP4, marks);
-    mark_ports(b, wires, tile, ports::SP12_V_B, SP12, marks);
-}
+const SOUTH: [(u32, u32); 2] = [(ports::SP4_V_B, SP4), (ports::SP12_V_B, SP12)];
 
-// In the top row, sp4_v_t and sp12_v_t go out to the north.
-fn mark_north(b: Block, wires: &[u16], tile: usize, marks: &mut [u16])
-    requires { Sized b × (wires.now ≡ wires_of b) × (tile < tiles b) × (length marks.old ≡ ports b) }
-    ensures { marks.new ≡ north_marks b tile marks.old }
+const NORTH: [(u32, u32); 2] = [(ports::SP4_V_T, SP4), (ports::SP12_V_T, SP12)];
+
+// The wires of these spans are marked, if the tile stands on their side of the block.
+fn mark_side(
+    b: Block,
+    wires: &[u16],
+    tile: usize,
+    at_side: bool,
+    spans: &[(u32, u32)],
+    marks: &mut [u16],
+)
+    requires { (wires.now ≡ wires_of b) × (tile < tiles b) × All (λ s. s.0 + s.1 ≤ ports_per_tile) spans.now × (length marks.old ≡ ports b) }
+    ensures { marks.new ≡ cond at_side (fold (λ m s. mark_ports b tile s.0 s.1 m) marks.old spans.now) marks.old }
 {
-    if tile / (b.w as usize) + 1 != b.h as usize {
-        return;
+    if at_side {
+        for (from, count) in spans {
+            mark_ports(b, wires, tile, *from, *count, marks);
+        }
     }
-    mark_ports(b, wires, tile, ports::SP4_V_T, SP4, marks);
-    mark_ports(b, wires, tile, ports::SP12_V_T, SP12, marks);
 }
 
 // The wires with a port that goes out, driven or not, marked in a cleared room.
@@ -69,29 +55,28 @@ fn mark_exits(b: Block, wires: &[u16], marks: &mut [u16])
     requires { Sized b × (wires.now ≡ wires_of b) × (length marks.old ≡ ports b) }
     ensures { marks.new ≡ exit_marks b (tiles b) marks.old }
 {
-    let tiles = (b.h * b.w) as usize;
-    let mut tile = 0;
-    while tile < tiles {
-        mark_west(b, wires, tile, marks);
-        mark_east(b, wires, tile, marks);
-        mark_south(b, wires, tile, marks);
-        mark_north(b, wires, tile, marks);
-        tile += 1;
+    let w = b.w as usize;
+    let h = b.h as usize;
+    for tile in 0..h * w {
+        let x = tile % w;
+        let y = tile / w;
+        mark_side(b, wires, tile, x == 0, &WEST, marks);
+        mark_side(b, wires, tile, x + 1 == w, &EAST, marks);
+        mark_side(b, wires, tile, y == 0, &SOUTH, marks);
+        mark_side(b, wires, tile, y + 1 == h, &NORTH, marks);
     }
 }
 
-// Marks stay where a switch ends, by the map of sources.
+// Marks stay where a switch ends, by the map of sources, read at the mark's place: a zip of the two takes longer.
 // Rules out: a wire without a switch.
 fn keep_driven(sources: &[u16], marks: &mut [u16])
     requires { length sources.now ≡ length marks.old }
     ensures { marks.new ≡ driven_marks sources.now marks.old }
 {
-    let mut w = 0;
-    while w < marks.len() {
+    for (w, mark) in marks.iter_mut().enumerate() {
         if sources[w] == 0 {
-            marks[w] = 0;
+            *mark = 0;
         }
-        w += 1;
     }
 }
 
@@ -100,7 +85,7 @@ pub fn mark_leaving(b: Block, wires: &[u16], sources: &[u16], marks: &mut [u16])
     requires { Sized b × (wires.now ≡ wires_of b) × (length sources.now ≡ ports b) × (length marks.old ≡ ports b) }
     ensures { marks.new ≡ driven_marks sources.now (exit_marks b (tiles b) (zeros (ports b))) }
 {
-    lists::clear(marks);
+    marks.fill(0);
     mark_exits(b, wires, marks);
     keep_driven(sources, marks);
 }

@@ -82,12 +82,12 @@ pub fn shelf_card(
     let r = make::card_bits(
         b, table, bits, card, list, settings, wires, sources, rows, marks, queue,
     );
-    lists::clear(list);
-    lists::clear(settings);
-    lists::clear(wires);
-    lists::clear(sources);
-    lists::clear(rows);
-    lists::clear(marks);
-    lists::clear(queue);
+    list.fill(0);
+    settings.fill(0);
+    wires.fill(0);
+    sources.fill(0);
+    rows.fill(0);
+    marks.fill(0);
+    queue.fill(0);
     r
 }

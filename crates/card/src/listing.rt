@@ -15,11 +15,14 @@ fn put_head(b: Block, cells: usize, flops: usize, leaving: usize, card: &mut [u1
     requires { Sized b × (cells < 65536) × (flops < 65536) × (leaving < 65536) × (5 ≤ length card.old) }
     ensures { card.new ≡ sets card.old 0 (b.w ∷ b.h ∷ cells ∷ flops ∷ leaving ∷ []) }
 {
-    card[0] = b.w as u16;
-    card[1] = b.h as u16;
-    card[2] = cells as u16;
-    card[3] = flops as u16;
-    card[4] = leaving as u16;
+    let head = [
+        b.w as u16,
+        b.h as u16,
+        cells as u16,
+        flops as u16,
+        leaving as u16,
+    ];
+    card[0..HEAD].copy_from_slice(&head);
 }
 
 // The numbers of the marked wires, rising, put in from `from` on; the answer is where they end.
@@ -29,13 +32,11 @@ fn put_wires(marks: &[u16], card: &mut [u16], from: usize) -> usize
     ensures card { card.new ≡ sets card.old from (marked marks.now) }
 {
     let mut at = from;
-    let mut w = 0;
-    while w < marks.len() {
-        if marks[w] != 0 {
+    for (w, mark) in marks.iter().enumerate() {
+        if *mark != 0 {
             card[at] = w as u16;
             at += 1;
         }
-        w += 1;
     }
     at
 }
@@ -80,7 +81,6 @@ pub fn write_card(
     ensures { card.new ≡ zero_filled (length card.old)
         (numbers_of b cells flops left.now fed.now) }
 {
-    let len = card.len();
     let end = put_numbers(b, cells, flops, leaving, feeding, left, fed, card);
-    lists::clear(&mut card[end..len]);
+    card[end..].fill(0);
 }

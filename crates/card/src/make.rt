@@ -24,7 +24,13 @@ use ports::size::Block;
 use refusal::Refusal;
 
 // Ground 15 of a block whose wires are marked, and the card.
-fn put_card(b: Block, st: &[u16], left: &[u16], fed: &[u16], card: &mut [u16]) -> Result<u32, Refusal>
+fn put_card(
+    b: Block,
+    st: &[u16],
+    left: &[u16],
+    fed: &[u16],
+    card: &mut [u16],
+) -> Result<u32, Refusal>
     requires { Sized b × (length st.now ≡ settings_length * tiles b) × (length left.now ≡ ports b) ×
         (length fed.now ≡ ports b) }
     ensures answer { result ≡ numbers_answer (needed left.now fed.now) (length card.old) }
@@ -67,7 +73,7 @@ fn card_settings(
     wiring::fill_wires(b, wires);
     drivers::sources::find_sources(b, table, st, wires, sources);
     mark_leaving(b, wires, sources, queue);
-    lists::copy(queue, marks);
+    marks.copy_from_slice(queue);
     mark_feeding(b, st, wires, sources, list, count, marks);
     put_card(b, st, queue, marks, card)
 }
@@ -93,25 +99,20 @@ pub fn card_bits(
         (card_after b table.now bits.now (length card.old)) }
 {
     let n = (b.h * b.w) as usize;
-    let built = block::build(
+    let count = block::build(
         b, table, bits, list, settings, wires, sources, rows, marks, queue,
-    );
-    match built {
-        Err(refusal) => Err(refusal),
-        Ok(count) => {
-            config::blocks::decode_block(table, bits, settings, n);
-            card_settings(
-                b,
-                table,
-                settings,
-                list,
-                count as usize,
-                card,
-                wires,
-                sources,
-                marks,
-                queue,
-            )
-        }
-    }
+    )?;
+    config::blocks::decode_block(table, bits, settings, n);
+    card_settings(
+        b,
+        table,
+        settings,
+        list,
+        count as usize,
+        card,
+        wires,
+        sources,
+        marks,
+        queue,
+    )
 }

@@ -8,7 +8,6 @@ ghost use Rattle.netlist.specs.Marks.{listed};
 ghost use Rattle.card.specs.Marks.{mark_ports};
 
 use equations::tiles::tile_wire;
-use netlist::row::wide;
 use ports::size::Block;
 
 // The wires of the `count` ports of a tile from `from` on are marked.
@@ -16,25 +15,15 @@ pub fn mark_ports(b: Block, wires: &[u16], tile: usize, from: u32, count: u32, m
     requires { (wires.now ≡ wires_of b) × (tile < tiles b) × (from + count ≤ ports_per_tile) × (length marks.old ≡ ports b) }
     ensures { marks.new ≡ mark_ports b tile from count marks.old }
 {
-    let mut k = 0;
-    while k < count {
-        let w = wide(tile_wire(b, wires, tile, from + k));
+    for k in 0..count {
+        let w = usize::from(tile_wire(b, wires, tile, from + k));
         marks[w] = 1;
-        k += 1;
     }
 }
 
-// How many wires are marked.
+// How many wires are marked. Summed and not filtered and counted, so that it vectorises.
 pub fn count_marks(marks: &[u16]) -> usize
     ensures { result ≡ count_below (listed marks.now) (length marks.now) }
 {
-    let mut n = 0;
-    let mut w = 0;
-    while w < marks.len() {
-        if marks[w] != 0 {
-            n += 1;
-        }
-        w += 1;
-    }
-    n
+    marks.iter().map(|mark| usize::from(*mark != 0)).sum()
 }

@@ -1,6 +1,6 @@
 -- What `list_settings` has when the rows are counted and stored. Main laws: `rows_few`, `list_filled`. Assumes nothing.
 use Prim.Native.Nat.{ℕ, ◌-◌, ◌*◌, ◌≤◌}
-use mathlib.Core.Path.{◌≡◌, sym, ap, ◌∙◌}
+use mathlib.Core.Path.{◌≡◌, sym, ◌∙◌}
 use mathlib.Core.List.{List}
 use native.Mathlib.Omega.{arith}
 use borrow.Rule.Slice.PartMut.{put_mid}
@@ -23,11 +23,9 @@ module _ (old new : List ℕ) (n : ℕ) where
   differences_length : length (differences old new n) ≡ row_length * difference_count old new n
   differences_length = rows_length_lem (block_differs old new) (block_row old new) row_length (places_per_tile * n) (λ x h. block_row_length old new x)
 
-  -- the list when its rest is cleared, as the code lends it
-  pub list_filled : (list stored rest : List ℕ) (end len : ℕ) → len ≡ length list → row_length * difference_count old new n ≤ length list
-      → stored ≡ sets list 0 (differences old new n) → end ≡ row_length * difference_count old new n
-      → rest ≡ zeros (length (take (len - end) (drop end stored))) → put_mid end (len - end) stored rest ≡ rows_list old new n (length list)
-  list_filled list stored rest end len l fits s e r =
-      rw l
-      (filled_rest list stored rest (differences old new n) end s (e ∙ sym differences_length) (omega (arith, differences_length))
-      (r ∙ ap (λ (x : ℕ). zeros (length (take (x - end) (drop end stored)))) l))
+  -- the list when its rest is cleared
+  pub list_filled : (list stored rest : List ℕ) (end : ℕ) → row_length * difference_count old new n ≤ length list → stored ≡ sets list 0 (differences old new n)
+      → end ≡ row_length * difference_count old new n → rest ≡ zeros (length (take (length list - end) (drop end stored)))
+      → put_mid end (length list - end) stored rest ≡ rows_list old new n (length list)
+  list_filled list stored rest end fits s e r =
+      filled_rest list stored rest (differences old new n) end s (e ∙ sym differences_length) (omega (arith, differences_length)) r

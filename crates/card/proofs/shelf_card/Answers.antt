@@ -17,4 +17,4 @@ returns-then-not-is_build_exact c = let t = c.args.table.now in let bits = c.arg
 pub returns : goal.returns
 returns c = let t = c.args.table.now in let bits = c.args.bits.now in let room = room_lent c.args.list.now c.args.wires.now c.args.sources.now c.args.rows.now c.args.marks.now c.args.queue.now in let lent = build_lent t bits c.args.settings.now room in let sized = sym c.is_sized.ensures ∙ c.if-not-is_sized.false in let exact = sym c.is_build_exact.ensures ∙ c.if-not-is_build_exact.false in let cleared = room_cleared c.args.b t bits sized (length c.args.card.now) _ c.card_bits-r.ensures.answer in
     let answer = c.card_bits-r.ensures.answer ∙ answer_bits c.args.b t bits _ (length c.args.card.now) sized exact in
-    record { answer = answer; card = c.card_bits-r.ensures.card; list = cleared c.args.list.now c.card_bits-r.new.list _ c.card_bits-r.auto.list c.clear.ensures; settings = cleared c.args.settings.now c.card_bits-r.new.settings _ c.card_bits-r.auto.settings c.clear-2.ensures; wires = cleared c.args.wires.now c.card_bits-r.new.wires _ c.card_bits-r.auto.wires c.clear-3.ensures; sources = cleared c.args.sources.now c.card_bits-r.new.sources _ c.card_bits-r.auto.sources c.clear-4.ensures; rows = cleared c.args.rows.now c.card_bits-r.new.rows _ c.card_bits-r.auto.rows c.clear-5.ensures; marks = cleared c.args.marks.now c.card_bits-r.new.marks _ c.card_bits-r.auto.marks c.clear-6.ensures; queue = cleared c.args.queue.now c.card_bits-r.new.queue _ c.card_bits-r.auto.queue c.clear-7.ensures; says = card_say c.args.b t bits c.args.settings.now room c.args.card.now _ _ answer c.card_bits-r.ensures.card }
+    record { answer = answer; card = c.card_bits-r.ensures.card; list = cleared c.args.list.now c.card_bits-r.new.list _ c.card_bits-r.auto.list (c.fill.ensures.after (λ y e. e)); settings = cleared c.args.settings.now c.card_bits-r.new.settings _ c.card_bits-r.auto.settings (c.fill-2.ensures.after (λ y e. e)); wires = cleared c.args.wires.now c.card_bits-r.new.wires _ c.card_bits-r.auto.wires (c.fill-3.ensures.after (λ y e. e)); sources = cleared c.args.sources.now c.card_bits-r.new.sources _ c.card_bits-r.auto.sources (c.fill-4.ensures.after (λ y e. e)); rows = cleared c.args.rows.now c.card_bits-r.new.rows _ c.card_bits-r.auto.rows (c.fill-5.ensures.after (λ y e. e)); marks = cleared c.args.marks.now c.card_bits-r.new.marks _ c.card_bits-r.auto.marks (c.fill-6.ensures.after (λ y e. e)); queue = cleared c.args.queue.now c.card_bits-r.new.queue _ c.card_bits-r.auto.queue (c.fill-7.ensures.after (λ y e. e)); says = card_say c.args.b t bits c.args.settings.now room c.args.card.now _ _ answer c.card_bits-r.ensures.card }

@@ -6,4 +6,4 @@ use Rattle.card.proofs.cells.is_flop.Goals as goal
 
 pub returns : goal.returns
 unfolding flop_cell
-returns c = ap (λ (cell : Cell). cell.flipflop) c.cell_at-cell.ensures
+returns c = ap (λ (cell : Cell). cell.flipflop) c.cell_at.ensures

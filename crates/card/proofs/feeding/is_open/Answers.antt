@@ -7,4 +7,4 @@ use Rattle.card.proofs.feeding.is_open.Goals as goal
 
 pub returns : goal.returns
 unfolding open_from
-returns c = ap (λ (r : Row). eqb r.kind 1) c.row_of-row.ensures
+returns c = ap (λ (r : Row). eqb r.kind 1) c.row_of.ensures

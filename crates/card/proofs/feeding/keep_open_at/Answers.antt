@@ -2,12 +2,14 @@
 use mathlib.Core.Path.{refl, sym, ◌∙◌}
 use Rattle.card.proofs.TurnLaws.{kept_clear, kept_yes, kept_no}
 use Rattle.card.proofs.feeding.keep_open_at.Goals as goal
+use Rattle.card.proofs.feeding.keep_open_at.Goals.{else-marks-w-ne0-via-then-marks-w-ne0+else-not-is_open, else-marks-w-ne0-via-else-marks-w-ne0}
 
-pub returns-then-marks-w-eq0 : goal.returns-then-marks-w-eq0
-returns-then-marks-w-eq0 c = kept_clear _ c.args.marks.now c.args.w c.if-marks-w-eq0.true
+pub returns-else-marks-w-ne0 : goal.returns-else-marks-w-ne0
+returns-else-marks-w-ne0 c =
+    elim c.else-marks-w-ne0.branch [
+      | else-marks-w-ne0-via-then-marks-w-ne0+else-not-is_open w ↦ kept_yes _ c.args.marks.now c.args.w (sym w.is_open.ensures ∙ w.if-not-is_open.false)
+      | else-marks-w-ne0-via-else-marks-w-ne0 w ↦ kept_clear _ c.args.marks.now c.args.w w.if-marks-w-ne0.false
+    ]
 
-pub returns-then-is_open : goal.returns-then-is_open
-returns-then-is_open c = kept_yes _ c.args.marks.now c.args.w (sym c.is_open.ensures ∙ c.if-is_open.true)
-
-pub returns : goal.returns
-returns c = kept_no _ c.args.marks.now c.args.w _ (sym c.is_open.ensures ∙ c.if-is_open.false) refl
+pub returns-then-not-is_open : goal.returns-then-not-is_open
+returns-then-not-is_open c = kept_no _ c.args.marks.now c.args.w _ (sym c.is_open.ensures ∙ c.if-not-is_open.true) refl

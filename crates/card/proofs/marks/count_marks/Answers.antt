@@ -1,16 +1,24 @@
--- `marks::count_marks` meets its contract. Invariant: n counts the marks before w. Measure: the numbers left. Assumes nothing.
+-- `marks::count_marks` meets its contract: each mark counts one. Assumes nothing.
+use Prim.Native.Nat.{ℕ}
+use mathlib.Core.Path.{◌≡◌, ◌∙◌}
+use mathlib.Core.Bool.{not}
 use native.Mathlib.Omega.{arith}
-use mathlib.Core.Path.{◌∙◌}
-use Rattle.netlist.proofs.MarkLaws.{listed_true, listed_false}
-use Rattle.netlist.specs.Marks.{listed}
-use Rattle.lists.proofs.RowLaws.{count_hit, count_skip, count_none_yet}
+use lib.Dec.{eqb}
+use Rattle.std.proofs.Common.{rules, tests, lit<}
+use Rattle.std.specs.Prelude.{sum_by}
+use Rattle.std.specs.Int.{from_bool}
+use Rattle.std.proofs.iter.runs.Made.{chains}
+use Rattle.std.proofs.lemmas.Iterator.{YieldsList-from_slice}
+use Rattle.std.proofs.lemmas.Iterator.Adapters.{fits_from_length, at_most_from_yields_List}
+use Rattle.lists.proofs.StdLaws.{sum_tests-is, count_by-is}
 use Rattle.card.proofs.marks.count_marks.Goals as goal
-use Rattle.card.proofs.marks.count_marks.Goals.{then-marks-w-ne0, else-marks-w-ne0}
 
-pub loop-w-init : goal.loop-w-init
-loop-w-init c = (omega arith, omega arith, count_none_yet (listed c.args.marks.now))
+pub sum-requires-clause-fits : goal.sum-requires-clause-fits
+sum-requires-clause-fits c =
+    fits_from_length _ _ 18446744073709551615 _ (at_most_from_yields_List (YieldsList-from_slice c.args.marks.now cc) (omega arith))
+    c.map.ensures.closure (lit< tt) (λ x r q k. search (rules, tests))
 
-pub loop-w-preserved : goal.loop-w-preserved
-loop-w-preserved c = let m = c.args.marks.now in
-    let inv = c.loop-w.invariant.2 in
-    elim c.if-marks-w-ne0.branch [ then-marks-w-ne0 w ↦ (omega arith, omega (arith, w.n-is), w.n-is ∙ count_hit _ _ _ inv (listed_true m c.loop-w.w w.if-marks-w-ne0.true)) | else-marks-w-ne0 w ↦ (omega arith, omega (arith, w.n-is), w.n-is ∙ count_skip _ _ _ inv (listed_false m c.loop-w.w w.if-marks-w-ne0.false)) ]
+pub returns : goal.returns
+returns c =
+    let e : c.sum.result ≡ sum_by (λ (x : ℕ). from_bool (not (eqb x 0))) c.args.marks.now = search (rules, chains) in
+    e ∙ sum_tests-is (λ x. not (eqb x 0)) c.args.marks.now ∙ count_by-is (λ x. not (eqb x 0)) 0 c.args.marks.now

@@ -1,7 +1,11 @@
 -- `blocks::list_settings` meets its contract: the rows are counted, and where they fit they are stored and the rest is cleared. Assumes nothing.
-use mathlib.Core.Path.{refl}
+use Prim.Native.Nat.{ℕ, ◌-◌}
+use mathlib.Core.Path.{◌≡◌, refl, sym, subst}
 use native.Mathlib.Omega.{arith}
-use lib.ListN.{length}
+use lib.ListN.{length, take, drop}
+use borrow.Rule.Slice.PartMut.{put_mid}
+use Rattle.lists.specs.Tables.{zeros}
+use Rattle.compare.specs.Entry.{rows_list}
 use Rattle.compare.proofs.EntryLaws.{rows_short, rows_told}
 use Rattle.compare.proofs.ListLaws.{rows_few, list_filled}
 use Rattle.compare.proofs.blocks.list_settings.Goals as goal
@@ -33,8 +37,14 @@ returns c =
     let new = c.args.after.now in
     let n = c.args.n in
     let list = c.args.list.now in
+    let end = c.list_block-end.result in
+    let stored = c.list_block-end.new.list in
+    let rest = c.fill.new.self in
+    let cleared =
+    subst (λ (m : ℕ). rest ≡ zeros (length (take (m - end) (drop end stored)))) c.list_block-end.auto.list (c.fill.ensures.after (λ y e. e)) in
     record {
       answer = rows_told old new n (length list) _ c.count_block-rows.ensures c.if-len-rows.false;
-      list = list_filled old new n list _ _ _ _ c.list_block-end.auto.list (omega (arith, c.count_block-rows.ensures, c.if-len-rows.false)) c.list_block-end.ensures.list
-          c.list_block-end.ensures.end (c.fill.ensures.after (λ y e. e));
+      list = subst (λ (m : ℕ). put_mid end (m - end) stored rest ≡ rows_list old new n (length list)) (sym c.list_block-end.auto.list)
+          (list_filled old new n list stored rest end (omega (arith, c.count_block-rows.ensures, c.if-len-rows.false)) c.list_block-end.ensures.list
+          c.list_block-end.ensures.end cleared);
     }

@@ -6,7 +6,7 @@ use borrow.Author.Rules.{rules}
 use lib.ListN.{length}
 use Rattle.std.specs.Prelude.{map}
 use Rattle.lists.proofs.Storing.{stored_start, stored_hit, stored_skip, stored_room}
-use Rattle.compare.specs.Places.{row_length, kind_number}
+use Rattle.compare.specs.Places.{row_length, number_row, kind_number}
 use Rattle.compare.proofs.KindLaws.{number_at, changed_true, changed_false, number_row_is, number_row_length}
 use Rattle.compare.proofs.settings.list_changed.Goals as goal
 use Rattle.compare.proofs.settings.list_changed.Goals.{Then-old-new, then-old-new, else-old-new}
@@ -24,7 +24,8 @@ room g c =
     let i = c.loop-i.i in
     let old = number_at number c.args.olds.now i _ _ c.loop-i-test.true c.index-olds-i.is c.number-old.ensures in
     let new = number_at number c.args.news.now i _ _ (omega arith) c.index-news-i.is c.number-new.ensures in
-    stored_room c.loop-i.invariant (number_row_length c.args.tile (kind_number c.args.kind) olds news) (length c.args.olds.now) (omega arith)
+    let row = number_row c.args.tile (kind_number c.args.kind) 0 olds news in
+    stored_room {row = row} c.loop-i.invariant (number_row_length c.args.tile (kind_number c.args.kind) olds news) (length c.args.olds.now) (omega arith)
     (changed_true olds news i _ _ old new c.if-old-new.true) c.requires.2
 
 pub put_row-requires : goal.put_row-requires
@@ -43,10 +44,11 @@ loop-i-preserved g c =
     let i = c.loop-i.i in
     let old = number_at number c.args.olds.now i _ _ c.loop-i-test.true c.index-olds-i.is c.number-old.ensures in
     let new = number_at number c.args.news.now i _ _ (omega arith) c.index-news-i.is c.number-new.ensures in
+    let row = number_row tile kind 0 olds news in
     let long = number_row_length tile kind olds news in
     elim c.if-old-new.branch [
-      | then-old-new w ↦ stored_hit c.loop-i.invariant long _ _
+      | then-old-new w ↦ stored_hit {row = row} c.loop-i.invariant long _ _
           (number_row_is olds news i _ _ old new tile kind _ _ _ _ w.from.ensures (w.list-is ∙ w.put_row.ensures)) w.at-is
           (changed_true olds news i _ _ old new w.if-old-new.true)
-      | else-old-new w ↦ stored_skip c.loop-i.invariant long _ _ w.list-is w.at-is (changed_false olds news i _ _ old new w.if-old-new.false)
+      | else-old-new w ↦ stored_skip {row = row} c.loop-i.invariant long _ _ w.list-is w.at-is (changed_false olds news i _ _ old new w.if-old-new.false)
     ]

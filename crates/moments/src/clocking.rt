@@ -8,12 +8,13 @@ ghost use Rattle.moments.specs.Checks.{settings_answer, bytes_answer};
 ghost use Rattle.moments.specs.Lengths.{clock_lent, ClockLong};
 
 use crate::cells;
+use config::checks::check_settings;
 use ports::size::{Size, tile_count};
 use refusal::Refusal;
-use sim::checks::{check_bytes, check_settings};
+use sim::checks::check_bytes;
 
 // Grounds 3, 9 and 10, and on a yes what is written.
-#[tactic(auto, unfolding(crate::specs::Checks::settings_answer, crate::specs::Checks::bytes_answer))]
+#[tactic(auto, unfolding(config::specs::Entry::settings_answer, crate::specs::Checks::settings_answer, crate::specs::Checks::bytes_answer))]
 pub fn clock_checked(
     s: Size,
     table: &[u16],

@@ -9,12 +9,13 @@ ghost use Rattle.moments.specs.Settling.{run_answer};
 ghost use Rattle.moments.specs.Lengths.{settle_room_lent, settle_lent, SettleLong};
 
 use crate::spread::settle_ports;
+use config::checks::check_settings;
 use ports::size::Block;
 use refusal::Refusal;
-use sim::checks::{check_bytes, check_rows, check_settings};
+use sim::checks::{check_bytes, check_rows};
 
 // Grounds 3, 9, 12 and 10, and on a yes what is written.
-#[tactic(auto, unfolding(crate::specs::Checks::settings_answer, crate::specs::Checks::bytes_answer, crate::specs::Settling::run_answer))]
+#[tactic(auto, unfolding(config::specs::Entry::settings_answer, crate::specs::Checks::settings_answer, crate::specs::Checks::bytes_answer, crate::specs::Settling::run_answer))]
 pub fn settle_checked(
     b: Block,
     table: &[u16],

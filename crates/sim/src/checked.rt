@@ -10,14 +10,15 @@ ghost use Rattle.stepper.specs.Clocking.{next_states};
 ghost use Rattle.sim.specs.Stepping.{inputs_answer};
 ghost use Rattle.sim.specs.Lengths.{inputs_lent, InputsLong, step_room_lent, StepRoomLong};
 
-use crate::checks::{check_bytes, check_rows, check_settings};
+use crate::checks::{check_bytes, check_rows};
+use config::checks::check_settings;
 use ports::size::Block;
 use refusal::Refusal;
 use stepper::write_step;
 
 // Grounds 3, 9, 12 and 10, in this order (`inputs_answer`). On a yes `wires` has the wire of each port, and `own` marks those that are
 // their own wires. It is not given the outputs.
-#[tactic(auto, unfolding(crate::specs::Stepping::inputs_answer, crate::specs::Stepping::run_answer))]
+#[tactic(auto, unfolding(config::specs::Entry::settings_answer, crate::specs::Stepping::inputs_answer, crate::specs::Stepping::run_answer))]
 fn check_inputs(
     b: Block,
     table: &[u16],

@@ -1,4 +1,4 @@
-// The checks of contents that a step shares with settling and with clocking (`moments`): grounds 3 and 9, 12, and 10. They are not given the
+// The checks of contents that a step shares with settling and with clocking (`moments`): grounds 12 and 10. They are not given the
 // outputs, so they cannot write them.
 ghost use Rattle.std.specs.Prelude.{◌≡◌, ℕ, ◌*◌, ◌<◌, ◌≤◌, leb, ◌++◌, length, get_or};
 ghost use Rattle.lists.specs.Search.{below};
@@ -17,17 +17,6 @@ use netlist::check::{count_wires, first_bad_row};
 use ports::size::Block;
 use refusal::Refusal;
 use wiring::fill_wires;
-
-// Grounds 3 and 9 of n tiles.
-#[tactic(auto, unfolding(config::specs::Entry::settings_answer))]
-pub fn check_settings(table: &[u16], settings: &[u16], n: usize) -> Result<(), Refusal>
-    requires { (n ≤ 64) × (length table.now ≡ table_length) × (length settings.now ≡ settings_length * n) }
-    ensures { result ≡ unless (table_ok logic_tile table.now) (Err (Table (faulty_part logic_tile table.now)))
-        (unless (leb n (bitless_tile table.now settings.now n)) (Err (NoSuchSettings (bitless_tile table.now settings.now n)))
-        (Ok tt)) }
-{
-    config::checks::check_settings(table, settings, n)
-}
 
 // Marks the ports that are their own wires.
 fn mark_wires(b: Block, wires: &[u16], own: &mut [u16])

@@ -18,8 +18,7 @@ use Rattle.ports.specs.Lengths.{positions}
 use Rattle.asc.specs.Area.{Area, tiles_of}
 use Rattle.asc.specs.Stages.{stage, Begins, nothing, one_more}
 use Rattle.asc.specs.Next.{goes, next_of, is_whole, stage_of, turned_to}
-use Rattle.asc.specs.declared.turn.Turned.{Turned}
-use Rattle.asc.specs.declared.turn.Turned.TheVariants.{Goes, Fault}
+use Rattle.std.specs.Prelude.{Option, Some, None}
 use Rattle.asc.specs.declared.turn.Scan.{Scan}
 use Rattle.asc.specs.Meaning.{StuckSays, AllSays}
 use Rattle.asc.proofs.AreaLaws.{Sized}
@@ -61,9 +60,9 @@ module _ (a : Area) (s g c : List ℕ) (sc : Scan) (at n : ℕ) (go : Going a s 
       }
 
   -- the same, as the code has it
-  pub going_turned : (end : ℕ) → LineTo s at end → (r : Turned) (g' c' : List ℕ) (next : Scan) → next_of a (stage_of sc g c) (line_from s at end) ≡ turned_to r g' c' → r ≡ Goes next
+  pub going_turned : (end : ℕ) → LineTo s at end → (r : Option Scan) (g' c' : List ℕ) (next : Scan) → next_of a (stage_of sc g c) (line_from s at end) ≡ turned_to r g' c' → r ≡ Some next
       → Going a s g' c' next (end + 1) (n + 1)
-  going_turned end l r g' c' next e q = going_turn end l g' c' next (e ∙ ap (λ (r : Turned). turned_to r g' c') q)
+  going_turned end l r g' c' next e q = going_turn end l g' c' next (e ∙ ap (λ (r : Option Scan). turned_to r g' c') q)
 
   split_here : s ≡ take at s ++ drop at s
   split_here = sym (take-append-drop at s)
@@ -75,11 +74,11 @@ module _ (a : Area) (s g c : List ℕ) (sc : Scan) (at n : ℕ) (go : Going a s 
       (λ k b e. none (at + k) (omega arith) (omega (arith, length-drop at s)) (sym (get_or-drop at s k 0) ∙ e)) (λ e. absurd (omega (arith, length-drop at s)))
 
   -- a line that is not of the shape due
-  pub going_fault : Sized a → (end : ℕ) → LineTo s at end → (r : Turned) (g' c' : List ℕ) → next_of a (stage_of sc g c) (line_from s at end) ≡ turned_to r g' c' → r ≡ Fault
+  pub going_fault : Sized a → (end : ℕ) → LineTo s at end → (r : Option Scan) (g' c' : List ℕ) → next_of a (stage_of sc g c) (line_from s at end) ≡ turned_to r g' c' → r ≡ None
       → StuckSays a s n
   going_fault size end l r g' c' e q =
       stuck_line a s (take at s) n (stage_of sc g c) go.begins size (line_from s at end) (drop (suc end) s)
-      (split_here ∙ ap (λ (x : List ℕ). take at s ++ x) (line_split s at end l)) (line_plain s at end l) (e ∙ ap (λ (r : Turned). turned_to r g' c') q)
+      (split_here ∙ ap (λ (x : List ℕ). take at s ++ x) (line_split s at end l)) (line_plain s at end l) (e ∙ ap (λ (r : Option Scan). turned_to r g' c') q)
 
   -- the end of the text, with the test that the code makes
   abbrev pub nothing_missing : Bool

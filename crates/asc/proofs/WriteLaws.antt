@@ -1,5 +1,5 @@
--- A block put into a room piece by piece. Main laws: `rows_start`, `-turn`, `-end`; `tiles_start`, `-fit`, `-turn`, `-end`.
-use Prim.Native.Nat.{ℕ, ◌+◌, ◌*◌, ◌<◌, ◌≤◌}
+-- A block put into a room piece by piece. Main laws: `rows_start`, `-turn`, `-end`; `tiles_start`, `-fit`, `-turn`, `-end`; `head_is`.
+use Prim.Native.Nat.{ℕ, ◌+◌, ◌*◌, ◌/◌, ◌%◌, ◌<◌, ◌≤◌}
 use mathlib.Core.Path.{◌≡◌, refl, sym, ◌∙◌, subst}
 use mathlib.Core.List.{List, [], ◌++◌}
 use native.Mathlib.Omega.{arith}
@@ -8,7 +8,9 @@ use lib.ListN.{length, get_or}
 use Rattle.lists.specs.Parts.{joined}
 use Rattle.texts.proofs.PutsLaws.{Puts, puts_none, puts_more, puts_turn, puts_long, filled_whole, joined_grows}
 use Rattle.asc.specs.Area.{Area, tiles_of}
-use Rattle.asc.specs.Content.{rows_length, rows_text, tile_text, device_text, written, text_length}
+use Rattle.texts.specs.Pieces.{line_end}
+use Rattle.asc.specs.Spelling.{tile_line}
+use Rattle.asc.specs.Content.{rows_length, rows_text, head_text, tile_text, device_text, written, text_length}
 use Rattle.asc.proofs.LengthLaws.{row_text_length, row_at, rows_long, tiles_text_next, written_length, written_long}
 
 -- ---- the rows of a tile
@@ -96,3 +98,8 @@ module _ (a : Area) (bits old : List ℕ) where
         filled_whole (device_text ++ joined (tile_text a bits) (tiles_of a)) old next out
         (subst (λ (k : ℕ). Puts 0 (device_text ++ joined (tile_text a bits) k) old next out) e i.put)
         (i.room ∙ sym (written_length a bits))
+
+-- the line of tile t, where its coordinates are known
+pub head_is : (a : Area) (t x y : ℕ) → x ≡ a.x + t % a.w → y ≡ a.y + t / a.w → head_text a t ≡ tile_line x y ++ line_end
+unfolding head_text
+head_is a t x y e f = rw (e, f)

@@ -4,7 +4,7 @@ use Rattle.refusal.specs.declared.Refusal.{Refusal}
 use Rattle.std.specs.Prelude.{ℕ, suc, ◌*◌, cond, ◌&&◌, List, [], ◌∷◌, ◌++◌, eqb, length, Result, Ok, Err}
 use Rattle.ports.specs.Lengths.{tile_numbers}
 use Rattle.refusal.specs.declared.Refusal.TheVariants.{WrongSize, WrongLength, Undecodable, AscLine}
-use Rattle.refusal.specs.Grounds.{unless, number_of, place_of}
+use Rattle.refusal.specs.Grounds.{unless}
 use Rattle.words.specs.Stray.{first_stray, stray_place}
 use Rattle.asc.specs.Area.{Area, tiles_of, sized}
 use Rattle.asc.specs.Stages.{Stage, begun}

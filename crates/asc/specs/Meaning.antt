@@ -4,8 +4,6 @@ use Rattle.ports.specs.Lengths.{tile_numbers}
 use Rattle.refusal.specs.declared.Refusal.{Refusal}
 use Rattle.refusal.specs.declared.Refusal.TheVariants.{WrongSize, WrongLength, AscLine}
 use Rattle.texts.specs.Lines.{Plain}
-use Rattle.asc.specs.declared.scan.Scanned.{Scanned}
-use Rattle.asc.specs.declared.scan.Scanned.TheVariants.{AllThere, StuckAt}
 use Rattle.asc.specs.Area.{Area, tiles_of, sized}
 use Rattle.asc.specs.Stages.{Stage, stage, Turn, Begins, Whole}
 use Rattle.asc.specs.Content.{rows_packed}
@@ -53,9 +51,9 @@ pub record YesSays (a : Area) (s bits : List ℕ) : Type 0 where
   pub bits_are : bits ≡ rows_packed content (tiles_of a)
 
 -- what going through the lines of a text says, with the digits in a room: all is there, or so many lines are in order and no more
-abbrev pub ScanSays : Area → List ℕ → Scanned → List ℕ → Type 0
-ScanSays a s AllThere content = AllSays a s content
-ScanSays a s (StuckAt n) content = StuckSays a s n
+abbrev pub ScanSays : Area → List ℕ → Result (Unit {0}) ℕ → List ℕ → Type 0
+ScanSays a s (Ok _) content = AllSays a s content
+ScanSays a s (Err n) content = StuckSays a s n
 
 -- 1 and 2 are not given: the size, and the length of the lent bits
 pub record Lent (a : Area) (bits : ℕ) : Type 0 where

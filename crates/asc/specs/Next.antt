@@ -1,6 +1,6 @@
 -- What a line leads to, computed: the tests in the order in which the code makes them. `turn_next` and `next_turn` (proofs/NextLaws.antt, proofs/TurnLaws.antt):
 -- exactly `Turn`.
-use Rattle.std.specs.Prelude.{ℕ, zero, suc, ◌+◌, ◌-◌, ◌*◌, Bool, true, false, cond, ◌&&◌, not, List, [], ◌∷◌, eqb, leb, ltb, get_or, set}
+use Rattle.std.specs.Prelude.{ℕ, zero, suc, ◌+◌, ◌-◌, ◌*◌, Bool, true, false, cond, ◌&&◌, not, List, [], ◌∷◌, eqb, leb, ltb, get_or, set, Option, Some, None}
 use Rattle.lists.specs.Search.{all_from}
 use Rattle.texts.specs.Pieces.{placed}
 use Rattle.texts.specs.Lines.{same, word}
@@ -9,8 +9,6 @@ use Rattle.asc.specs.Area.{Area, tiles_of}
 use Rattle.asc.specs.Spelling.{device_word, device_line, tile_word, line_x, line_y, is_tile_line, is_row}
 use Rattle.asc.specs.Stages.{Stage, stage}
 use Rattle.asc.specs.declared.turn.Scan.{Scan}
-use Rattle.asc.specs.declared.turn.Turned.{Turned}
-use Rattle.asc.specs.declared.turn.Turned.TheVariants.{Goes, Fault}
 
 pub data Next : Type 0 where
   goes : Stage → Next
@@ -67,6 +65,6 @@ is_whole a (stage d k l p g c) = d && (eqb l 0 && all_from (λ t. eqb (get_or g 
 abbrev pub stage_of : Scan → List ℕ → List ℕ → Stage
 stage_of s g c = stage s.device s.skipping s.left s.place g c
 
-abbrev pub turned_to : Turned → List ℕ → List ℕ → Next
-turned_to (Goes s) g c = goes (stage_of s g c)
-turned_to Fault g c = fault
+abbrev pub turned_to : Option Scan → List ℕ → List ℕ → Next
+turned_to (Some s) g c = goes (stage_of s g c)
+turned_to None g c = fault

@@ -10,14 +10,14 @@ ghost use Rattle.std.specs.Prelude.{◌≡◌, ◌*◌, ◌^◌, ◌<◌, true, 
 ghost use Rattle.ports.specs.Lengths.{tile_numbers, positions};
 ghost use Rattle.refusal.specs.Grounds.{answer_number};
 ghost use Rattle.refusal.specs.Memory.{output};
-ghost use Rattle.asc.specs.Area.{area, area_at, tiles_of, sized};
+ghost use Rattle.asc.specs.Area.{area_at, tiles_of, sized};
+ghost use Rattle.asc.specs.Site.{area_of};
 ghost use Rattle.asc.specs.Content.{written};
 ghost use Rattle.asc.specs.Meaning.{AscSays, line_number};
 ghost use Rattle.asc.specs.WriteMeaning.{WriteSays};
 ghost use Rattle.asc.specs.Answers.{read_answer, bits_read, write_answer, length_answer};
 
-use crate::area::is_sized;
-use crate::scan::Scanned;
+use crate::area::Site;
 use ports::lengths::{POSITIONS, TILE_NUMBERS};
 use ports::size::Size;
 use refusal::Refusal;
@@ -36,31 +36,24 @@ mod writing;
 fn line_number(n: usize) -> u32
     ensures { result ≡ line_number n }
 {
-    if n < 4294967295 {
-        return (n + 1) as u32;
-    }
-    4294967295
+    n.saturating_add(1).min(u32::MAX as usize) as u32
 }
 
 // Reads with rooms of the block's size: marks of the tiles, and digits.
 fn read_into(
-    w: u32,
-    h: u32,
-    x: u32,
-    y: u32,
+    site: Site,
     text: &[u8],
     bits: &mut [u64],
     given: &mut [u8],
     content: &mut [u8],
 ) -> Result<(), Refusal>
-    requires { (sized (area w h x y) ≡ true) × (length bits.old ≡ tile_numbers * tiles_of (area w h x y)) ×
-        (length given.old ≡ tiles_of (area w h x y)) × (length content.old ≡ positions * tiles_of (area w h x y)) }
-    ensures { AscSays (area w h x y) text.now bits.old bits.new result }
+    requires { (length bits.old ≡ tile_numbers * tiles_of (area_of site)) ×
+        (length given.old ≡ tiles_of (area_of site)) × (length content.old ≡ positions * tiles_of (area_of site)) }
+    ensures { AscSays (area_of site) text.now bits.old bits.new result }
 {
-    let scanned = scan::scan(w, h, x, y, text, given, content);
-    match scanned {
-        Scanned::StuckAt(n) => Err(Refusal::AscLine(line_number(n))),
-        Scanned::AllThere => {
+    match scan::scan(site, text, given, content) {
+        Err(n) => Err(Refusal::AscLine(line_number(n))),
+        Ok(()) => {
             bits::pack(content, bits);
             Ok(())
         }
@@ -74,40 +67,27 @@ pub fn read(s: Size, x: u32, y: u32, text: &[u8], bits: &mut [u64]) -> Result<()
     ensures bits { bits.new ≡ output (answer_number result) bits.old (bits_read (area_at s x y) text.now) }
     ensures says { AscSays (area_at s x y) text.now bits.old bits.new result }
 {
-    let w = s.w;
-    let h = s.h;
-    if !is_sized(w, h, x, y) {
+    let Some(site) = Site::new(s, x, y) else {
         return Err(Refusal::WrongSize);
-    }
-    let n = (h * w) as usize;
+    };
+    let n = site.tiles();
     if bits.len() != TILE_NUMBERS * n {
         return Err(Refusal::WrongLength);
     }
     let mut given = room::given_room();
     let mut content = room::content_room();
     let digits = POSITIONS * n;
-    read_into(
-        w,
-        h,
-        x,
-        y,
-        text,
-        bits,
-        &mut given[..n],
-        &mut content[..digits],
-    )
+    read_into(site, text, bits, &mut given[..n], &mut content[..digits])
 }
 
 // How long the file of a block is. Ground 1 (`length_answer`).
 pub fn text_length(s: Size, x: u32, y: u32) -> Result<u32, Refusal>
     ensures { result ≡ length_answer (area_at s x y) }
 {
-    let w = s.w;
-    let h = s.h;
-    if !is_sized(w, h, x, y) {
+    let Some(site) = Site::new(s, x, y) else {
         return Err(Refusal::WrongSize);
-    }
-    Ok(writing::file_length(w, h, x, y) as u32)
+    };
+    Ok(writing::file_length(site) as u32)
 }
 
 // Writes a block as a file, .device first, tiles by index. Grounds 1, 2, 4, in this order (`write_answer`); 4 for a bit past a row's columns only.
@@ -117,22 +97,16 @@ pub fn write(s: Size, x: u32, y: u32, bits: &[u64], text: &mut [u8]) -> Result<(
     ensures text { text.new ≡ output (answer_number result) text.old (written (area_at s x y) bits.now) }
     ensures says { WriteSays (area_at s x y) bits.now text.old text.new result }
 {
-    let w = s.w;
-    let h = s.h;
-    if !is_sized(w, h, x, y) {
+    let Some(site) = Site::new(s, x, y) else {
         return Err(Refusal::WrongSize);
-    }
-    let n = (h * w) as usize;
-    if bits.len() != TILE_NUMBERS * n {
-        return Err(Refusal::WrongLength);
-    }
-    if text.len() != writing::file_length(w, h, x, y) {
+    };
+    if bits.len() != TILE_NUMBERS * site.tiles() || text.len() != writing::file_length(site) {
         return Err(Refusal::WrongLength);
     }
     let stray = first_stray(bits);
     if stray < bits.len() {
         return Err(Refusal::Undecodable(stray_place(stray)));
     }
-    writing::put_file(w, h, x, y, bits, text);
+    writing::put_file(site, bits, text);
     Ok(())
 }

@@ -12,10 +12,8 @@ pub fn put_tile_line(out: &mut [u8], at: usize, x: u32, y: u32) -> usize
     ensures next { result ≡ at + length (tile_line x y) }
     ensures out { out.new ≡ placed at (tile_line x y) out.old }
 {
-    let head = *b".logic_tile ";
-    let space = [32];
-    let one = put(out, at, &head);
+    let one = put(out, at, b".logic_tile ");
     let two = put_decimal(out, one, x);
-    let three = put(out, two, &space);
+    let three = put(out, two, b" ");
     put_decimal(out, three, y)
 }

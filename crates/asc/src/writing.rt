@@ -1,13 +1,16 @@
 // A block as a file: its length, and its text.
-ghost use Rattle.std.specs.Prelude.{◌≡◌, ◌+◌, ◌*◌, ◌/◌, ◌%◌, ◌^◌, ◌<◌, ◌≤◌, true, length};
+ghost use Rattle.std.specs.Prelude.{◌≡◌, ◌+◌, ◌*◌, ◌^◌, ◌<◌, ◌≤◌, length};
 ghost use Rattle.ports.specs.Lengths.{tile_numbers};
 ghost use Rattle.texts.specs.Pieces.{placed};
-ghost use Rattle.asc.specs.Area.{area, tiles_of, sized};
+ghost use Rattle.asc.specs.Area.{tiles_of};
+ghost use Rattle.asc.specs.Site.{area_of};
 ghost use Rattle.asc.specs.Content.{row_digits, row_text, rows_length, rows_text, head_text, tile_text, written, text_length};
 
+use crate::area::Site;
 use crate::text::put_tile_line;
 use digits::digit_of;
 use ports::lengths::{COLUMNS, ROWS};
+use std::array::from_fn;
 use texts::decimal::decimal_length;
 use texts::{LINE_END, put};
 
@@ -17,18 +20,14 @@ const DEVICE_TEXT: usize = 11;
 const TILE_TEXT: usize = 14 + ROWS * (COLUMNS + 1);
 
 // How long the file of a block is.
-pub fn file_length(w: u32, h: u32, x: u32, y: u32) -> usize
-    requires { sized (area w h x y) ≡ true }
-    ensures { (result ≡ text_length (area w h x y)) × (result < 2 ^ 16) }
+#[tactic(auto, using(texts::proofs::DecimalLaws::decimal_length))]
+pub fn file_length(site: Site) -> usize
+    ensures { (result ≡ text_length (area_of site)) × (result < 2 ^ 16) }
 {
-    let tiles = h * w;
     let mut length = DEVICE_TEXT;
-    let mut t = 0;
-    while t < tiles {
-        let across = decimal_length(x + t % w);
-        let up = decimal_length(y + t / w);
-        length += TILE_TEXT + across + up;
-        t += 1;
+    for t in 0..site.tiles() {
+        let (x, y) = site.place(t);
+        length += TILE_TEXT + decimal_length(x) + decimal_length(y);
     }
     length
 }
@@ -37,13 +36,7 @@ pub fn file_length(w: u32, h: u32, x: u32, y: u32) -> usize
 fn row_digits(word: u64) -> [u8; COLUMNS]
     ensures { result ≡ row_digits word }
 {
-    let mut row = [0; COLUMNS];
-    let mut c = 0;
-    while c < COLUMNS {
-        row[c] = 48 + digit_of(word, c);
-        c += 1;
-    }
-    row
+    from_fn(|c| b'0' + digit_of(word, c))
 }
 
 // A row and its line feed.
@@ -52,10 +45,8 @@ fn put_row(word: u64, out: &mut [u8], at: usize) -> usize
     ensures next { result ≡ at + length (row_text word) }
     ensures out { out.new ≡ placed at (row_text word) out.old }
 {
-    let row = row_digits(word);
-    let feed = [LINE_END];
-    let next = put(out, at, &row);
-    put(out, next, &feed)
+    let next = put(out, at, &row_digits(word));
+    put(out, next, &[LINE_END])
 }
 
 // The sixteen rows of tile t.
@@ -65,58 +56,41 @@ fn put_rows(bits: &[u64], t: usize, out: &mut [u8], at: usize) -> usize
     ensures out { out.new ≡ placed at (rows_text bits.now t) out.old }
 {
     let mut next = at;
-    let mut r = 0;
-    while r < ROWS {
+    for r in 0..ROWS {
         next = put_row(bits[ROWS * t + r], out, next);
-        r += 1;
     }
     next
 }
 
 // The line of tile t.
-fn put_head(w: u32, h: u32, x: u32, y: u32, t: u32, out: &mut [u8], at: usize) -> usize
-    requires { (sized (area w h x y) ≡ true) × (t < tiles_of (area w h x y)) × (at + length (head_text (area w h x y) t) ≤ length out.old) }
-    ensures next { result ≡ at + length (head_text (area w h x y) t) }
-    ensures out { out.new ≡ placed at (head_text (area w h x y) t) out.old }
+fn put_head(site: Site, t: usize, out: &mut [u8], at: usize) -> usize
+    requires { (t < tiles_of (area_of site)) × (at + length (head_text (area_of site) t) ≤ length out.old) }
+    ensures next { result ≡ at + length (head_text (area_of site) t) }
+    ensures out { out.new ≡ placed at (head_text (area_of site) t) out.old }
 {
-    let feed = [LINE_END];
-    let next = put_tile_line(out, at, x + t % w, y + t / w);
-    put(out, next, &feed)
+    let (x, y) = site.place(t);
+    let next = put_tile_line(out, at, x, y);
+    put(out, next, &[LINE_END])
 }
 
 // The line and the rows of tile t.
-fn put_tile(
-    w: u32,
-    h: u32,
-    x: u32,
-    y: u32,
-    t: u32,
-    bits: &[u64],
-    out: &mut [u8],
-    at: usize,
-) -> usize
-    requires { (sized (area w h x y) ≡ true) × (t < tiles_of (area w h x y)) ×
-        (length bits.now ≡ tile_numbers * tiles_of (area w h x y)) × (at + length (tile_text (area w h x y) bits.now t) ≤ length
-        out.old) }
-    ensures next { result ≡ at + length (tile_text (area w h x y) bits.now t) }
-    ensures out { out.new ≡ placed at (tile_text (area w h x y) bits.now t) out.old }
+fn put_tile(site: Site, t: usize, bits: &[u64], out: &mut [u8], at: usize) -> usize
+    requires { (t < tiles_of (area_of site)) × (length bits.now ≡ tile_numbers * tiles_of (area_of site)) ×
+        (at + length (tile_text (area_of site) bits.now t) ≤ length out.old) }
+    ensures next { result ≡ at + length (tile_text (area_of site) bits.now t) }
+    ensures out { out.new ≡ placed at (tile_text (area_of site) bits.now t) out.old }
 {
-    let next = put_head(w, h, x, y, t, out, at);
-    put_rows(bits, t as usize, out, next)
+    let next = put_head(site, t, out, at);
+    put_rows(bits, t, out, next)
 }
 
 // The whole file, in a room of its length.
-pub fn put_file(w: u32, h: u32, x: u32, y: u32, bits: &[u64], text: &mut [u8])
-    requires { (sized (area w h x y) ≡ true) × (length bits.now ≡ tile_numbers * tiles_of (area w h x y)) ×
-        (length text.old ≡ text_length (area w h x y)) }
-    ensures { text.new ≡ written (area w h x y) bits.now }
+pub fn put_file(site: Site, bits: &[u64], text: &mut [u8])
+    requires { (length bits.now ≡ tile_numbers * tiles_of (area_of site)) × (length text.old ≡ text_length (area_of site)) }
+    ensures { text.new ≡ written (area_of site) bits.now }
 {
-    let device = *b".device 1k\n";
-    let mut next = put(text, 0, &device);
-    let tiles = h * w;
-    let mut t = 0;
-    while t < tiles {
-        next = put_tile(w, h, x, y, t, bits, text, next);
-        t += 1;
+    let mut next = put(text, 0, b".device 1k\n");
+    for t in 0..site.tiles() {
+        next = put_tile(site, t, bits, text, next);
     }
 }

@@ -1,7 +1,7 @@
-// Lines and words of a text: where a line ends, where its first word ends, whether two texts are the same.
+// Lines and words of a text: where a line ends, where its first word ends. Two texts are the same where `==` says so (proofs/SameLaws.antt: `same_eq`).
 ghost use Rattle.std.specs.Prelude.{◌≡◌, ◌-◌, ◌≤◌, eqb, length, get_or};
 ghost use Rattle.lists.specs.Search.{first};
-ghost use Rattle.texts.specs.Lines.{same, word_length};
+ghost use Rattle.texts.specs.Lines.{word_length};
 
 use crate::LINE_END;
 
@@ -23,14 +23,6 @@ pub fn line_end(text: &[u8], at: usize) -> usize
             .iter()
             .position(|c| *c == LINE_END)
             .unwrap_or(last.len())
-}
-
-// Rules out: a text that only begins like the other.
-#[tactic(auto, using(crate::proofs::SameLaws::same_eq))]
-pub fn is_same(a: &[u8], b: &[u8]) -> bool
-    ensures { result ≡ same a.now b.now }
-{
-    a == b
 }
 
 // How many bytes stand before the first space.

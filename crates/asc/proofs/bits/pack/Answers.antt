@@ -1,4 +1,4 @@
--- `bits::pack` meets its contract. Invariant: the first i rows are packed (`Filled`). Measure: the rows left. Assumes nothing.
+-- `bits::pack` meets its contract. Invariant: the first i rows are packed (`Filled`). Assumes nothing.
 use native.Mathlib.Omega.{arith}
 use Rattle.lists.proofs.TableLaws.{filled_end}
 use Rattle.words.specs.Packed.{packed}

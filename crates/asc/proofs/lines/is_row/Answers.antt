@@ -1,23 +1,20 @@
--- `lines::is_row` meets its contract. Invariant: the test from digit k on is the whole test. Measure: the digits left. Assumes nothing.
+-- `lines::is_row` meets its contract: std's word for all, as ours. Assumes nothing.
+use Rattle.std.proofs.Common.{rules, tests}
+use borrow.Author.Tests.{ne_eqb}
 use mathlib.Core.Path.{sym, ◌∙◌}
-use native.Mathlib.Nat.{sub-zero}
-use Rattle.lists.proofs.SearchLaws.{all_turn_hit, all_turn_skip, all_turn_end}
-use Rattle.asc.proofs.SpeltLaws.{row_long, row_short}
+use Rattle.std.proofs.lemmas.Iterator.{YieldsList-from_slice}
+use Rattle.std.proofs.lemmas.Iterator.Search.{all_from_yields_List}
+use Rattle.lists.proofs.StdLaws.{list_all-is}
+use Rattle.asc.specs.Spelling.{is_binary, is_row}
+use Rattle.asc.proofs.SpeltLaws.{row_long}
 use Rattle.asc.proofs.lines.is_row.Goals as goal
 
-pub returns-then-line-ne-COLUMNS : goal.returns-then-line-ne-COLUMNS
-returns-then-line-ne-COLUMNS c = sym (row_short _ c.if-line-ne-COLUMNS.true)
+pub returns-then-line-eq-COLUMNS : goal.returns-then-line-eq-COLUMNS
+returns-then-line-eq-COLUMNS c =
+    let line = c.args.line.now in
+    all_from_yields_List is_binary _ _ _ c.all.ensures.ran (YieldsList-from_slice line (cc)) (λ x b q k. search (rules, tests))
+    ∙ list_all-is is_binary 0 line ∙ sym (row_long line c.if-line-eq-COLUMNS.true)
 
-pub loop-k-init : goal.loop-k-init
-loop-k-init c = rw (sub-zero _) (sym (row_long _ c.if-line-ne-COLUMNS.false))
-
-pub returns-then-not-is_binary : goal.returns-then-not-is_binary
-returns-then-not-is_binary c =
-    all_turn_hit _ _ _ _ c.loop-k.invariant c.loop-k-test.true (sym c.is_binary.ensures ∙ c.if-not-is_binary.true)
-
-pub loop-k-preserved : goal.loop-k-preserved
-loop-k-preserved c =
-    all_turn_skip _ _ _ _ c.loop-k.invariant c.loop-k-test.true (sym c.is_binary.ensures ∙ c.if-not-is_binary.false)
-
-pub returns : goal.returns
-returns c = all_turn_end _ _ _ _ c.loop-k.invariant c.loop-k-test.false
+pub returns-else-line-eq-COLUMNS : goal.returns-else-line-eq-COLUMNS
+unfolding is_row
+returns-else-line-eq-COLUMNS c = rw (ne_eqb _ 54 c.if-line-eq-COLUMNS.false)

@@ -10,6 +10,6 @@ pub returns-then-n-rest : goal.returns-then-n-rest
 returns-then-n-rest c =
     c.number.ensures ∙ ap number (tail_is (c.word_length-n.result + 1) (take (length c.args.line.now - 12) (drop 12 c.args.line.now))) ∙ line_y_is c.args.line.now (take (length c.args.line.now - 12) (drop 12 c.args.line.now)) (tail_is 12 c.args.line.now) _ c.word_length-n.ensures
 
-pub returns : goal.returns
-returns c =
+pub returns-else-n-rest : goal.returns-else-n-rest
+returns-else-n-rest c =
     line_y_none c.args.line.now _ (tail_is 12 c.args.line.now) _ c.word_length-n.ensures c.if-n-rest.false

@@ -1,15 +1,11 @@
--- `scan::all_given` meets its contract. Invariant: the test from tile t on is the whole test. Measure: the tiles left. Assumes nothing.
-use borrow.Author.Tests.{eq-eqb, ne_eqb}
-use Rattle.lists.proofs.SearchLaws.{all_turn_hit, all_turn_skip, all_turn_end}
+-- `scan::all_given` meets its contract: std's word for all, as ours. Assumes nothing.
+use Rattle.std.proofs.Common.{rules, tests, eqb, ◌∙◌}
+use Rattle.std.proofs.lemmas.Iterator.{YieldsList-from_slice}
+use Rattle.std.proofs.lemmas.Iterator.Search.{all_from_yields_List}
+use Rattle.lists.proofs.StdLaws.{list_all-is}
 use Rattle.asc.proofs.scan.all_given.Goals as goal
 
-pub returns-then-given-t-ne1 : goal.returns-then-given-t-ne1
-returns-then-given-t-ne1 c =
-    all_turn_hit _ _ _ _ c.loop-t.invariant c.loop-t-test.true (ne_eqb _ _ c.if-given-t-ne1.true)
-
-pub loop-t-preserved : goal.loop-t-preserved
-loop-t-preserved c =
-    all_turn_skip _ _ _ _ c.loop-t.invariant c.loop-t-test.true (eq-eqb _ _ c.if-given-t-ne1.false)
-
 pub returns : goal.returns
-returns c = all_turn_end _ _ _ _ c.loop-t.invariant c.loop-t-test.false
+returns c =
+    let given = c.args.given.now in
+    all_from_yields_List (λ mark. eqb mark 1) _ _ _ c.all.ensures.ran (YieldsList-from_slice given (cc)) (λ x b q k. search (rules, tests)) ∙ list_all-is (λ mark. eqb mark 1) 0 given

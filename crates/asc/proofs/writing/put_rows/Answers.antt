@@ -1,4 +1,4 @@
--- `writing::put_rows` meets its contract. Invariant: the rows before r are put (`RowsPut`). Measure: the rows left. Assumes nothing.
+-- `writing::put_rows` meets its contract. Invariant: the rows before r are put (`RowsPut`). Assumes nothing.
 use native.Mathlib.Omega.{arith}
 use Rattle.asc.proofs.WriteLaws.{rows_start, rows_next, rows_room, rows_turn, rows_end}
 use Rattle.asc.proofs.writing.put_rows.Goals as goal

@@ -1,10 +1,6 @@
--- `writing::put_rows` meets its contract. Invariant: the rows before r are put (`RowsPut`). Measure: the rows left. Assumes nothing.
-use Prim.Native.Nat.{◌-◌}
+-- `writing::put_rows` meets its contract. Invariant: the rows before r are put (`RowsPut`). Assumes nothing.
 use Rattle.asc.proofs.WriteLaws.{RowsPut}
 use Rattle.asc.proofs.writing.put_rows.Given as goal
 
 abbrev pub invariant-loop-r : goal.invariant-loop-r
 invariant-loop-r l = RowsPut l.bits l.t l.at l.initial.out l.r l.next l.out
-
-abbrev pub decreases-loop-r : goal.decreases-loop-r
-decreases-loop-r l = 16 - l.r

@@ -1,7 +1,7 @@
 -- What `follow` answers ("following a driver [checks] 1, 2, 3, 9, 5, 20 [..] in these orders").
 use Rattle.refusal.specs.declared.Refusal.{Refusal}
 use Rattle.std.specs.Prelude.{ℕ, zero, suc, Bool, List, ltb, Result, Ok, Err}
-use Rattle.refusal.specs.Grounds.{unless, number_of, place_of}
+use Rattle.refusal.specs.Grounds.{unless, place_of}
 use Rattle.refusal.specs.declared.Refusal.TheVariants.{WrongSize, WrongLength, Table, NoSuchSettings, Contention, OutOfRange}
 use Rattle.ports.specs.declared.size.Block.{Block}
 use Rattle.ports.specs.Block.{tiles, sized, tile_port}

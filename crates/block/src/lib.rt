@@ -72,7 +72,7 @@ pub fn build(
         table: table.len(),
         bits: bits.len(),
         settings: settings.len(),
-        room: room,
+        room,
     };
     if !is_build_exact(b, lent) {
         return Err(Refusal::WrongLength);
@@ -80,12 +80,12 @@ pub fn build(
     let r = list::list_bits(
         b, table, bits, list, settings, wires, sources, rows, marks, queue,
     );
-    lists::clear(settings);
-    lists::clear(wires);
-    lists::clear(sources);
-    lists::clear(rows);
-    lists::clear(marks);
-    lists::clear(queue);
+    settings.fill(0);
+    wires.fill(0);
+    sources.fill(0);
+    rows.fill(0);
+    marks.fill(0);
+    queue.fill(0);
     r
 }
 
@@ -126,8 +126,8 @@ pub fn follow(
         return Err(Refusal::WrongLength);
     }
     let r = driver::follow_settings(b, table, settings, tile, port, wires, sources, marks);
-    lists::clear(wires);
-    lists::clear(sources);
-    lists::clear(marks);
+    wires.fill(0);
+    sources.fill(0);
+    marks.fill(0);
     r
 }

@@ -40,8 +40,9 @@ fn list_rows(
     ensures list { list.new ≡ output (answer_number result) list.old (block_list b table.now st.now) }
 {
     let clocked = drivers::clocks::clocked_tile(b, st, wires, sources, marks);
-    let count = scheduling::schedule::schedule(rows, marks, queue, sources)
-        .map_err(|wire| Refusal::Loop(wire as u32))?;
+    let count = scheduling::schedule::schedule(rows, marks, queue, sources).map_err(
+        |wire| Refusal::Loop(wire as u32),
+    )?;
     if let Some(tile) = clocked {
         return Err(Refusal::CellClock(tile as u32));
     }

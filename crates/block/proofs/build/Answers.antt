@@ -52,4 +52,4 @@ returns c =
     let list = c.args.list.now in
     let cleared = build_cleared B table bits _ c.list_bits-r.ensures.answer in
     let answer = c.list_bits-r.ensures.answer ∙ build_bits B table bits _ (sym c.is_sized.ensures ∙ c.if-not-is_sized.false) (sym c.is_build_exact.ensures ∙ c.if-not-is_build_exact.false) in
-    record { answer = answer; list = c.list_bits-r.ensures.list; settings = cleared settings c.list_bits-r.new.settings _ c.list_bits-r.auto.settings c.clear.ensures; wires = cleared wires c.list_bits-r.new.wires _ c.list_bits-r.auto.wires c.clear-2.ensures; sources = cleared sources c.list_bits-r.new.sources _ c.list_bits-r.auto.sources c.clear-3.ensures; rows = cleared rows c.list_bits-r.new.rows _ c.list_bits-r.auto.rows c.clear-4.ensures; marks = cleared marks c.list_bits-r.new.marks _ c.list_bits-r.auto.marks c.clear-5.ensures; queue = cleared queue c.list_bits-r.new.queue _ c.list_bits-r.auto.queue c.clear-6.ensures; says = build_says B table bits settings (room_lent list wires sources rows marks queue) _ answer }
+    record { answer = answer; list = c.list_bits-r.ensures.list; settings = cleared settings c.list_bits-r.new.settings _ c.list_bits-r.auto.settings (c.fill.ensures.after (λ y e. e)); wires = cleared wires c.list_bits-r.new.wires _ c.list_bits-r.auto.wires (c.fill-2.ensures.after (λ y e. e)); sources = cleared sources c.list_bits-r.new.sources _ c.list_bits-r.auto.sources (c.fill-3.ensures.after (λ y e. e)); rows = cleared rows c.list_bits-r.new.rows _ c.list_bits-r.auto.rows (c.fill-4.ensures.after (λ y e. e)); marks = cleared marks c.list_bits-r.new.marks _ c.list_bits-r.auto.marks (c.fill-5.ensures.after (λ y e. e)); queue = cleared queue c.list_bits-r.new.queue _ c.list_bits-r.auto.queue (c.fill-6.ensures.after (λ y e. e)); says = build_says B table bits settings (room_lent list wires sources rows marks queue) _ answer }

@@ -45,4 +45,4 @@ returns c =
     let marks = c.args.marks.now in
     let cleared = follow_cleared B table settings tile port _ c.follow_settings-r.ensures in
     let answer = c.follow_settings-r.ensures ∙ follow_settings B table settings tile port _ (sym c.is_sized.ensures ∙ c.if-not-is_sized.false) (sym c.is_follow_exact.ensures ∙ c.if-not-is_follow_exact.false) in
-    record { answer = answer; wires = cleared wires c.follow_settings-r.new.wires _ c.follow_settings-r.auto.wires c.clear.ensures; sources = cleared sources c.follow_settings-r.new.sources _ c.follow_settings-r.auto.sources c.clear-2.ensures; marks = cleared marks c.follow_settings-r.new.marks _ c.follow_settings-r.auto.marks c.clear-3.ensures; says = follow_says B table settings tile port wires sources marks _ answer }
+    record { answer = answer; wires = cleared wires c.follow_settings-r.new.wires _ c.follow_settings-r.auto.wires (c.fill.ensures.after (λ y e. e)); sources = cleared sources c.follow_settings-r.new.sources _ c.follow_settings-r.auto.sources (c.fill-2.ensures.after (λ y e. e)); marks = cleared marks c.follow_settings-r.new.marks _ c.follow_settings-r.auto.marks (c.fill-3.ensures.after (λ y e. e)); says = follow_says B table settings tile port wires sources marks _ answer }

@@ -9,7 +9,6 @@ use Rattle.routing.specs.LogicTile.{logic_tile}
 use Rattle.ports.proofs.BlockLaws.{tiles_le}
 use Rattle.ports.specs.Block.{tiles}
 use Rattle.std.specs.Prelude.{Ok}
-use native.Mathlib.Omega.{arith}
 use mathlib.Core.Path.{sym, ◌∙◌}
 use Rattle.block.proofs.driver.follow_settings.Goals as goal
 

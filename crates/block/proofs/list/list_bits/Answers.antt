@@ -9,18 +9,15 @@ use Rattle.routing.proofs.TableCheckLaws.{table_exact}
 use Rattle.routing.proofs.PartSearch.{broken_some, broken_none}
 use Rattle.lists.proofs.BelowLaws.{below_some, below_none}
 use borrow.Author.Rules.{rules}
-use Rattle.routing.specs.TableCheck.{breaks, faulty_part, part_count}
 use Rattle.routing.specs.LogicTile.{logic_tile}
-use Rattle.config.specs.Blocks.{faulty_place, fault_place, tiles_of}
+use Rattle.config.specs.Blocks.{fault_place, tiles_of}
 use Rattle.ports.proofs.BlockLaws.{tiles_le}
 use Rattle.ports.specs.Block.{tiles}
 use Rattle.refusal.specs.Memory.{output}
-use Rattle.lists.proofs.SearchLaws.{first_le}
-use borrow.Author.Tests.{eq-eqb}
 use native.Mathlib.Omega.{arith}
 use mathlib.Core.List.{List}
 use mathlib.Core.Path.{refl, sym, ap, ◌∙◌, subst}
-use Prim.Native.Nat.{ℕ, ◌+◌, ◌*◌, ◌≤◌}
+use Prim.Native.Nat.{ℕ, ◌*◌}
 use Rattle.block.proofs.list.list_bits.Goals as goal
 
 pub overflow_cast-result : goal.overflow_cast-result

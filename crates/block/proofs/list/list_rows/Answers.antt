@@ -15,8 +15,8 @@ use Rattle.ports.proofs.BlockLaws.{tiles_le}
 use Rattle.ports.specs.Lengths.{ports}
 use lib.ListN.{length}
 use native.Mathlib.Omega.{arith}
-use mathlib.Core.Path.{◌≡◌, refl, sym, ap, ◌∙◌, subst}
-use Prim.Native.Nat.{ℕ, ◌≤◌}
+use mathlib.Core.Path.{◌≡◌, sym, ap, ◌∙◌, subst}
+use Prim.Native.Nat.{ℕ}
 use Rattle.block.proofs.list.list_rows.Goals as goal
 
 pub clocked_tile-clocked-requires : goal.clocked_tile-clocked-requires

@@ -33,7 +33,7 @@ pub fn read(s: Size, table: &[u16], bits: &[u64], settings: &mut [u16]) -> Resul
     let len = settings.len();
     let mut room = room::settings_room();
     checks::read_checks(s, table, bits, len, &mut room)?;
-    lists::copy(&room[..len], settings);
+    settings.copy_from_slice(&room[..len]);
     Ok(())
 }
 

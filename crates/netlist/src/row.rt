@@ -31,12 +31,6 @@ pub const LOOKUP: u16 = 6;
 
 pub const MAJORITY: u16 = 7;
 
-pub fn wide(x: u16) -> usize
-    ensures { result ≡ x }
-{
-    usize::from(x)
-}
-
 // Row i of a list.
 pub fn row_at(list: &[u16], i: usize) -> Row
     requires { Inside list.now i }

@@ -28,8 +28,8 @@ slice_bounds-room-end c =
     let few = tile_count_le args.s passed.size in
     omega (arith, passed.lengths.settings_long, c.read_checks.auto.room, c.settings_room-room.ensures)
 
-pub slice_bounds-copy-end : goal.slice_bounds-copy-end
-slice_bounds-copy-end c =
+pub slice_bounds-copy_from_slice-end : goal.slice_bounds-copy_from_slice-end
+slice_bounds-copy_from_slice-end c =
     let args = c.args in
     let answer = sym c.in_ok-read_checks.was ∙ c.read_checks.ensures.answer in
     let passed = read_passed args.s args.table.now args.bits.now (length args.settings.now) (sym answer) in
@@ -37,14 +37,14 @@ slice_bounds-copy-end c =
     let long = ap length read ∙ decoded_length args.table.now args.bits.now (tile_count args.s) ∙ sym passed.lengths.settings_long in
     sym long
 
-pub copy-requires : goal.copy-requires
-copy-requires c =
+pub copy_from_slice-requires : goal.copy_from_slice-requires
+copy_from_slice-requires c =
     let args = c.args in
     let answer = sym c.in_ok-read_checks.was ∙ c.read_checks.ensures.answer in
     let passed = read_passed args.s args.table.now args.bits.now (length args.settings.now) (sym answer) in
     let read = c.read_checks.ensures.room c.in_ok-read_checks.was in
     let long = ap length read ∙ decoded_length args.table.now args.bits.now (tile_count args.s) ∙ sym passed.lengths.settings_long in
-    long
+    sym long
 
 -- a yes
 pub returns : goal.returns
@@ -52,5 +52,5 @@ returns c =
     let args = c.args in
     let answer = sym c.in_ok-read_checks.was ∙ c.read_checks.ensures.answer in
     let passed = read_passed args.s args.table.now args.bits.now (length args.settings.now) (sym answer) in
-    let written = c.copy.ensures ∙ c.read_checks.ensures.room c.in_ok-read_checks.was in
+    let written = c.copy_from_slice.ensures.after ∙ c.read_checks.ensures.room c.in_ok-read_checks.was in
     record { answer = answer; settings = written; says = read_says args.s args.table.now args.bits.now args.settings.now _ _ answer written }

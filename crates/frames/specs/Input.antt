@@ -6,7 +6,7 @@ use Rattle.ports.specs.declared.size.Block.{Block}
 use Rattle.refusal.specs.declared.Refusal.{Refusal}
 use Rattle.std.specs.Prelude.{ℕ, zero, suc, ◌+◌, ◌*◌, ◌≡◌, Bool, true, not, ◌&&◌, List, eqb, leb, length, Result, Ok, Err}
 use Rattle.lists.specs.Search.{first}
-use Rattle.refusal.specs.Grounds.{unless, number_of, place_of}
+use Rattle.refusal.specs.Grounds.{unless}
 use Rattle.refusal.specs.declared.Refusal.TheVariants.{WrongSize, Line}
 use Rattle.texts.specs.Hex.{pair_at}
 use Rattle.frames.specs.Lines.{fields_line, passive_count, passive_line, group_digits, group_line, size_digits, east_at, size_line, tile_line}
@@ -67,4 +67,3 @@ parsed s =
     (unless (leb (tiles_due s) (tile_count s)) (Err (Line (4 + group_count s + tile_count s)))
     (unless (eqb (length s) (tile_at s (tiles_due s))) (Err (Line (4 + group_count s + tiles_due s)))
     (Ok (block (width s) (height s) (east s))))))))
-

@@ -4,7 +4,7 @@ use Rattle.refusal.specs.Grounds.{number_of, place_of}
 use Rattle.refusal.specs.declared.Refusal.{Refusal}
 use Rattle.std.specs.Prelude.{ℕ, ◌*◌, true, List, ◌++◌, Result, Ok, Err}
 use Rattle.ports.specs.declared.size.Block.{Block}
-use Rattle.ports.specs.Block.{block, tiles}
+use Rattle.ports.specs.Block.{tiles}
 use Rattle.ports.specs.Lengths.{ports_per_tile}
 use Rattle.words.specs.Forms.{TileBits, tiles_of_bytes}
 use Rattle.config.specs.Blocks.{decoded}

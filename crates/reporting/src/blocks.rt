@@ -120,9 +120,7 @@ fn put_built(
     );
     match built {
         Err(r) => put_refusal(r, out),
-        Ok(rows_listed) => {
-            put_accepted(b, table, bits, settings, wires, sources, out)
-        }
+        Ok(rows_listed) => { put_accepted(b, table, bits, settings, wires, sources, out) }
     }
 }
 

@@ -24,7 +24,7 @@ use Rattle.frames.proofs.ComeStepLaws.{begins_come}
 use Rattle.frames.proofs.WholeTurnLaws.{whole_begins}
 use Rattle.frames.proofs.MeaningLaws.{parsed_says}
 use Rattle.frames.proofs.ExactLaws.{parsed_exact}
-use Rattle.theorem.specs.ReportGrounds.{SizeRead, SmallRead, Taken, InputGrounds, SizeGiven, ParseGrounds}
+use Rattle.theorem.specs.ReportGrounds.{SizeRead, SmallRead, Taken, InputGrounds, SizeGiven, ParseGrounds, block_taken}
 
 -- ---- the block frame is read, or it is not
 

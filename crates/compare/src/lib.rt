@@ -18,6 +18,7 @@ use ports::size::{Size, is_allowed};
 use refusal::Refusal;
 
 mod blocks;
+mod cells;
 pub mod lengths;
 pub mod part;
 mod settings;

@@ -1,14 +1,11 @@
-// Settings compared one by one, fields, groups, passive bits and cells (document 01, 'Cells'): how many differ, and their rows.
+// Settings of one kind compared one by one: how many differ, and their rows.
 ghost use Rattle.std.specs.Prelude.{◌≡◌, ◌==◌, ℕ, not, ◌+◌, ◌*◌, ◌≤◌, length, map, sum_by};
 ghost use Rattle.std.specs.Int.{from_bool};
 ghost use Rattle.std.specs.List.{zip};
 ghost use Rattle.std.proofs.lemmas.List.Edits.{sets};
 ghost use Rattle.lists.specs.Search.{count_below};
 ghost use Rattle.lists.specs.Listing.{rows_where};
-ghost use Rattle.codec.specs.Cells.{cell_number};
 ghost use Rattle.compare.specs.Places.{row_length, number_apart, number_row, kind_number};
-
-use cell::logic::Cell;
 
 pub const ROW_LENGTH: usize = 5;
 
@@ -42,15 +39,6 @@ impl Setting for u16 {
 
     fn number(self) -> u32 {
         u32::from(self)
-    }
-}
-
-// A cell's table, and its flags with weight 65,536.
-impl Setting for Cell {
-    ghost number = { cell_number };
-
-    fn number(self) -> u32 {
-        u32::from(self.table) + 65536 * u32::from(self.flags())
     }
 }
 

@@ -6,6 +6,7 @@ ghost use Rattle.lists.specs.Listing.{rows_where};
 ghost use Rattle.ports.specs.Lengths.{settings_length};
 ghost use Rattle.compare.specs.Places.{row_length, places_per_tile, differ_at, row_at};
 
+use crate::cells::{count_cells, list_cells};
 use crate::settings::{Kind, count_changed, list_changed};
 use codec::cells::{CELLS_FROM, cells_of};
 use codec::settings::{GROUPS_FROM, PASSIVES_FROM};
@@ -27,7 +28,7 @@ pub fn count_tile(old: &[u16], new: &[u16]) -> usize
     let groups = count_changed(&old[GROUPS], &new[GROUPS]);
     let olds = cells_of(old);
     let news = cells_of(new);
-    let cells = count_changed(&olds, &news);
+    let cells = count_cells(olds, news);
     let passives = count_changed(&old[PASSIVES], &new[PASSIVES]);
     fields + groups + cells + passives
 }
@@ -44,7 +45,7 @@ pub fn list_tile(old: &[u16], new: &[u16], tile: u32, list: &mut [u32], from: us
     let cells = list_changed(&old[GROUPS], &new[GROUPS], tile, Kind::Group, list, groups);
     let olds = cells_of(old);
     let news = cells_of(new);
-    let passives = list_changed(&olds, &news, tile, Kind::Cell, list, cells);
+    let passives = list_cells(olds, news, tile, list, cells);
     list_changed(
         &old[PASSIVES],
         &new[PASSIVES],

@@ -39,23 +39,8 @@ impl Due {
     }
 }
 
-// The first wire that a row reads and that is not listed.
-fn first_waiting(row: Row, marks: &[u16]) -> Option<usize>
-    requires { (j : ℕ) → j < arity_of row → operand_of row j < length marks.now }
-    ensures { MatchOption result ((j : ℕ) → j < arity_of row → get_or marks.now (operand_of row j) 0 ≡ 1)
-        (λ d. StuckRow row marks.now d) }
-{
-    for j in 0..arity(row) {
-        let d = usize::from(operand(row, j));
-        if marks[d] != 1 {
-            return Some(d);
-        }
-    }
-    None
-}
-
-// The lowest wire that is not listed and reads only wires that are. The search goes through the wires that are due; one that is not ready
-// waits for its first operand that is not listed.
+// The lowest wire that is not listed and reads only wires that are: the search through the wires that are due and their operands is labelled and
+// nested, as document 01 asks for by name, and is left at the first wire whose operands are all listed. Any other waits for its first operand that is not.
 // Rules out: a wire that reads one not listed; a later one where a lower is ready.
 fn next_ready(rows: &[u16], marks: &mut [u16], links: &mut [u16], due: &mut Due) -> Option<usize>
     requires rows_len { length rows.now ≡ row_length * length marks.old }
@@ -66,16 +51,18 @@ fn next_ready(rows: &[u16], marks: &mut [u16], links: &mut [u16], due: &mut Due)
         (λ w. (w < length marks.old) × Found (graph_of rows.now) (length marks.old) marks.old marks.new links.new due.new w) }
 {
     let n = marks.len();
-    while let Some(w) = due.take(n) {
+    'search: while let Some(w) = due.take(n) {
         let row = row_at(rows, w);
         if marks[w] != 1 && row.kind != 0 {
-            match first_waiting(row, marks) {
-                Some(d) => {
+            for j in 0..arity(row) {
+                let d = usize::from(operand(row, j));
+                if marks[d] != 1 {
                     links[w] = marks[d];
                     marks[d] = (w + 2) as u16;
+                    continue 'search;
                 }
-                None => return Some(w),
             }
+            return Some(w);
         }
     }
     None

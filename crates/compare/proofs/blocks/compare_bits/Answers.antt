@@ -1,23 +1,20 @@
 -- `blocks::compare_bits` meets its contract: the table keeps the rules, both blocks decode, and the settings that they read to are compared. Assumes
 -- nothing.
 use Rattle.refusal.specs.Grounds.{answer_number}
-use mathlib.Core.Path.{refl, sym, ap, ap₂, ◌∙◌}
+use mathlib.Core.Path.{refl, sym, ap₂, ◌∙◌}
 use mathlib.Core.List.{List}
-use Prim.Native.Nat.{ℕ, ◌+◌, ◌*◌, ◌≤◌}
+use Prim.Native.Nat.{ℕ, ◌*◌}
 use native.Mathlib.Omega.{arith}
-use borrow.Author.Tests.{eq-eqb}
 use lib.ListN.{length}
-use Rattle.lists.proofs.SearchLaws.{first_le}
 use Rattle.refusal.specs.Memory.{output}
 use Rattle.ports.specs.Block.{tile_count}
 use Rattle.ports.proofs.BlockLaws.{tile_count_le}
 use Rattle.routing.specs.LogicTile.{logic_tile}
-use Rattle.routing.specs.TableCheck.{breaks, faulty_part, part_count}
 use Rattle.routing.proofs.TableCheckLaws.{table_exact}
 use Rattle.routing.proofs.PartSearch.{broken_some, broken_none}
 use Rattle.lists.proofs.BelowLaws.{below_some, below_none}
 use borrow.Author.Rules.{rules}
-use Rattle.config.specs.Blocks.{faulty_place, fault_place, tiles_of}
+use Rattle.config.specs.Blocks.{fault_place, tiles_of}
 use Rattle.compare.specs.Entry.{rows_answer, rows_list}
 use Rattle.compare.proofs.EntryLaws.{bits_table, bits_first, bits_second, bits_rows}
 use Rattle.compare.proofs.blocks.compare_bits.Goals as goal

@@ -13,7 +13,7 @@ use Rattle.compare.proofs.tiles.count_tile.Goals as goal
 use Rattle.compare.proofs.tiles.count_tile.Goals.{After-count_changed-passives}
 
 -- a tile has few
-few : (c : After-count_changed-passives) → c.count_changed-fields.result + c.count_changed-groups.result + c.count_changed-cells.result + c.count_changed-passives.result ≤ places_per_tile
+few : (c : After-count_changed-passives) → c.count_changed-fields.result + c.count_changed-groups.result + c.count_cells-cells.result + c.count_changed-passives.result ≤ places_per_tile
 few c =
     let old = c.args.old.now in
     let new = c.args.new.now in
@@ -29,7 +29,7 @@ few c =
       k,
       changed_le (λ (n : ℕ). n) _ _ (f new (omega arith) ∙ sym (f old (omega arith))) _ c.count_changed-fields.ensures,
       changed_le (λ (n : ℕ). n) _ _ (g new (omega arith) ∙ sym (g old (omega arith))) _ c.count_changed-groups.ensures,
-      changed_le cell_number _ _ (cells_length new _ c.cells_of-news.ensures ∙ sym k) _ c.count_changed-cells.ensures,
+      changed_le cell_number _ _ (cells_length new _ c.cells_of-news.ensures ∙ sym k) _ c.count_cells-cells.ensures,
       changed_le (λ (n : ℕ). n) _ _ (p new (omega arith) ∙ sym (p old (omega arith))) _ c.count_changed-passives.ensures,
     )
 
@@ -55,7 +55,7 @@ returns c =
     changed_count (λ (n : ℕ). n) _ _ (f new (omega arith) ∙ sym (f old (omega arith))) _ c.count_changed-fields.ensures field_count (f old (omega arith)) in
     let groups =
     changed_count (λ (n : ℕ). n) _ _ (g new (omega arith) ∙ sym (g old (omega arith))) _ c.count_changed-groups.ensures max_groups (g old (omega arith)) in
-    let cells = changed_count cell_number _ _ (news ∙ sym olds) _ c.count_changed-cells.ensures logic_tile.cells olds in
+    let cells = changed_count cell_number _ _ (news ∙ sym olds) _ c.count_cells-cells.ensures logic_tile.cells olds in
     let passives =
     changed_count (λ (n : ℕ). n) _ _ (p new (omega arith) ∙ sym (p old (omega arith))) _ c.count_changed-passives.ensures max_passives (p old (omega arith)) in
     let one = kind_count old new 0 field_count _ _ (fields_shown old c.requires.0) (fields_shown new c.requires.1) 0 _ (count_none_yet _) fields in

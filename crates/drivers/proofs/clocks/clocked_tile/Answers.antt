@@ -5,7 +5,7 @@ use Rattle.lists.proofs.SearchLaws.{first_turn_hit, first_turn_skip, first_turn_
 use Rattle.lists.proofs.BelowLaws.{below_is, below_past}
 use Rattle.std.specs.Prelude.{Some}
 use native.Mathlib.Omega.{arith}
-use mathlib.Core.Path.{◌≡◌, sym, ap, ◌∙◌}
+use mathlib.Core.Path.{sym, ap, ◌∙◌}
 use Prim.Native.Nat.{◌*◌}
 use Rattle.drivers.proofs.clocks.clocked_tile.Goals as goal
 

@@ -1,5 +1,5 @@
--- What counting and listing the settings of one kind cite. Main laws: `count_zip`: how many differ, as the code sums them; `number_at`, `changed_true`,
--- `changed_false`, `number_row_is`: the test and the row of number i. Assumes nothing.
+-- What counting and listing the settings of one kind cite. Main laws: `count_zip`: how many differ, as the code sums them; `number_at`, `changed_is`,
+-- `number_row_is`: the test and the row of number i. Assumes nothing.
 use Prim.Native.Nat.{ℕ, suc, ◌+◌, ◌<◌}
 use mathlib.Core.Path.{◌≡◌, refl, sym, ap, ap₂, ◌∙◌}
 use mathlib.Core.Bool.{Bool, true, false, cond, not}
@@ -58,21 +58,25 @@ module _ {X : Type 0} (number : X → ℕ) where
   number_at xs i r x l e f =
       f ∙ ap number e ∙ sym (get_or-map number xs i x 0 l) ∙ ap (λ (k : ℕ). get_or (map number xs) k 0) (let q : i ≡ 0 + i = omega arith in q)
 
-module _ (olds news : List ℕ) (i r s : ℕ) (e : r ≡ get_or olds (0 + i) 0) (f : s ≡ get_or news (0 + i) 0) where
-  pub changed_true : r ≢ s → number_apart 0 olds news i ≡ true
+module _ (start : ℕ) (olds news : List ℕ) (i r s : ℕ) (e : r ≡ get_or olds (start + i) 0) (f : s ≡ get_or news (start + i) 0) where
+  pub changed_is : number_apart start olds news i ≡ not (eqb r s)
+  unfolding number_apart
+  changed_is = ap not (ap₂ eqb (sym e) (sym f))
+
+  pub changed_true : r ≢ s → number_apart start olds news i ≡ true
   unfolding number_apart
   changed_true n = ap not (ne_eqb _ _ (λ q. n (e ∙ q ∙ sym f)))
 
-  pub changed_false : r ≡ s → number_apart 0 olds news i ≡ false
+  pub changed_false : r ≡ s → number_apart start olds news i ≡ false
   unfolding number_apart
   changed_false q = ap not (eq-eqb _ _ (sym e ∙ q ∙ f))
 
   pub number_row_is : (tile kind k at : ℕ) (list next : List ℕ) → k ≡ kind → next ≡ sets list at (tile ∷ k ∷ i ∷ r ∷ s ∷ [])
-      → next ≡ sets list at (number_row tile kind 0 olds news i)
+      → next ≡ sets list at (number_row tile kind start olds news i)
   unfolding number_row
   number_row_is tile kind k at list next d h =
       h ∙ ap (λ (x : ℕ). sets list at (tile ∷ x ∷ i ∷ r ∷ s ∷ [])) d ∙ ap₂ (λ (x y : ℕ). sets list at (tile ∷ kind ∷ i ∷ x ∷ y ∷ [])) e f
 
-pub number_row_length : (tile kind : ℕ) (olds news : List ℕ) (i : ℕ) → length (number_row tile kind 0 olds news i) ≡ row_length
+pub number_row_length : (tile kind start : ℕ) (olds news : List ℕ) (i : ℕ) → length (number_row tile kind start olds news i) ≡ row_length
 unfolding number_row
-number_row_length tile kind olds news i = refl
+number_row_length tile kind start olds news i = refl

@@ -1,17 +1,21 @@
 -- The places of a tile. Main laws: `by_field`, `by_group`, `by_cell`, `by_passive`: which kind place j is; `value_field`, .. what stands there.
 -- Assumes nothing.
-use Prim.Native.Nat.{ℕ, ◌-◌, ◌<◌, ◌≤◌}
-use mathlib.Core.Path.{◌≡◌, refl, ap, ap₂}
-use mathlib.Core.Bool.{not}
+use Prim.Native.Nat.{ℕ, ◌-◌, ◌<◌, ◌≤◌, ◌^◌}
+use mathlib.Core.Path.{◌≡◌, refl, sym, ap, ap₂, ◌∙◌}
+use mathlib.Core.Bool.{true, false, not}
 use mathlib.Core.List.{List, [], ◌∷◌}
 use native.Mathlib.Omega.{arith}
-use borrow.Author.Tests.{lt-ltb, le-ltb}
+use borrow.Author.Tests.{lt-ltb, le-ltb, eq-eqb, ne_eqb, eqb-true}
 use lib.Dec.{eqb}
 use lib.ListN.{length, get_or}
 use Rattle.lists.proofs.TableLaws.{tabulate_zero}
 use Rattle.routing.specs.LogicTile.{logic_tile}
 use Rattle.codec.specs.Settings.{field_setting, passive_setting, group_setting}
-use Rattle.codec.specs.Cells.{cell_number, cell_setting, cell_settings, empty_cell}
+use Rattle.codec.specs.Cells.{cell_number, cell_setting, cell_settings, empty_cell, same_cell}
+use mathlib.Core.Logic.{⊎_elim, ◌≢◌}
+use Rattle.lists.proofs.CaseLaws.{cases, eq_or_ne, and_equal, and_left, and_right}
+use Rattle.cell.specs.declared.logic.Cell.{Cell}
+use Rattle.cell.specs.Settings.{flags_of}
 use Rattle.compare.specs.Places.{row_length, group_places, cell_places, passive_places, by_kind, kind_at, index_at, value_at, differ_at, row_at}
 
 module _ {A : Type 0} (j : ℕ) (f g c p : A) where
@@ -31,6 +35,27 @@ module _ {A : Type 0} (j : ℕ) (f g c p : A) where
 pub cell_at : (settings : List ℕ) (i : ℕ) → i < 8 → get_or (cell_settings settings) i empty_cell ≡ cell_setting settings i
 unfolding cell_settings
 cell_at settings i h = tabulate_zero (cell_setting settings) empty_cell 8 i h
+
+-- cells are the same exactly if their numbers are
+module _ (a b : Cell) (s : a.table < 2 ^ 16) (t : b.table < 2 ^ 16) where
+  pub same_cell_number : same_cell a b ≡ eqb (cell_number a) (cell_number b)
+  same_cell_number = ⊎_elim same apart (eq_or_ne (cell_number a) (cell_number b))
+    where
+      same : cell_number a ≡ cell_number b → same_cell a b ≡ eqb (cell_number a) (cell_number b)
+      same e =
+          let x : a.table ≡ b.table = omega arith in
+          let y : flags_of a ≡ flags_of b = omega arith in
+          and_equal a.table b.table x (eq-eqb (flags_of a) (flags_of b) y) ∙ sym (eq-eqb (cell_number a) (cell_number b) e)
+
+      apart : cell_number a ≢ cell_number b → same_cell a b ≡ eqb (cell_number a) (cell_number b)
+      apart n =
+          ⊎_elim
+          (λ (e : same_cell a b ≡ true).
+          let x : a.table ≡ b.table = eqb-true a.table b.table (and_left (eqb a.table b.table) (eqb (flags_of a) (flags_of b)) e) in
+          let y : flags_of a ≡ flags_of b = eqb-true (flags_of a) (flags_of b) (and_right (eqb a.table b.table) (eqb (flags_of a) (flags_of b)) e) in
+          absurd (n (let z : cell_number a ≡ cell_number b = omega arith in z)))
+          (λ (e : same_cell a b ≡ false). e ∙ sym (ne_eqb (cell_number a) (cell_number b) n))
+          (cases (same_cell a b))
 
 -- ---- what stands at place j
 

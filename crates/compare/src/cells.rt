@@ -18,6 +18,10 @@ impl Setting for Cell {
     fn number(self) -> u32 {
         u32::from(self.table) + 65536 * u32::from(self.flags())
     }
+
+    fn is_same(self, other: Cell) -> bool {
+        codec::cells::is_same_cell(self, other)
+    }
 }
 
 // How many of the eight differ.

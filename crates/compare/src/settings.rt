@@ -32,6 +32,10 @@ pub trait Setting: Copy {
 
     fn number(self) -> u32
         ensures { result ≡ number self };
+
+    // Whether two are the same.
+    fn is_same(self, other: Self) -> bool
+        ensures { result ≡ (number self == number other) };
 }
 
 impl Setting for u16 {
@@ -39,6 +43,10 @@ impl Setting for u16 {
 
     fn number(self) -> u32 {
         u32::from(self)
+    }
+
+    fn is_same(self, other: u16) -> bool {
+        self == other
     }
 }
 
@@ -49,7 +57,7 @@ pub fn count_changed<S: Setting>(olds: &[S], news: &[S]) -> usize
 {
     olds.iter()
         .zip(news)
-        .map(|(old, new)| usize::from(old.number() != new.number()))
+        .map(|(old, new)| usize::from(!old.is_same(*new)))
         .sum()
 }
 
@@ -79,10 +87,14 @@ pub fn list_changed<S: Setting>(
 {
     let mut at = from;
     for i in 0..olds.len() {
-        let old = olds[i].number();
-        let new = news[i].number();
-        if old != new {
-            put_row(list, at, [tile, u32::from(kind), i as u32, old, new]);
+        let old = olds[i];
+        let new = news[i];
+        if !old.is_same(new) {
+            put_row(
+                list,
+                at,
+                [tile, u32::from(kind), i as u32, old.number(), new.number()],
+            );
             at += ROW_LENGTH;
         }
     }

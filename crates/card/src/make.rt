@@ -73,7 +73,7 @@ fn card_settings(
     wiring::fill_wires(b, wires);
     drivers::sources::find_sources(b, table, st, wires, sources);
     mark_leaving(b, wires, sources, queue);
-    marks.copy_from_slice(queue);
+    lists::copy(queue, marks);
     mark_feeding(b, st, wires, sources, list, count, marks);
     put_card(b, st, queue, marks, card)
 }

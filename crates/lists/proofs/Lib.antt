@@ -10,6 +10,7 @@ pub mod GrowingSearch  -- grow-..: one number more to look at; more-..: a test t
 pub mod CountLaws  -- count_ext, count_one_more, count_lt, count_add, count_none, count_le
 pub mod TableLaws  -- tabulate_at, tabulate_is; Filled with its start, step and end: a slice filled from the front
 pub mod PartLaws  -- part_joined; joined_step, joined_end: a slice filled part by part
+pub mod Clearing  -- cleared_start, -step, -end: a slice set to zeros from the front, place by place
 pub mod FillLaws  -- zeroed_is, zeroed_front, zeroed_back: a list after zeros were written from a place on
 pub mod Copying  -- Copied: a slice filled with what stands in a list
 pub mod RowLaws  -- rows_at, row_reached: where the row of a number that passes stands; rows_hit, -skip, -more, -gap and the same for the count: turns of the loops

@@ -34,7 +34,7 @@ fn depends_on_itself(
     ensures yes { result ≡ true → DependsOn (graph_of rows.now) start start }
     ensures no { result ≡ false → DependsOn (graph_of rows.now) start start → ⊥ }
 {
-    marks.copy_from_slice(listed);
+    lists::copy(listed, marks);
     marks[start] = 1;
     queue[0] = start as u16;
     let mut head = 0;

@@ -127,7 +127,7 @@ pub fn rank_wires(rows: &[u16], marks: &mut [u16], queue: &mut [u16], listed: &[
     requires marks_in_bounds { (length marks.old ≤ length queue.old) × (length marks.old ≤ max_wires) }
     requires listed_len { length listed.now ≡ length marks.old }
 {
-    marks.copy_from_slice(listed);
+    lists::copy(listed, marks);
     let mut at = Descent::default();
     for start in 0..marks.len() {
         if marks[start] == 0 {

@@ -44,7 +44,7 @@ loop-head-init c =
     let args = c.args in
     let pre = c.requires in
     subst (λ (t : List ℕ). Reaching (graph_of args.rows.now) (length args.marks.now) args.start args.listed.now (set t args.start 1) (set args.queue.now 0 args.start) 0 1)
-    (sym c.copy_from_slice.ensures.after)
+    (sym c.copy.ensures)
     (reaching_start _ _ args.start args.listed.now args.queue.now pre.listed_len.0 pre.start_in_bounds.1 pre.start_in_bounds.0 pre.marks_in_bounds.0)
 
 pub operand-x-requires : goal.operand-x-requires

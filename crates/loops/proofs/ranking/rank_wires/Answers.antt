@@ -4,4 +4,4 @@ use native.Mathlib.Omega.{arith}
 use Rattle.loops.proofs.ranking.rank_wires.Goals as goal
 
 pub loop-start-init : goal.loop-start-init
-loop-start-init c = descending_start c.copy_from_slice.new.self _ _ (omega arith) c.default-at.ensures
+loop-start-init c = descending_start c.copy.new.to _ _ (omega arith) c.default-at.ensures

@@ -5,6 +5,7 @@ use mathlib.Core.Bool.{Bool, true, false}
 use mathlib.Core.Logic.{⊎_elim}
 use mathlib.Core.List.{List, [], ◌∷◌}
 use native.Mathlib.Omega.{arith}
+use native.Mathlib.Nat.{mul-le-mul_right}
 use borrow.Author.Tests.{le-leb, lt-ltb, leb-true, ltb-true, ne_eqb}
 use lib.Dec.{leb, ltb}
 use lib.ListN.{length, get_or, set}
@@ -14,7 +15,7 @@ use Rattle.texts.specs.Lines.{same, word}
 use Rattle.texts.specs.Pieces.{placed}
 use Rattle.texts.proofs.SameLaws.{same_refl, same_false}
 use Rattle.ports.specs.Lengths.{positions}
-use Rattle.asc.specs.Area.{Area}
+use Rattle.asc.specs.Area.{Area, tiles_of}
 use Rattle.asc.specs.Spelling.{device_word, device_line, tile_word, tile_line, is_tile_line, is_binary, is_row}
 use Rattle.asc.specs.Stages.{Stage, stage, Outside, DigitRow, Turn, empty, the_device, a_tile, a_row, outside, other, skipped}
 use Rattle.asc.specs.Next.{goes, inside, tile_at, tile_next, dot_next, row_next, next_of}
@@ -65,6 +66,26 @@ module _ (a : Area) where
         y_from = leb-true a.y Y (and_left _ _ r₂);
         y_to = ltb-true Y (a.y + a.h) (and_right (leb a.y Y) _ r₂);
       }
+
+  pub inside_not : (X Y : ℕ) → (InBlock X Y → ⊥) → inside a X Y ≡ false
+  inside_not X Y h = ⊎_elim (λ e. absurd (h (in_block X Y e))) (λ e. e) (cases (inside a X Y))
+
+  -- the last of the four tests
+  pub inside_last : (X Y : ℕ) → a.x ≤ X → X < a.x + a.w → a.y ≤ Y → inside a X Y ≡ ltb Y (a.y + a.h)
+  unfolding inside
+  inside_last X Y e f g = rw (le-leb a.x X e, lt-ltb X (a.x + a.w) f, le-leb a.y Y g)
+
+  -- the tile's index is below their number
+  pub tile_at_lt : (X Y : ℕ) → InBlock X Y → tile_at a X Y < tiles_of a
+  tile_at_lt X Y b =
+      let f = b.x_from in
+      let t = b.x_to in
+      let f' = b.y_from in
+      let t' = b.y_to in
+      let l : suc (Y - a.y) ≤ a.h = omega arith in
+      let m : suc (Y - a.y) * a.w ≤ a.h * a.w = mul-le-mul_right a.w l in
+      let q : (Y - a.y) * a.w + a.w ≡ suc (Y - a.y) * a.w = omega arith in
+      omega arith
 
   pub outside_is : (X Y : ℕ) → Outside a X Y → inside a X Y ≡ false
   outside_is X Y h =

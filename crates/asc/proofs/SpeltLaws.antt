@@ -1,9 +1,11 @@
--- Lines as the code looks at them. Main laws: `line_x_is`, `line_y_is`; `row_long`.
+-- Lines as the code looks at them. Main laws: `line_x_is`, `line_y_is`; `row_long`, `row_short`.
 use Prim.Native.Nat.{ℕ, ◌+◌, ◌-◌, ◌≤◌}
 use mathlib.Core.Path.{◌≡◌, sym, ap, ◌∙◌}
+use mathlib.Core.Bool.{false}
+use mathlib.Core.Logic.{◌≢◌}
 use mathlib.Core.List.{List}
 use native.Mathlib.Omega.{arith}
-use borrow.Author.Tests.{eq-eqb}
+use borrow.Author.Tests.{eq-eqb, ne_eqb}
 use lib.ListN.{length, take, drop, get_or, length-drop, drop_of_length-le}
 use lib.Seq.{take_all}
 use Rattle.lists.specs.Search.{all_from}
@@ -33,3 +35,7 @@ module _ (xs : List ℕ) where
   pub row_long : length xs ≡ 54 → is_row xs ≡ all_from (λ k. is_binary (get_or xs k 0)) 0 (length xs)
   unfolding is_row
   row_long e = rw (eq-eqb (length xs) 54 e)
+
+  pub row_short : length xs ≢ 54 → is_row xs ≡ false
+  unfolding is_row
+  row_short h = rw (ne_eqb (length xs) 54 h)

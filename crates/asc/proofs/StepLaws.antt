@@ -63,6 +63,10 @@ module _ (d k : Bool) (l p : ℕ) (g c line : List ℕ) where
   unfolding row_next
   row_good_lem e = rw e
 
+  pub row_bad : is_row line ≡ false → row_next d k l p g c line ≡ fault
+  unfolding row_next
+  row_bad e = rw e
+
 -- ---- any line, as the code looks at it
 
 module _ (a : Area) where

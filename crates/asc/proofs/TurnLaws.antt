@@ -12,6 +12,7 @@ use Rattle.lists.proofs.CaseLaws.{cases, eq_or_ne, clash, and_left, and_right, e
 use Rattle.lists.proofs.SearchLaws.{all_at}
 use Rattle.lists.specs.Search.{all_from}
 use Rattle.texts.specs.Lines.{same, word}
+use Rattle.texts.specs.Pieces.{placed}
 use Rattle.texts.proofs.SameLaws.{same_true, same_refl}
 use Rattle.asc.specs.Area.{Area}
 use Rattle.asc.specs.Spelling.{device_word, device_line, tile_word, tile_line, line_x, line_y, is_tile_line, is_binary, is_row}
@@ -20,7 +21,7 @@ use Rattle.asc.specs.Next.{goes, fault, inside, tile_at, tile_next, dot_next, ro
 use Rattle.asc.proofs.AreaLaws.{Sized}
 use Rattle.asc.proofs.SpellingLaws.{tile_line_length}
 use Rattle.asc.proofs.NextLaws.{in_block, inside_is, turn_next}
-use Rattle.asc.proofs.StepLaws.{dot_device, dot_other, dot_bad, dot_tile, device_good, device_bad, tile_outside, tile_twice, tile_given}
+use Rattle.asc.proofs.StepLaws.{dot_device, dot_other, dot_bad, dot_tile, device_good, device_bad, tile_outside, tile_twice, tile_given, row_good_lem}
 
 never : {A : Type 0} {st : Stage} → fault ≡ goes st → A
 never e = absurd (let z : ◌≡◌ {A = ℕ} 0 1 = cc in omega arith)
@@ -125,6 +126,12 @@ next_turn a (stage d k zero p g c) (b ∷ line) next e =
     at_dot b q h = let z : next_of a (stage d k zero p g c) (46 ∷ line) ≡ goes next = subst (λ (x : ℕ). next_of a (stage d k zero p g c) (x ∷ line) ≡ goes next) q h in z
 
 -- ---- as the code has them
+
+pub row_goes : (d k : Bool) (l p : ℕ) (g c line : List ℕ) (next : ℕ) (c' : List ℕ) → is_row line ≡ true → next ≡ p + length line → c' ≡ placed p line c
+    → row_next d k l p g c line ≡ goes (stage d k l next g c')
+row_goes d k l p g c line next c' e q r =
+    let long = (row_of line e).long in
+    row_good_lem d k l p g c line e ∙ ap₂ (λ (x : ℕ) (y : List ℕ). goes (stage d k l x g y)) (let z : p + 54 ≡ next = omega arith in z) (sym r)
 
 -- a tile's line has 15 bytes at least
 pub short_line : (line : List ℕ) → length line < 12 → is_tile_line line ≡ false

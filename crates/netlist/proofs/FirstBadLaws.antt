@@ -1,13 +1,14 @@
--- What the code of ground 12 needs: the marks of the rows before (`Checking`), and two searches joined to one.
+-- What the code of ground 12 needs: the count of wires, the marks of the rows before (`Checking`), and two searches joined to one.
 use mathlib.Core.Path.{◌≡◌, refl, sym, ap, fun_ext, ◌∙◌}
 use mathlib.Core.Bool.{Bool, true, false, not}
 use mathlib.Core.Logic.{⊎_elim, ◌≢◌}
 use mathlib.Core.List.{List}
 use Prim.Native.Nat.{ℕ, zero, suc, ◌+◌, ◌-◌, ◌<◌, ◌≤◌}
 use native.Mathlib.Nat.{sub-zero}
+use native.Mathlib.Numerals.{add-one}
 use native.Mathlib.Omega.{arith}
 use lib.ListN.{length, set, length-set}
-use Rattle.lists.specs.Search.{first}
+use Rattle.lists.specs.Search.{first, count_below}
 use Rattle.lists.specs.Tables.{zeros}
 use Rattle.lists.proofs.CaseLaws.{cases, eq_or_ne}
 use Rattle.lists.proofs.CountLaws.{count_le}
@@ -27,6 +28,24 @@ pub test_ext : (a b : Bool) → (a ≡ true → b ≡ true) → (b ≡ true → 
 test_ext true b f g = sym (f refl)
 test_ext false true f g = g refl
 test_ext false false f g = refl
+
+-- ---- the count of wires
+
+abbrev pub marked_below : List ℕ → ℕ → ℕ
+marked_below wires w = count_below (listed wires) w
+
+module _ (wires : List ℕ) (w : ℕ) where
+  pub marked_more : listed wires w ≡ true → marked_below wires w + 1 ≡ marked_below wires (w + 1)
+  unfolding count_below
+  marked_more t = rw (add-one w, t) (omega arith)
+
+  pub marked_same : listed wires w ≡ false → marked_below wires w ≡ marked_below wires (w + 1)
+  unfolding count_below
+  marked_same f = rw (add-one w, f) (omega arith)
+
+pub marked_none : (wires : List ℕ) → marked_below wires 0 ≡ 0
+unfolding count_below
+marked_none wires = refl
 
 -- ---- the marks are those of the rows before i
 

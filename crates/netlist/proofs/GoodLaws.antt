@@ -1,5 +1,5 @@
 -- A good row by its parts, and a zero row by its numbers. Main laws: `good_parts`, `good_of_parts`, `zero_exact`.
-use mathlib.Core.Path.{◌≡◌, refl}
+use mathlib.Core.Path.{◌≡◌, refl, sym, ◌∙◌}
 use mathlib.Core.Bool.{Bool, true, false, not, ◌&&◌, ◌||◌}
 use mathlib.Core.Logic.{◌⊎◌, inl, inr, ⊎_elim, ◌≢◌, ◌↔◌}
 use Prim.Native.Nat.{ℕ, ◌<◌, ◌≤◌}
@@ -7,7 +7,7 @@ use native.Mathlib.Omega.{arith}
 use borrow.Author.Tests.{leb-true, le-leb, eqb-true, eqb-false, eq-eqb, ne_eqb, not-true}
 use lib.Dec.{eqb, leb}
 use Rattle.lists.specs.Search.{all_from}
-use Rattle.lists.proofs.CaseLaws.{and_left, and_right, and_true, or_is}
+use Rattle.lists.proofs.CaseLaws.{cases, eq_or_ne, and_left, and_right, and_true, or_is}
 use Rattle.lists.proofs.SearchLaws.{all_at, all_of}
 use Rattle.netlist.specs.Kinds.{lookup_kind, majority_kind}
 use Rattle.netlist.specs.Rows.{zero_row}
@@ -67,6 +67,19 @@ module _ (row : Row) (cells : ℕ) (block came : ℕ → Bool) where
           either true e = refl
           either false e = e
 
+  -- a row that lacks a part is not good
+  pub good_false : (GoodParts row cells block came → ⊥) → false ≡ row_good row cells block came
+  good_false h = ⊎_elim (λ t. absurd (h (good_parts t))) (λ f. sym f) (cases (row_good row cells block came))
+
+  -- with all other parts there, the table decides
+  pub good_last : row.kind ≢ 0 → row.kind ≤ majority_kind → block row.wire ≡ true → came row.wire ≡ false → ((j : ℕ) → j < 4 → operand_good row cells came j ≡ true)
+      → (row.kind ≡ lookup_kind → true ≡ row_good row cells block came) × (row.kind ≢ lookup_kind → eqb row.table 0 ≡ row_good row cells block came)
+  good_last k l b n o = (
+    λ e. sym (good_of_parts (record { kind_nonzero = k; kind_high = l; in_block = b; new = n; operands = o; table = inl e })),
+    λ ne. ⊎_elim (λ (e : row.table ≡ 0). eq-eqb _ _ e ∙ sym (good_of_parts (record { kind_nonzero = k; kind_high = l; in_block = b; new = n; operands = o; table = inr e })))
+        (λ z. ne_eqb _ _ z ∙ good_false (λ h. ⊎_elim ne z h.table)) (eq_or_ne row.table 0),
+  )
+
 -- ---- zeros
 
 pub zero_exact : (row : Row) → zero_test row ≡ true ↔ (row ≡ zero_row)
@@ -88,6 +101,9 @@ zero_exact row = (to, λ e. rw e)
         let d = eqb-true _ _ (and_left (eqb row.d 0) (eqb row.table 0) t5) in
         let e = eqb-true _ _ (and_right (eqb row.d 0) (eqb row.table 0) t5) in
         λ s. record { kind = k s; wire = w s; a = a s; b = b s; c = c s; d = d s; table = e s }
+
+pub zero_false : (row : Row) → row ≢ zero_row → false ≡ zero_test row
+zero_false row ne = ⊎_elim (λ t. absurd (ne ((zero_exact row).0 t))) (λ f. sym f) (cases (zero_test row))
 
 -- with the other six numbers 0 the last decides
 pub zero_last : (row : Row) → row.kind ≡ 0 → row.wire ≡ 0 → row.a ≡ 0 → row.b ≡ 0 → row.c ≡ 0 → row.d ≡ 0 → eqb row.table 0 ≡ zero_test row

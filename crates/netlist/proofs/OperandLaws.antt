@@ -1,12 +1,12 @@
 -- An operand by its use: a wire that came before, a cell, or 0. Main law: `used_operand_good`.
 use mathlib.Core.Path.{◌≡◌, refl, sym, ap, ◌∙◌}
 use mathlib.Core.Bool.{Bool, true, false, ◌&&◌, ◌||◌, cond}
-use mathlib.Core.Logic.{◌⊎◌, inl, inr, ⊎_elim}
+use mathlib.Core.Logic.{◌⊎◌, inl, inr, ⊎_elim, ◌≢◌}
 use Prim.Native.Nat.{ℕ, ◌<◌, ◌≤◌}
 use native.Mathlib.Omega.{arith}
-use borrow.Author.Tests.{lt-ltb, le-ltb, eqb-true, eq-eqb}
+use borrow.Author.Tests.{lt-ltb, le-ltb, eqb-true, eq-eqb, ne_eqb}
 use lib.Dec.{eqb, ltb}
-use Rattle.lists.proofs.CaseLaws.{cases, clash, lt_or_le, and_left, and_right}
+use Rattle.lists.proofs.CaseLaws.{cases, clash, lt_or_le, and_left, and_right, and_false_right}
 use Rattle.netlist.specs.Kinds.{flip_flop_kind}
 use Rattle.netlist.specs.Rows.{operand_of, arity_of}
 use Rattle.netlist.specs.Checking.{uses, operand_good}
@@ -23,6 +23,11 @@ module _ (row : Row) (cells : ℕ) (came : ℕ → Bool) (j o : ℕ) (is : o ≡
   pub operand_good_cell : arity_of row ≤ j → row.kind ≡ flip_flop_kind → j ≡ 0 → ltb o cells ≡ operand_good row cells came j
   unfolding operand_good
   operand_good_cell l k z = simp (le-ltb _ _ l, eq-eqb _ _ k, eq-eqb _ _ z, is)
+
+  pub operand_good_zero : arity_of row ≤ j → (row.kind ≢ flip_flop_kind) ⊎ (j ≢ 0) → eqb o 0 ≡ operand_good row cells came j
+  unfolding operand_good
+  operand_good_zero l (inl k) = simp (le-ltb _ _ l, ne_eqb _ _ k, is)
+  operand_good_zero l (inr z) = simp (le-ltb _ _ l, and_false_right (eqb row.kind flip_flop_kind) (eqb j 0) (ne_eqb _ _ z), is)
 
   pub operand_good_unused : uses row j ≡ false → eqb o 0 ≡ operand_good row cells came j
   unfolding operand_good

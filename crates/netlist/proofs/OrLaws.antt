@@ -1,19 +1,37 @@
--- Numbers of which none is higher than another (`AtMost`), as those or-ed. Main law: `rows_none`: rows whose numbers are all 0.
+-- Numbers or-ed, of which none is higher than the whole. Main laws: `AtMost` with `at_most_start`, `-more`; `rows_none`: rows whose numbers
+-- are all 0.
 use Prim.Native.Nat.{ℕ, zero, suc, ◌+◌, ◌*◌, ◌-◌, ◌<◌, ◌≤◌}
 use mathlib.Core.Path.{◌≡◌, sym, ◌∙◌, ap}
 use mathlib.Core.Bool.{Bool, true, false, not}
+use mathlib.Core.Logic.{⊎_elim}
 use mathlib.Core.List.{List}
 use native.Mathlib.Omega.{arith}
 use borrow.Author.Tests.{eq-eqb}
+use lib.Bits.{bit_or, or_add_and, and_le_r, or_comm}
 use lib.ListN.{get_or}
 use Rattle.lists.specs.Search.{first}
+use Rattle.lists.proofs.CaseLaws.{lt_or_le}
 use Rattle.netlist.specs.Rows.{row_length, row_at}
 use Rattle.netlist.specs.Checking.{zero_test}
 use Rattle.netlist.proofs.GoodLaws.{zero_last}
 
+or_left : (a b : ℕ) → a ≤ bit_or a b
+or_left a b = omega (arith, or_add_and a b, and_le_r a b)
+
+or_right : (a b : ℕ) → b ≤ bit_or a b
+or_right a b = omega (arith, or_left b a, or_comm a b)
+
 -- the numbers from `from` on, below i, are at most x
 abbrev pub AtMost : List ℕ → ℕ → ℕ → ℕ → Type 0
 AtMost l from i x = (k : ℕ) → from ≤ k → k < i → get_or l k 0 ≤ x
+
+pub at_most_start : (l : List ℕ) (from x : ℕ) → AtMost l from from x
+at_most_start l from x k a b = absurd (omega arith)
+
+pub at_most_more : (l : List ℕ) (from i x : ℕ) → AtMost l from i x → AtMost l from (i + 1) (bit_or x (get_or l i 0))
+at_most_more l from i x h k a b =
+    ⊎_elim (λ (g : k < i). omega (arith, h k a g, or_left x (get_or l i 0)))
+    (λ (g : i ≤ k). let e : k ≡ i = omega arith in omega (arith, ap (λ (j : ℕ). get_or l j 0) e, or_right x (get_or l i 0))) (lt_or_le k i)
 
 -- a search that finds none
 first_nowhere : (p : ℕ → Bool) (i m : ℕ) → ((k : ℕ) → i ≤ k → k < i + m → p k ≡ false) → i + m ≡ first p i m

@@ -10,7 +10,7 @@ use lib.ListN.{length, set, length-set}
 use Rattle.lists.specs.Search.{all_from}
 use Rattle.lists.specs.Tables.{zeros}
 use Rattle.lists.proofs.CaseLaws.{cases, clash, lt_or_le, and_left, and_right, and_true, and_false_left, and_false_right}
-use Rattle.lists.proofs.SearchLaws.{first_at, first_none, first_true, first_before, all_at, all_of, all_not}
+use Rattle.lists.proofs.SearchLaws.{first_at, first_none, first_le, first_true, first_before, all_at, all_of, all_not}
 use Rattle.lists.proofs.TableLaws.{zeros_length}
 use Rattle.netlist.specs.Graph.{Graph, Reads}
 use Rattle.netlist.specs.Marks.{listed, unmarked}
@@ -67,6 +67,10 @@ module _ (g : Graph) (m : List ℕ) (w : ℕ) where
 -- ---- next
 
 module _ (g : Graph) (n : ℕ) (m : List ℕ) where
+  pub next_le : next g n m ≤ n
+  unfolding next
+  next_le = let h = first_le (ready g m) 0 n in omega arith
+
   pub next_ready : next g n m < n → ready g m (next g n m) ≡ true
   unfolding next
   next_ready l = first_true (ready g m) 0 n (omega arith)

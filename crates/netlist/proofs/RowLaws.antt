@@ -72,6 +72,19 @@ sets_same (v ∷ vs) l i (suc j) h lj =
     ap (λ (p : ℕ). get_or (sets (set l i v) (suc i) vs) p 0) (let e : i + suc j ≡ suc i + j = omega arith in e)
     ∙ sets_same vs (set l i v) (suc i) j (omega (arith, length-set l i v)) (omega arith)
 
+-- seven stores, one for each number
+pub row_stores : (list : List ℕ) (at : ℕ) (row : Row)
+    → set (set (set (set (set (set (set list at row.kind) (at + 1) row.wire) (at + 2) row.a) (at + 3) row.b) (at + 4) row.c) (at + 5) row.d) (at + 6) row.table
+    ≡ sets list at (numbers_of row)
+row_stores list at row =
+    let e1 : at + 1 ≡ suc at = omega arith in
+    let e2 : at + 2 ≡ suc (suc at) = omega arith in
+    let e3 : at + 3 ≡ suc (suc (suc at)) = omega arith in
+    let e4 : at + 4 ≡ suc (suc (suc (suc at))) = omega arith in
+    let e5 : at + 5 ≡ suc (suc (suc (suc (suc at)))) = omega arith in
+    let e6 : at + 6 ≡ suc (suc (suc (suc (suc (suc at))))) = omega arith in
+    rw (e1, e2, e3, e4, e5, e6)
+
 module _ (list : List ℕ) (i : ℕ) (row : Row) where
   pub set_row_length : length (set_row list i row) ≡ length list
   unfolding set_row

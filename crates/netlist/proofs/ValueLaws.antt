@@ -7,6 +7,7 @@ use native.Mathlib.Omega.{arith}
 use borrow.Author.Tests.{eqb-true}
 use lib.Dec.{eqb}
 use lib.ListN.{get_or}
+use Rattle.cell.specs.Lookup.{lookup_bit, majority}
 use Rattle.cell.proofs.LookupLaws.{lookup_bit_lt, majority_lt}
 use Rattle.netlist.specs.Kinds.{lent_kind, zero_kind, one_kind, flip_flop_kind, copy_kind, lookup_kind, majority_kind}
 use Rattle.netlist.specs.Equations.{Local}
@@ -38,6 +39,30 @@ module _ (row : Row) where
   pub arity_of_majority : row.kind ≡ majority_kind → arity_of row ≡ 3
   unfolding arity_of
   arity_of_majority e = rw e
+
+-- ---- what each kind gives
+
+module _ (row : Row) (state lent x : List ℕ) where
+  pub value_of_lent : row.kind ≡ lent_kind → row_value row state lent x ≡ get_or lent row.wire 0
+  unfolding row_value
+  value_of_lent e = rw e
+
+  pub value_of_flip_flop : row.kind ≡ flip_flop_kind → row_value row state lent x ≡ get_or state row.a 0
+  unfolding row_value
+  value_of_flip_flop e = rw e
+
+  pub value_of_copy : row.kind ≡ copy_kind → row_value row state lent x ≡ input_of row x 0
+  unfolding row_value
+  value_of_copy e = rw e
+
+  pub value_of_lookup : row.kind ≡ lookup_kind
+      → row_value row state lent x ≡ lookup_bit row.table (input_of row x 0) (input_of row x 1) (input_of row x 2) (input_of row x 3)
+  unfolding row_value
+  value_of_lookup e = rw e
+
+  pub value_of_majority : row.kind ≡ majority_kind → row_value row state lent x ≡ majority (input_of row x 0) (input_of row x 1) (input_of row x 2)
+  unfolding row_value
+  value_of_majority e = rw e
 
 -- ---- a chain of tests on the kind
 

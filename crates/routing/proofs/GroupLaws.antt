@@ -1,11 +1,12 @@
--- A group's rules and their computed test. Main law: `group_exact`; `alone_facts`: what a group that passes by itself has. Assumes nothing.
+-- A group's rules and their computed test. Main law: `group_exact`; `alone-..` are the ways through the test of a group by itself, `alone_facts` what one
+-- that passes it has. Assumes nothing.
 use mathlib.Core.Path.{◌≡◌, refl, sym, ap, ◌∙◌}
 use mathlib.Core.Logic.{◌↔◌}
 use mathlib.Core.Bool.{Bool, true, false, ◌&&◌}
 use mathlib.Core.List.{List}
 use Prim.Native.Nat.{ℕ, ◌<◌, ◌≤◌}
 use native.Mathlib.Omega.{arith}
-use borrow.Author.Tests.{eq-eqb, ne_eqb, le-leb, leb-true}
+use borrow.Author.Tests.{eq-eqb, ne_eqb, le-leb, lt-leb, leb-true}
 use lib.Dec.{leb}
 use Rattle.lists.specs.Search.{all_from}
 use Rattle.lists.proofs.CaseLaws.{and_left, and_right}
@@ -22,18 +23,48 @@ use Rattle.routing.proofs.EntryLaws.{entry_new, EntryFacts, entry_facts}
 module _ (K : TileKind) (table : List ℕ) (g : ℕ) where
   -- ---- the group by itself
 
-  -- with a destination and few enough positions and entries, its entries decide
-  alone_all : K.is_destination (destination_of K table g) ≡ true → 1 ≤ width_of K table g → width_of K table g ≤ max_positions
-      → 1 ≤ entry_count K table g → entry_count K table g ≤ max_entries → all_from (entry_ok K table g) 0 (entry_count K table g) ≡ group_alone_ok K table g
+  pub alone_destination : K.is_destination (destination_of K table g) ≡ false → false ≡ group_alone_ok K table g
   unfolding group_alone_ok
-  alone_all d w v n m =
-      rw (
-        d,
-        le-leb 1 (width_of K table g) w,
-        le-leb (width_of K table g) max_positions v,
-        le-leb 1 (entry_count K table g) n,
-        le-leb (entry_count K table g) max_entries m,
-      )
+  alone_destination d = rw d
+
+  module _ (d : K.is_destination (destination_of K table g) ≡ true) where
+    pub alone_thin : width_of K table g < 1 → false ≡ group_alone_ok K table g
+    unfolding group_alone_ok
+    alone_thin h = rw (d, lt-leb 1 (width_of K table g) h)
+
+    module _ (w : 1 ≤ width_of K table g) where
+      pub alone_wide : max_positions < width_of K table g → false ≡ group_alone_ok K table g
+      unfolding group_alone_ok
+      alone_wide h = rw (d, le-leb 1 (width_of K table g) w, lt-leb (width_of K table g) max_positions h)
+
+      module _ (v : width_of K table g ≤ max_positions) where
+        pub alone_none : entry_count K table g < 1 → false ≡ group_alone_ok K table g
+        unfolding group_alone_ok
+        alone_none h = rw (d, le-leb 1 (width_of K table g) w, le-leb (width_of K table g) max_positions v, lt-leb 1 (entry_count K table g) h)
+
+        module _ (n : 1 ≤ entry_count K table g) where
+          pub alone_many : max_entries < entry_count K table g → false ≡ group_alone_ok K table g
+          unfolding group_alone_ok
+          alone_many h =
+              rw (
+                d,
+                le-leb 1 (width_of K table g) w,
+                le-leb (width_of K table g) max_positions v,
+                le-leb 1 (entry_count K table g) n,
+                lt-leb (entry_count K table g) max_entries h,
+              )
+
+          -- its entries decide
+          pub alone_all : entry_count K table g ≤ max_entries → all_from (entry_ok K table g) 0 (entry_count K table g) ≡ group_alone_ok K table g
+          unfolding group_alone_ok
+          alone_all h =
+              rw (
+                d,
+                le-leb 1 (width_of K table g) w,
+                le-leb (width_of K table g) max_positions v,
+                le-leb 1 (entry_count K table g) n,
+                le-leb (entry_count K table g) max_entries h,
+              )
 
   -- what a group that passes by itself has
   pub record AloneFacts : Type 0 where

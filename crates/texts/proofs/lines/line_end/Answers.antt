@@ -1,4 +1,4 @@
--- `lines::line_end` meets its contract: none of the eights that were passed over has a line feed, and behind them the search looks at each byte. Assumes nothing.
+-- `lines::line_end` meets its contract: an empty line ends where it begins; else none of the eights that were passed over has a line feed, and behind them the search looks at each byte. Assumes nothing.
 use Rattle.std.proofs.Common.{rules, ◌≡◌, ◌≤◌, eqb, length, ℕ, ◌*◌, ◌<◌, ◌∙◌, arith, drop, false, List, subst}
 use Rattle.std.specs.Prelude.{position}
 use Rattle.std.specs.Slice.Iter.{chunks_exact_rest, chunks_exact_size}
@@ -6,10 +6,23 @@ use Rattle.std.specs.Iterator.Adapters.{take_while_source}
 use Rattle.std.proofs.lemmas.List.{take_rest}
 use Rattle.std.proofs.lemmas.Iterator.{YieldsList-from_slice}
 use Rattle.std.proofs.lemmas.Iterator.Search.{position_from_yields_List}
-use borrow.Author.Tests.{tests}
+use borrow.Author.Tests.{tests, eq-eqb}
+use mathlib.Core.Logic.{⊎_elim}
+use mathlib.Core.Path.{sym}
+use lib.ListN.{get_or}
+use Rattle.lists.proofs.CaseLaws.{lt_or_le}
+use Rattle.lists.proofs.SearchLaws.{first_hit, first_end}
 use Rattle.texts.proofs.PassedLaws.{passed_plain, line_end_is, taken_twice}
 use Rattle.texts.proofs.LineEndLaws.{feed}
 use Rattle.texts.proofs.lines.line_end.Goals as goal
+
+-- an empty line
+pub returns-then-byte_at-eq-LINE_END : goal.returns-then-byte_at-eq-LINE_END
+returns-then-byte_at-eq-LINE_END c =
+    let text = c.args.text.now in
+    let at = c.args.at in
+    let hit = eq-eqb (get_or text at 0) 10 (sym c.byte_at.ensures ∙ c.if-byte_at-eq-LINE_END.true) in
+    ⊎_elim (λ l. sym (first_hit (feed text) at (length text) l hit)) (λ l. sym (first_end (feed text) at (length text) l)) (lt_or_le at (length text))
 
 pub returns : goal.returns
 returns c =

@@ -56,6 +56,6 @@ pub fn follow_settings(
     requires wires_len { (length wires.old ≡ ports b) × (length sources.old ≡ ports b) × (length marks.old ≡ ports b) }
     ensures { result ≡ settings_answer b table.now st.now tile port }
 {
-    config::checks::check_settings(table, st, (b.h * b.w) as usize)?;
+    config::check_settings(table, st, (b.h * b.w) as usize)?;
     follow_port(b, table, st, tile, port, wires, sources, marks)
 }

@@ -1,8 +1,9 @@
 // Reading and writing the bits of a block (document 01, 'The routing table', 'Cells', 'Grounds for a no').
 //
 // `read`, `write` and `bit_count` take any input and none has a `requires`. The functions of `blocks` assume what the checks have
-// shown, for callers that read or write one block many times. specs/Entry.antt has the grounds in their orders, specs/Meaning.antt
-// what each answer says. proofs/RoundTrip.antt has both round trips.
+// shown, for callers that read or write one block many times. `check_settings` assumes the lengths alone, for callers that have grounds 3
+// and 9 in front of their own. specs/Entry.antt has the grounds in their orders, specs/Meaning.antt what each answer says.
+// proofs/RoundTrip.antt has both round trips.
 #![tactic(auto)]
 
 ghost use Rattle.std.specs.Prelude.{◌≡◌, length};
@@ -19,8 +20,10 @@ use ports::size::{Size, is_allowed};
 use refusal::Refusal;
 
 pub mod blocks;
-pub mod checks;
+mod checks;
 mod room;
+
+pub use checks::check_settings;
 
 // Reads a block's bits to its settings. Grounds 1 to 4, in this order (`read_answer`).
 // Rules out: refusing every block; settings written on a no; the same settings for all bits.

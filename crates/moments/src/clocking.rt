@@ -8,7 +8,7 @@ ghost use Rattle.moments.specs.Checks.{settings_answer, bytes_answer};
 ghost use Rattle.moments.specs.Lengths.{clock_lent, ClockLong};
 
 use crate::cells;
-use config::checks::check_settings;
+use config::check_settings;
 use ports::size::{Size, tile_count};
 use refusal::Refusal;
 use sim::checks::check_bytes;

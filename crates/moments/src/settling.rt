@@ -9,7 +9,7 @@ ghost use Rattle.moments.specs.Settling.{run_answer};
 ghost use Rattle.moments.specs.Lengths.{settle_room_lent, settle_lent, SettleLong};
 
 use crate::spread::settle_ports;
-use config::checks::check_settings;
+use config::check_settings;
 use ports::size::Block;
 use refusal::Refusal;
 use sim::checks::{check_bytes, check_rows};

@@ -11,7 +11,7 @@ ghost use Rattle.sim.specs.Stepping.{inputs_answer};
 ghost use Rattle.sim.specs.Lengths.{inputs_lent, InputsLong, step_room_lent, StepRoomLong};
 
 use crate::checks::{check_bytes, check_rows};
-use config::checks::check_settings;
+use config::check_settings;
 use ports::size::Block;
 use refusal::Refusal;
 use stepper::write_step;

@@ -9,7 +9,10 @@ ghost use Rattle.bitset.specs.Bitset.{DigitWritten, has, word_digits, word_count
 use std::marker::Model;
 
 // How many words a set has.
-const WORDS: usize = 1089;
+pub const WORDS: usize = 1089;
+
+// Members are below this.
+pub const NUMBERS: usize = 65536;
 
 // How many digits a word has.
 const DIGITS: usize = 64;
@@ -18,12 +21,12 @@ const DIGITS: usize = 64;
 const LEAVES: usize = 65;
 
 // A set of numbers below 65,536.
-#[derive(Drop)]
+#[derive(Clone, Copy)]
 pub struct Bitset {
     words: [u64; WORDS],
 }
 
-// A clause sees the words, and asks of them which numbers are members (`has`).
+// A clause sees the words, and asks of them which numbers are members (`has`). The words are all that a set is, so a set can be copied.
 impl Model for Bitset {
     ghost use Rattle.std.specs.Prelude.{List, ℕ};
     ghost use Rattle.bitset.specs.Bitset.{Bitset};
@@ -31,6 +34,8 @@ impl Model for Bitset {
     ghost Value = { List ℕ };
 
     ghost view = { λ s. s.words };
+
+    ghost inverse = { λ words. record { words = words } };
 
     ghost invariant = { λ s. Bitset s.words };
 }

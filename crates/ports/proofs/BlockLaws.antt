@@ -1,12 +1,12 @@
 -- The size of a block. Main laws: `allowed_exact`, `sized_exact` (the tests and the facts), `ports_le` (a block has few ports).
 use Prim.Native.Nat.{ℕ, ◌*◌, ◌≤◌, ◌<◌}
 use mathlib.Core.Path.{◌≡◌, ◌∙◌}
-use mathlib.Core.Bool.{true, ◌&&◌, and-eq-true_iff}
+use mathlib.Core.Bool.{true, false, ◌&&◌, and-false, and-eq-true_iff}
 use mathlib.Core.Logic.{◌↔◌}
 use native.Mathlib.Omega.{arith}
 use native.Mathlib.Nat.{mul-le-mul}
 use lib.Dec.{leb, ltb}
-use borrow.Author.Tests.{le-leb, leb-true, lt-ltb, ltb-true}
+use borrow.Author.Tests.{lt-leb, le-leb, leb-true, lt-ltb, le-ltb, ltb-true}
 use Rattle.ports.specs.declared.size.Size.{Size}
 use Rattle.ports.specs.declared.size.Block.{Block}
 use Rattle.ports.specs.Block.{Allowed, allowed, Sized, sized, size_of, tile_count, tiles, port_of}
@@ -31,6 +31,19 @@ module _ (S : Size) where
             h_few = leb-true _ _ high.1;
           }
 
+  -- the four ways to be of no size
+  pub allowed_w_none : S.w < 1 → allowed S ≡ false
+  allowed_w_none h = simp (lt-leb 1 S.w h)
+
+  pub allowed_w_many : 8 < S.w → allowed S ≡ false
+  allowed_w_many h = simp (lt-leb S.w 8 h, and-false)
+
+  pub allowed_h_none : S.h < 1 → allowed S ≡ false
+  allowed_h_none h = simp (lt-leb 1 S.h h, and-false)
+
+  pub allowed_h_many : 8 < S.h → allowed S ≡ false
+  allowed_h_many h = simp (lt-leb S.h 8 h, and-false)
+
   pub tile_count_le : Allowed S → tile_count S ≤ 64
   tile_count_le s = mul-le-mul s.h_few s.w_few
 
@@ -45,6 +58,9 @@ module _ (B : Block) where
   -- where the byte is 0 or 1, the size decides
   pub sized_east : B.east < 2 → sized B ≡ allowed (size_of B)
   sized_east e = rw (lt-ltb B.east 2 e)
+
+  pub sized_not_east : 2 ≤ B.east → sized B ≡ false
+  sized_not_east h = rw (le-ltb B.east 2 h)
 
   pub sized_true : Sized B → sized B ≡ true
   sized_true s = sized_east s.east_known ∙ allowed_true (size_of B) (sized_allowed s)

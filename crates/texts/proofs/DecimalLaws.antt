@@ -1,10 +1,11 @@
--- A number and its decimal digits, both ways. Main laws: `decimal_form`: one of three forms; `decimal_digits`, `number_back`.
+-- A number and its decimal digits, both ways. Main laws: `decimal_form`: one of three forms; `decimal_digits`, `number_back`; `decimal_one`, `number_one` ..: as
+-- the code looks at them.
 use Prim.Native.Nat.{ℕ, zero, suc, ◌+◌, ◌-◌, ◌*◌, ◌/◌, ◌%◌, ◌<◌, ◌≤◌}
 use mathlib.Core.Path.{◌≡◌}
-use mathlib.Core.Logic.{⊎_elim}
+use mathlib.Core.Logic.{⊎_elim, ◌≢◌}
 use mathlib.Core.List.{List, [], ◌∷◌}
 use native.Mathlib.Omega.{arith}
-use borrow.Author.Tests.{lt-ltb, le-ltb}
+use borrow.Author.Tests.{lt-ltb, le-ltb, ne_eqb}
 use lib.ListN.{length, get_or}
 use Rattle.lists.proofs.CaseLaws.{lt_or_le}
 use Rattle.texts.specs.Decimal.{decimal, digit_at, number}
@@ -53,3 +54,35 @@ form_number (three {n} g) h = let e : 100 * (48 + n / 100 - 48) + 10 * (48 + n /
 -- a number that is spelt is read back
 pub number_back : (n : ℕ) → n ≤ 255 → number (decimal n) ≡ n
 number_back n h = form_number (decimal_form n) h
+
+-- ---- as the code looks at them
+
+module _ (n : ℕ) where
+  pub decimal_one : n < 10 → decimal n ≡ (48 + n) ∷ []
+  unfolding decimal
+  decimal_one l = rw (lt-ltb n 10 l)
+
+  pub decimal_two : 10 ≤ n → n < 100 → decimal n ≡ (48 + n / 10) ∷ (48 + n % 10) ∷ []
+  unfolding decimal
+  decimal_two g l = rw (le-ltb n 10 g, lt-ltb n 100 l)
+
+  pub decimal_three : 100 ≤ n → decimal n ≡ (48 + n / 100) ∷ (48 + n / 10 % 10) ∷ (48 + n % 10) ∷ []
+  unfolding decimal
+  decimal_three g = rw (le-ltb n 10 (let z : 10 ≤ n = omega arith in z), le-ltb n 100 g)
+
+module _ (xs : List ℕ) where
+  pub number_one : length xs ≡ 1 → number xs ≡ digit_at xs 0
+  unfolding number
+  number_one e = rw e
+
+  pub number_two : length xs ≡ 2 → number xs ≡ 10 * digit_at xs 0 + digit_at xs 1
+  unfolding number
+  number_two e = rw e
+
+  pub number_three : length xs ≡ 3 → number xs ≡ 100 * digit_at xs 0 + 10 * digit_at xs 1 + digit_at xs 2
+  unfolding number
+  number_three e = rw e
+
+  pub number_else : length xs ≢ 1 → length xs ≢ 2 → length xs ≢ 3 → number xs ≡ 256
+  unfolding number
+  number_else e f g = rw (ne_eqb (length xs) 1 e, ne_eqb (length xs) 2 f, ne_eqb (length xs) 3 g)

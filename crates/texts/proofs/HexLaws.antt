@@ -21,6 +21,15 @@ digit_is_one c e =
     (λ r. inr (leb-true 65 c (and_left (leb 65 c) (leb c 70) r), leb-true c 70 (and_right (leb 65 c) (leb c 70) r)))
     (or_is (leb 48 c && leb c 57) (leb 65 c && leb c 70) e)
 
+pub digit_least : (c : ℕ) → is_digit c ≡ true → 48 ≤ c
+digit_least c e = ⊎_elim (λ k. k.0) (λ k. omega arith) (digit_is_one c e)
+
+pub letter_least : (c : ℕ) → is_digit c ≡ true → 57 < c → 65 ≤ c
+letter_least c e l = ⊎_elim (λ k. absurd (omega arith)) (λ k. k.0) (digit_is_one c e)
+
+pub letter_most : (c : ℕ) → is_digit c ≡ true → 57 < c → c ≤ 70
+letter_most c e l = ⊎_elim (λ k. absurd (omega arith)) (λ k. k.1) (digit_is_one c e)
+
 pub digit_between : (c : ℕ) → ((48 ≤ c) × (c ≤ 57)) ⊎ ((65 ≤ c) × (c ≤ 70)) → is_digit c ≡ true
 unfolding is_digit
 digit_between c h =

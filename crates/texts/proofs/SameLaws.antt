@@ -5,7 +5,7 @@ use mathlib.Core.Bool.{true, false}
 use mathlib.Core.Logic.{⊎_elim, ◌≢◌}
 use mathlib.Core.List.{List}
 use native.Mathlib.Omega.{arith}
-use borrow.Author.Tests.{eqb-true, eq-eqb}
+use borrow.Author.Tests.{eqb-true, eq-eqb, ne_eqb}
 use lib.Dec.{eqb}
 use lib.ListN.{length, get_or}
 use lib.Seq.{ext_get_or}
@@ -31,6 +31,15 @@ same_refl xs =
 
 pub same_false : (xs ys : List ℕ) → xs ≢ ys → same xs ys ≡ false
 same_false xs ys h = ⊎_elim (λ e. absurd (h (same_true xs ys e))) (λ e. e) (cases (same xs ys))
+
+-- by the lengths first: texts of one length are the same where each byte is, and texts of two lengths never are
+pub same_long : (xs ys : List ℕ) → length xs ≡ length ys → same xs ys ≡ all_from (λ k. eqb (get_or xs k 0) (get_or ys k 0)) 0 (length xs)
+unfolding same
+same_long xs ys e = rw (eq-eqb (length xs) (length ys) e)
+
+pub same_short : (xs ys : List ℕ) → length xs ≢ length ys → same xs ys ≡ false
+unfolding same
+same_short xs ys h = rw (ne_eqb (length xs) (length ys) h)
 
 -- what `==` says of two slices
 pub same_eq : (xs ys : List ℕ) → bytes_eq xs ys ≡ same xs ys

@@ -1,5 +1,5 @@
 -- The bits of a list of numbers: read, written, and two lists that agree at each bit; first over the number u of bits in a lent number,
--- then for the form that a tile's bits have. Main laws: `bit_set_same`, `bit_set_other`, `bits_ext`; `bit_count_rows`. Assumes nothing.
+-- then for the form that a tile's bits have. Main laws: `bit_set_same`, `bit_set_other`, `bits_ext`; `bit_count_step`, `bit_count_rows`. Assumes nothing.
 use mathlib.Core.Path.{◌≡◌, refl, sym, ap, ap₂, ◌∙◌, subst}
 use mathlib.Core.Bool.{true}
 use mathlib.Core.Logic.{⊎_elim, ◌≢◌}
@@ -157,7 +157,7 @@ pub bits_ext : (xs ys : List ℕ) → length xs ≡ length ys → Fits xs → Fi
 bits_ext xs ys n bx by h = bits_in_ext unit (omega arith) xs ys n bx by h
 
 -- one row more: its ones more
-bit_count_step : (bits : List ℕ) (i : ℕ)
+pub bit_count_step : (bits : List ℕ) (i : ℕ)
     → count_below (is_set_at (bit_at bits)) (unit * (i + 1)) ≡ count_below (is_set_at (bit_at bits)) (unit * i) + ones (get_or bits i 0 % 2 ^ unit)
 bit_count_step bits i =
     ap (count_below (is_set_at (bit_at bits))) (let e : unit * (i + 1) ≡ i * unit + unit = omega arith in e)

@@ -1,24 +1,26 @@
 -- A position at fault, by the slot that claims it and by the ownership map. Main laws: `fault_stray`, `-carry`, `-low`, `-group`;
--- the same by the map: `map_stray`, .. `map_group`. Assumes nothing.
+-- the same by the map: `map_stray`, .. `map_group`; past a row's columns: `fault_past`, `fault_inside`. Assumes nothing.
 use mathlib.Core.Path.{◌≡◌, sym, ◌∙◌, subst}
 use mathlib.Core.Logic.{◌≢◌, ⊎_elim}
 use mathlib.Core.Bool.{true, false}
 use mathlib.Core.List.{List}
 use Prim.Native.Nat.{ℕ, ◌+◌, ◌-◌, ◌/◌, ◌%◌, ◌<◌, ◌≤◌}
 use native.Mathlib.Omega.{arith}
-use borrow.Author.Tests.{ne_eqb, lt-ltb, le-ltb}
+use borrow.Author.Tests.{eq-eqb, ne_eqb, lt-ltb, le-ltb}
+use lib.Dec.{leb}
 use lib.ListN.{get_or}
 use Rattle.lists.proofs.CaseLaws.{lt_or_le}
 use Rattle.lists.proofs.SearchLaws.{first_le, first_true}
 use Rattle.routing.specs.LogicTile.{logic_tile, carry_in_set}
-use Rattle.ports.specs.Lengths.{max_positions}
+use Rattle.ports.specs.Lengths.{columns, max_positions}
 use Rattle.routing.specs.Table.{group_count, width_of}
 use Rattle.routing.specs.Slots.{claims, owner, owner_code, Owned, slots_of, slot_used, field_slots, group_slots, group_slot, slot_count}
 use Rattle.routing.proofs.OwnerLaws.{claims_used}
 use Rattle.routing.proofs.SlotLaws.{slot_cases}
+use Rattle.words.specs.Forms.{TileBits}
 use Rattle.codec.specs.Bits.{is_set_at, bit_at, tile_of}
 use Rattle.codec.specs.Groups.{read_group}
-use Rattle.codec.specs.Fault.{points_to, carry_pair, slot_fault, owned_fault}
+use Rattle.codec.specs.Fault.{points_to, carry_pair, past_at, slot_fault, owned_fault, fault_at}
 
 -- what the ownership map has for the CarryInSet field, and for the first position of group 0
 abbrev pub carry_code : ℕ
@@ -120,3 +122,24 @@ module _ (table bits : List ℕ) (p : ℕ) where
             (omega (arith, (owner_some n).1))) in
             let e : mine - group_slots logic_tile ≡ get_or own p 0 - group_code = omega (arith, (owner_some n).0) in
             subst (λ (x : ℕ). x / max_positions < group_count logic_tile table) e (used_group table mine (omega (arith, (owner_some n).0)) u).0
+
+-- ---- past a row's columns
+
+module _ (table : List ℕ) (tile : TileBits) (p : ℕ) where
+  pub fault_past : past_at tile p ≡ true → true ≡ fault_at table tile p
+  unfolding fault_at
+  fault_past e = rw e
+
+  pub fault_inside : past_at tile p ≡ false → owned_fault table tile p ≡ fault_at table tile p
+  unfolding fault_at
+  fault_inside e = rw e
+
+-- as the code tests it
+module _ (bits : List ℕ) (p : ℕ) where
+  pub past_last : p % columns ≡ 53 → leb 18014398509481984 (get_or bits (p / columns) 0) ≡ past_at (tile_of bits) p
+  unfolding past_at
+  past_last e = rw (eq-eqb (p % columns) 53 e)
+
+  pub past_other : p % columns ≢ 53 → false ≡ past_at (tile_of bits) p
+  unfolding past_at
+  past_other n = rw (ne_eqb (p % columns) 53 n)

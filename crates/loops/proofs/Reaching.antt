@@ -116,6 +116,9 @@ module _ (g : Graph) (n s : ℕ) (old : List ℕ) where
     pub here : get_or queue head 0 ≡ v
     pub upto : (k : ℕ) → k < j → (listed marks (g.operand v k) ≡ true) × (g.operand v k ≢ s)
 
+  pub taking_start : (m q : List ℕ) (head tail v : ℕ) → Reaching m q head tail → head < tail → v ≡ get_or q head 0 → Taking m q head tail v 0
+  taking_start m q head tail v h lt e = record { base = h; more = lt; here = sym e; upto = λ k l. absurd (omega arith) }
+
   module _ (m q : List ℕ) (head tail v j : ℕ) (h : Taking m q head tail v j) where
     pub taking_reach : j < g.arity v → DependsOn g s (g.operand v j)
     taking_reach l = reach_then g s v _ (rw h.here at (h.base.reach head h.more)) (j, l, refl)

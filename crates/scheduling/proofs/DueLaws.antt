@@ -1,4 +1,4 @@
--- Which wires are due, and what taking the lowest gives. Main laws: `taken_woken`, `taken_new`, `taken_none`; `due_less`.
+-- Which wires are due, and what taking the lowest gives. Main laws: `taken_woken`, `taken_new`, `taken_none`; `due_less`, `due_with_less`.
 use mathlib.Core.Path.{◌≡◌, refl, sym, ap, ◌∙◌}
 use mathlib.Core.Bool.{Bool, true, false, not, ◌||◌}
 use mathlib.Core.Logic.{◌⊎◌, inl, inr, ⊎_elim, ◌≢◌}
@@ -93,10 +93,10 @@ module _ (n : ℕ) (woken₀ : List ℕ) (from : ℕ) (few : n ≤ max_wires) (h
         t ∙ sym (due_here (record { woken = woken₀; from = from + 1 }) from k q)
     new k (inr ne) = ap (λ (b : Bool). has woken₀ k || not b) (next_same k ne) ∙ sym (due_other (record { woken = woken₀; from = from + 1 }) from k ne)
 
-    pub taken_new : from < n → (from < n) × Taken n (record { woken = woken₀; from = from }) (record { woken = woken₀; from = from + 1 }) from
-    taken_new l =
+    pub taken_new : from ≢ n → (from < n) × Taken n (record { woken = woken₀; from = from }) (record { woken = woken₀; from = from + 1 }) from
+    taken_new ne =
         let u = h.upto in (
-          l,
+          omega arith,
           record {
             early = record { upto = omega arith; early = λ k t. clash t (none_woken k) };
             upto = u;
@@ -128,3 +128,9 @@ module _ (n : ℕ) (woken₀ : List ℕ) (from : ℕ) (few : n ≤ max_wires) (h
 pub due_less : (n : ℕ) (due₀ due : Due) (w : ℕ) → w < n → Taken n due₀ due w → count_below (is_due due) n < count_below (is_due due₀) n
 due_less n due₀ due w l t =
     count_lt _ _ n w (λ k d. t.same k ∙ or_right (eqb k w) _ d) l (t.lower w l (omega arith)) (t.same w ∙ due_here due w w refl)
+
+-- the same of those that are due together with the wire that is looked at, once that one was and the next is taken
+pub due_with_less : (n : ℕ) (due₀ : Due) (w₀ : ℕ) (due : Due) (w : ℕ) → Taken n due₀ due w → w₀ < n → is_due due₀ w₀ ≡ false
+    → count_below (is_due_with due w) n < count_below (is_due_with due₀ w₀) n
+due_with_less n due₀ w₀ due w t l gone =
+    count_lt _ _ n w₀ (λ k d. or_right (eqb k w₀) _ (t.same k ∙ d)) l (sym (t.same w₀) ∙ gone) (due_here due₀ w₀ w₀ refl)

@@ -21,7 +21,7 @@ use Rattle.scheduling.specs.Waiting.{Among, Chain}
 use Rattle.scheduling.specs.Due.{is_due, is_due_with, Resting, Found, Asleep, Woken}
 use Rattle.scheduling.specs.declared.order.Due.{Due}
 use Rattle.netlist.proofs.MarkLaws.{unmarked_zeros, only_listed_true, only_listed_list, only_listed_zeros}
-use Rattle.netlist.proofs.ReadyLaws.{ready_unlisted, next_ready, next_unmarked, order_from_step, order_from_end}
+use Rattle.netlist.proofs.ReadyLaws.{ready_unlisted, next_le, next_ready, next_unmarked, order_from_step, order_from_end}
 use Rattle.scheduling.proofs.WatchLaws.{watched_start, watched_list}
 use Rattle.scheduling.proofs.DueLaws.{due_asleep, due_lt, due_other, due_here}
 
@@ -103,26 +103,29 @@ module _ (g : Graph) (n : ℕ) where
     same : Listing out₀ (only_listed m) out count
     same = rw found.kept h.listing
 
-    lt_next : w < n → next g n (only_listed m) < n
-    lt_next l = rw (← is_next) l
+    going_lt : w ≢ n → w < n
+    going_lt ne = let b = next_le g n (only_listed m) in let q = is_next in omega arith
+
+    lt_next : w ≢ n → next g n (only_listed m) < n
+    lt_next ne = rw (← is_next) (going_lt ne)
 
     -- w is a wire, and there is room for it
-    pub going_within : w < n → (length m ≡ n) × ((count < n) × (length out ≡ length out₀))
-    going_within l =
+    pub going_within : w ≢ n → (w < n) × ((length m ≡ n) × ((count < n) × (length out ≡ length out₀)))
+    going_within ne =
         let s = same in
-        (found.watched.long, (omega (arith, next_unmarked g n (only_listed m) s.long (lt_next l)), s.room))
+        (going_lt ne, (found.watched.long, (omega (arith, next_unmarked g n (only_listed m) s.long (lt_next ne)), s.room)))
 
-    going_new : w < n → get_or m w 0 ≢ 1
-    going_new l e = clash (only_listed_true m w e) (rw is_next (ready_unlisted g (only_listed m) _ (next_ready g n (only_listed m) (lt_next l))))
+    going_new : w ≢ n → get_or m w 0 ≢ 1
+    going_new ne e = clash (only_listed_true m w e) (rw is_next (ready_unlisted g (only_listed m) _ (next_ready g n (only_listed m) (lt_next ne))))
 
     -- a wire that waits was looked at and is not woken
     waiting : (k : ℕ) → is_due_with due w k ≡ false → is_due due k ≡ false
     waiting k f = sym (due_other due w k (λ q. clash (due_here due w k q) f)) ∙ f
 
     -- those that wait for w are asleep
-    pub going_asleep : w < n → n ≤ max_wires → Asleep links (get_or m w 0) due.woken
-    going_asleep l few =
-        let own = found.watched.chains w l (going_new l) in
+    pub going_asleep : w ≢ n → n ≤ max_wires → Asleep links (get_or m w 0) due.woken
+    going_asleep ne few =
+        let own = found.watched.chains w (going_lt ne) (going_new ne) in
         let e = found.watched.linked in
         record {
           few = omega arith;
@@ -132,7 +135,7 @@ module _ (g : Graph) (n : ℕ) where
         }
 
     -- w is listed, and those that waited for it are woken
-    module _ (l : w < n) (fits : n ≤ length out₀) (woken' : List ℕ) (wake : Woken links (get_or m w 0) due.woken woken') where
+    module _ (ne : w ≢ n) (fits : n ≤ length out₀) (woken' : List ℕ) (wake : Woken links (get_or m w 0) due.woken woken') where
       abbrev due' : Due
       due' = record { woken = woken'; from = due.from }
 
@@ -148,7 +151,7 @@ module _ (g : Graph) (n : ℕ) where
 
       early : (k : ℕ) → has woken' k ≡ true → k < due.from
       early k t =
-          let own = found.watched.chains w l (going_new l) in
+          let own = found.watched.chains w (going_lt ne) (going_new ne) in
           ⊎_elim (λ a. found.early.early k a) (λ a. due_lt due k (waiting k (own.1.1 k a).1.0)) (wake.only own.0 own.1.0 k t)
 
       pub going_step : Going out₀ (set m w 1) links due' (set out count w) (count + 1)
@@ -156,10 +159,10 @@ module _ (g : Graph) (n : ℕ) where
         listing =
             rw (only_listed_list m w)
             (subst (λ (x : ℕ). Listing out₀ (set (only_listed m) x 1) (set out count x) (count + 1)) (sym is_next)
-            (step out₀ (only_listed m) out count fits same (lt_next l)));
+            (step out₀ (only_listed m) out count fits same (lt_next ne)));
         resting = record {
           watched =
-              watched_list g n m links (is_due_with due w) found.watched (is_due due') w l (going_new l) more
+              watched_list g n m links (is_due_with due w) found.watched (is_due due') w (going_lt ne) (going_new ne) more
               (λ ks c k a. or_left _ _ (wake.all ks c k a)) only;
           early = record { upto = found.early.upto; early = early };
         };

@@ -1,4 +1,4 @@
--- The loop that searches the next wire: what holds when it looks at one (`Searching`), and what the search gives.
+-- The loop that searches the next wire: what holds each time before it takes one to be looked at (`Searching`), and what the search gives.
 use mathlib.Core.Path.{◌≡◌, refl, ◌∙◌}
 use mathlib.Core.Bool.{true, false}
 use mathlib.Core.Logic.{◌≢◌}
@@ -23,10 +23,15 @@ module _ (g : Graph) (n : ℕ) (m₀ : List ℕ) where
     pub resting : Resting g n m links due
     pub kept : only_listed m ≡ only_listed m₀
 
+  -- a wire was taken to be looked at, or none: every other is due or idle
+  pub searching_take : (m links : List ℕ) (due₀ : Due) → Watched g n m links (is_due due₀) → (due : Due) (w : ℕ) → Taken n due₀ due w
+      → Watched g n m links (is_due_with due w)
+  searching_take m links due₀ h due w t = watched_ext g n m links (is_due due₀) h (is_due_with due w) (λ k l. t.same k)
+
   -- wire w was taken to be looked at, or w is n
   module _ (m links : List ℕ) (due₀ : Due) (h : Searching m links due₀) (due : Due) (w : ℕ) (t : Taken n due₀ due w) where
     watched : Watched g n m links (is_due_with due w)
-    watched = watched_ext g n m links (is_due due₀) h.resting.watched (is_due_with due w) (λ k l. t.same k)
+    watched = searching_take m links due₀ h.resting.watched due w t
 
     module _ (l : w < n) where
       here : is_due_with due w w ≡ true

@@ -6,6 +6,7 @@ use Rattle.netlist.specs.Rows.{graph_of}
 use lib.ListN.{length}
 use native.Mathlib.Omega.{arith}
 use mathlib.Core.Path.{◌≡◌, sym, subst}
+use mathlib.Core.Logic.{◌≢◌}
 use Prim.Native.Nat.{ℕ, ◌<◌}
 use mathlib.Core.List.{List}
 use Rattle.scheduling.proofs.order.list_wires.Goals.{In-Some}
@@ -17,11 +18,15 @@ found : (c : In-Some)
     × Found (graph_of c.args.rows.now) (length c.args.marks.now) c.loop-w.marks c.next_ready.new.marks c.next_ready.new.links c.next_ready.new.due c.in-Some.w
 found c = rw c.loop-w.invariant.resting.watched.long at c.in-Some.ensures
 
+-- the search did not end
+not_end : (c : In-Some) → c.in-Some.w ≢ length c.args.marks.now
+not_end c q = let l = (found c).0 in absurd (omega arith)
+
 -- the wire is one of the block, and there is room for it
 within : (c : In-Some)
     → (length c.next_ready.new.marks ≡ length c.args.marks.now)
     × ((c.loop-w.count < length c.args.marks.now) × (length c.loop-w.out ≡ length c.args.out.now))
-within c = let f = found c in going_within _ _ _ _ _ _ _ _ c.loop-w.invariant _ _ _ _ f.1 f.0
+within c = (going_within _ _ _ _ _ _ _ _ c.loop-w.invariant _ _ _ _ (found c).1 (not_end c)).1
 
 pub loop-w-init : goal.loop-w-init
 loop-w-init c =
@@ -31,8 +36,8 @@ loop-w-init c =
 
 pub wake-requires : goal.wake-requires
 wake-requires c =
-    let f = found (goal.at.wake-requires c).In-Some in
-    going_asleep _ _ _ _ _ _ _ _ c.loop-w.invariant _ _ _ _ f.1 f.0 c.requires.links_len.2
+    let at = (goal.at.wake-requires c).In-Some in
+    going_asleep _ _ _ _ _ _ _ _ c.loop-w.invariant _ _ _ _ (found at).1 (not_end at) c.requires.links_len.2
 
 pub bounds-out-count : goal.bounds-out-count
 bounds-out-count c = let l = within (goal.at.bounds-out-count c).In-Some in omega arith
@@ -42,8 +47,8 @@ loop-w-smaller c = let l = within (goal.at.loop-w-smaller c).In-Some in omega ar
 
 pub loop-w-preserved : goal.loop-w-preserved
 loop-w-preserved c =
-    let f = found (goal.at.loop-w-preserved c).In-Some in
-    going_step _ _ _ _ _ _ _ _ c.loop-w.invariant _ _ _ _ f.1 f.0 c.requires.links_len.1 _ c.wake.ensures
+    let at = (goal.at.loop-w-preserved c).In-Some in
+    going_step _ _ _ _ _ _ _ _ c.loop-w.invariant _ _ _ _ (found at).1 (not_end at) c.requires.links_len.1 _ c.wake.ensures
 
 pub returns : goal.returns
 returns c =

@@ -3,7 +3,9 @@ use mathlib.Core.List.{List}
 use Prim.Native.Nat.{ℕ, zero, suc, ◌+◌, ◌*◌, ◌<◌, ◌≤◌}
 use native.Mathlib.Omega.{arith}
 use Rattle.lists.proofs.SearchLaws.{first_le}
-use Rattle.frames.specs.Lines.{passive_count, position_count, entry_count, group_digits, group_line, size_digits}
+use borrow.Author.Tests.{le-ltb}
+use mathlib.Core.Path.{◌≡◌}
+use Rattle.frames.specs.Lines.{passive_count, position_count, entry_count, group_digits, group_line, size_digits, east_at, size_line}
 use Rattle.frames.specs.Input.{group_at, group_count, size_at}
 use Rattle.texts.proofs.HexLaws.{pair_lt}
 use mathlib.Core.Bool.{Bool, true, false, not, cond}
@@ -44,6 +46,11 @@ module _ (s : List ℕ) where
   pub size_at_le : size_at s ≤ 1312272
   unfolding size_at
   size_at_le = omega (arith, group_at_le (group_count s), group_count_le)
+
+  -- "another byte is 11 in the frame": it is no line of a size
+  pub size_line_over : (at e : ℕ) → e ≡ east_at s at → 2 ≤ e → false ≡ size_line s at
+  unfolding size_line
+  size_line_over at e is over = rw (← is, le-ltb e 2 over)
 
 -- what the code's sums need
 pub ruleset bounds = (passive_count_lt, position_count_lt, entry_count_lt, group_digits_le, group_count_le, size_digits_le, size_at_le)

@@ -1,4 +1,4 @@
--- A routing table's groups filled part by part (`Filling` with its start, its turn and its rest), and a table put together of head and groups.
+-- A routing table's groups filled part by part (`Filling` with its start, turns, end and rest), and a table put together of head and groups.
 use mathlib.Core.Path.{◌≡◌, refl, sym, ap, ap₂, ◌∙◌}
 use mathlib.Core.List.{List, [], ◌++◌, append-nil, append_assoc}
 use Prim.Native.Nat.{ℕ, zero, suc, ◌+◌, ◌*◌, ◌-◌, ◌<◌, ◌≤◌}
@@ -11,8 +11,8 @@ use Rattle.std.proofs.lemmas.List.{take_rest, drop_all, replicate-append-replica
 use lib.Seq.{take_at, drop-length}
 use Rattle.lists.specs.Tables.{tabulate, zeros}
 use Rattle.lists.specs.Parts.{joined}
-use Rattle.lists.proofs.TableLaws.{tabulate_length}
-use Rattle.lists.proofs.PartLaws.{put_length, joined_step}
+use Rattle.lists.proofs.TableLaws.{tabulate_length, zeros_length}
+use Rattle.lists.proofs.PartLaws.{put_length, joined_step, joined_end}
 use Rattle.frames.specs.Lines.{passive_count, group_digits}
 use Rattle.frames.specs.Input.{group_at, group_count}
 use Rattle.frames.specs.Contents.{group_number, group_numbers}
@@ -64,6 +64,14 @@ module _ (s : List ℕ) (at g : ℕ) (rest : List ℕ) (inv : Filling s at g res
       put ys (at + (group_digits s at + 1)) (omega (arith, group_count_le s)) (ap length e ∙ tabulate_length (group_number s at) 0 75)
       (e ∙ ap (λ a. tabulate (group_number s a) 0 75) here ∙ rw (lt-ltb g (group_count s) l))
       (λ m. ap (λ a. a + (group_digits s a + 1)) here ∙ sym (group_at_next s g))
+
+  -- a part behind the last group
+  pub filling_none : (ys : List ℕ) → group_count s ≤ g → g < 512 → ys ≡ zeros 75 → Filling s at (g + 1) (put_mid (75 * g) (75 * g + 75 - 75 * g) rest ys)
+  filling_none ys l m e =
+      put ys at m (ap length e ∙ zeros_length 75) (e ∙ rw (le-ltb g (group_count s) l)) (λ f. absurd (omega arith))
+
+  pub filling_end : 512 ≤ g → rest ≡ joined (group_numbers s) 512
+  filling_end l = let up = inv.upto in let long = inv.long in joined_end (group_numbers s) g 512 (75 * g) rest inv.done (omega arith) (omega arith)
 
   -- the rest behind the last group is cleared
   pub filling_rest : (ys : List ℕ) → g ≡ group_count s → ys ≡ zeros (length (take (length rest - 75 * g) (drop (75 * g) rest)))

@@ -7,11 +7,9 @@ use mathlib.Core.Logic.{⊎_elim, ◌≢◌}
 use Prim.Native.Nat.{ℕ, ◌+◌, ◌*◌, ◌/◌, ◌%◌, ◌<◌, ◌≤◌}
 use native.Mathlib.Omega.{arith}
 use lib.Dec.{eqb}
-use Rattle.std.specs.Prelude.{Some, None}
-use Rattle.lists.specs.Search.{first, below}
+use Rattle.lists.specs.Search.{first}
 use Rattle.lists.proofs.CaseLaws.{lt_or_le, eq_or_ne}
 use Rattle.lists.proofs.SearchLaws.{first_at, first_none}
-use Rattle.lists.proofs.BelowLaws.{below_is, below_past}
 use Rattle.digits.specs.Digits.{digit, LowestDigit}
 use Rattle.bitset.specs.Bitset.{Bitset, has, word, word_below, word_digits, tellers, leaves, numbers}
 use Rattle.bitset.proofs.WordLaws.{digit_zero}
@@ -49,13 +47,12 @@ unfolding has
 none_below words m k few clear low n l = ap (λ (x : ℕ). eqb x 1) (digits_clear words leaves m k few clear low n l)
 
 -- word 0 is 0: there is no member
-pub lowest_none : {words : List ℕ} → Bitset words → word words 0 ≡ 0 → None ≡ below numbers (first (has words) 0 numbers)
+pub lowest_none : {words : List ℕ} → Bitset words → word words 0 ≡ 0 → numbers ≡ first (has words) 0 numbers
 lowest_none {words} s z =
     let middle : Clear words 1 16 =
     λ i l. next_clear words 0 0 word_digits (omega arith) (λ j l. absurd (omega arith)) (λ j l. digit_zero j z) s (omega arith) i (omega arith) in
     let leaf : Clear words leaves 1024 = next_clear words 1 16 0 (omega arith) middle (λ j l. absurd (omega arith)) s (omega arith) in
-    let none : first (has words) 0 numbers ≡ numbers = first_none (has words) numbers (λ n l. none_below words 1024 0 (omega arith) leaf (λ j h. absurd (omega arith)) n l) in
-    sym (below_past numbers (first (has words) 0 numbers) (omega arith))
+    sym (first_none (has words) numbers (λ n l. none_below words 1024 0 (omega arith) leaf (λ j h. absurd (omega arith)) n l))
 
 -- the word x that a set digit stands for is not 0
 pub full_of_set : {words : List ℕ} {i k x : ℕ} → Bitset words → LowestDigit word_digits (word words i) k → i < tellers → x ≡ word_below i k → word words x ≢ 0
@@ -77,7 +74,7 @@ module _ {words : List ℕ} {v k j : ℕ} (s : Bitset words) (top : LowestDigit 
       let at_digit : (word_digits * (word_digits * v + k) + j) % word_digits ≡ j = omega arith in
       rw (at_word, at_digit) (ap (λ (x : ℕ). eqb x 1) leaf.one)
 
-  pub lowest_is : Some (word_digits * (word_digits * v + k) + j) ≡ below numbers (first (has words) 0 numbers)
+  pub lowest_is : word_digits * (word_digits * v + k) + j ≡ first (has words) 0 numbers
   lowest_is =
       let lv = top_lt s top in
       let lk = middle.within in
@@ -85,6 +82,5 @@ module _ {words : List ℕ} {v k j : ℕ} (s : Bitset words) (top : LowestDigit 
       let above : Clear words 1 v =
       λ i l. next_clear words 0 0 v (omega arith) (λ n h. absurd (omega arith)) top.below s (omega arith) i (omega arith) in
       let before : Clear words leaves (word_digits * v + k) = next_clear words 1 v k (omega arith) above middle.below s (omega arith) in
-      let e = first_at (has words) (word_digits * (word_digits * v + k) + j) numbers (omega arith) member
-      (λ n l. none_below words (word_digits * v + k) j (omega arith) before leaf.below n l) in
-      sym (ap (below numbers) e ∙ below_is numbers (word_digits * (word_digits * v + k) + j) (omega arith))
+      sym (first_at (has words) (word_digits * (word_digits * v + k) + j) numbers (omega arith) member
+      (λ n l. none_below words (word_digits * v + k) j (omega arith) before leaf.below n l))

@@ -9,7 +9,7 @@ use native.Mathlib.Omega.{arith}
 use native.Mathlib.Numerals.{add-one}
 use borrow.Author.Tests.{eqb-true, lt-ltb, le-ltb}
 use lib.Dec.{eqb}
-use lib.ListN.{length, get_or}
+use lib.ListN.{length, get_or, set}
 use lib.Seq.{sets}
 use Rattle.lists.specs.Search.{first, count_below}
 use Rattle.lists.proofs.CaseLaws.{and_left, and_right, lt_or_le}
@@ -43,6 +43,13 @@ up_few n l = rw (lt-ltb n 2 l)
 pub up_many : (n : ℕ) → 2 ≤ n → 2 ≡ up_to_two n
 unfolding up_to_two
 up_many n l = rw (le-ltb n 2 l)
+
+-- a row as the code stores it
+pub three_row : (l : List ℕ) (at a b c : ℕ) → set (set (set l at a) (at + 1) b) (at + 2) c ≡ sets l at (a ∷ b ∷ c ∷ [])
+three_row l at a b c =
+    let p : at + 1 ≡ suc at = omega arith in
+    let q : at + 2 ≡ suc (suc at) = omega arith in
+    rw (p, q)
 
 module _ (B : Block) (t st : List ℕ) where
   -- ---- the walk

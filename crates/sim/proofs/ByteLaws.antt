@@ -1,5 +1,5 @@
 -- Ground 10 over joined lists: the first byte above 1, and that there is none.
--- Main laws: `bad_byte_here`, `bad_byte_next`, `joined_found`, `bits_of_joined`, `joined_of_bits`.
+-- Main laws: `bad_byte_here`, `bad_byte_next`, `joined_first`, `joined_second`, `joined_third`, `joined_found`, `bits_of_joined`, `joined_of_bits`.
 use Prim.Native.Nat.{ℕ, ◌+◌, ◌-◌, ◌<◌, ◌≤◌}
 use mathlib.Core.Path.{◌≡◌, sym, ◌∙◌, ap, ap₂}
 use mathlib.Core.Bool.{false}
@@ -71,6 +71,31 @@ module _ (xs ys : List ℕ) where
 
   pub bits_right : Bits (xs ++ ys) → Bits ys
   bits_right h i = rw (sym (get_or-append-add xs ys i 0)) (h (length xs + i))
+
+-- ---- three lists joined
+
+module _ (xs ys zs : List ℕ) where
+  pub joined_first : bad_byte xs < length xs → bad_byte (xs ++ ys ++ zs) ≡ bad_byte xs
+  joined_first l =
+      let e = bad_byte_here xs ys l in
+      let n = length-append xs ys in
+      bad_byte_here (xs ++ ys) zs (omega arith) ∙ e
+
+  module _ (none : length xs ≤ bad_byte xs) where
+    pub joined_second : bad_byte ys < length ys → bad_byte (xs ++ ys ++ zs) ≡ length xs + bad_byte ys
+    joined_second l =
+        let e = bad_byte_next xs ys none in
+        let n = length-append xs ys in
+        bad_byte_here (xs ++ ys) zs (omega arith) ∙ e
+
+    pub joined_third : length ys ≤ bad_byte ys → bad_byte (xs ++ ys ++ zs) ≡ length xs + length ys + bad_byte zs
+    joined_third l =
+        let e = bad_byte_next xs ys none in
+        let n = length-append xs ys in
+        bad_byte_next (xs ++ ys) zs (omega arith) ∙ ap (λ (m : ℕ). m + bad_byte zs) n
+
+pub joined_length : (xs ys zs : List ℕ) → length (xs ++ ys ++ zs) ≡ length xs + length ys + length zs
+joined_length xs ys zs = length-append (xs ++ ys) zs ∙ ap (λ (m : ℕ). m + length zs) (length-append xs ys)
 
 -- ---- the search of the code, which goes from one list to the next
 

@@ -1,15 +1,13 @@
 // The checks of contents that a step shares with settling and with clocking (`moments`): grounds 12 and 10. They are not given the
 // outputs, so they cannot write them.
-ghost use Rattle.std.specs.Prelude.{◌≡◌, ℕ, ◌*◌, ◌<◌, ◌≤◌, leb, ◌++◌, length, get_or};
+ghost use Rattle.std.specs.Prelude.{◌≡◌, ℕ, ◌<◌, ◌≤◌, leb, ◌++◌, length, get_or};
 ghost use Rattle.lists.specs.Search.{below};
+ghost use Rattle.lists.specs.Tables.{zeros};
 ghost use Rattle.refusal.specs.Grounds.{unless};
-ghost use Rattle.refusal.specs.declared.Refusal.TheVariants.{Table, NoSuchSettings, Row, NotABit};
+ghost use Rattle.refusal.specs.declared.Refusal.TheVariants.{Row, NotABit};
 ghost use Rattle.ports.specs.Block.{size_of, Sized};
-ghost use Rattle.ports.specs.Lengths.{ports, table_length, settings_length, state_length, list_length};
+ghost use Rattle.ports.specs.Lengths.{ports, state_length, list_length};
 ghost use Rattle.fabric.specs.Wire.{wires_of};
-ghost use Rattle.routing.specs.LogicTile.{logic_tile};
-ghost use Rattle.routing.specs.TableCheck.{faulty_part, table_ok};
-ghost use Rattle.config.specs.Blocks.{bitless_tile};
 ghost use Rattle.stepper.specs.Settling.{wire_marks, bad_row};
 ghost use Rattle.sim.specs.Stepping.{bad_byte};
 
@@ -28,7 +26,8 @@ fn mark_wires(b: Block, wires: &[u16], own: &mut [u16])
     }
 }
 
-// Ground 12 of a list for a block with this many cells. `wires` then has the wire of each port, and `own` marks those that are their own.
+// Ground 12 of a list for a block with this many cells. `wires` then has the wire of each port, and `own` marks those that are their own;
+// `marks` is work room, and is left clear.
 pub fn check_rows(
     b: Block,
     list: &[u16],
@@ -42,6 +41,7 @@ pub fn check_rows(
     ensures answer { result ≡ unless (leb (ports b) (bad_row b list.now)) (Err (Row (bad_row b list.now))) (Ok tt) }
     ensures wires { wires.new ≡ wires_of b }
     ensures own { own.new ≡ wire_marks b }
+    ensures marks { marks.new ≡ zeros (ports b) }
 {
     fill_wires(b, wires);
     mark_wires(b, wires, own);

@@ -4,8 +4,10 @@ use Prim.Native.Nat.{ℕ, zero, suc, ◌+◌, ◌≤◌, ◌<◌, min}
 use mathlib.Core.Path.{◌≡◌, refl, sym, ◌∙◌, ap, subst}
 use mathlib.Core.Bool.{Bool, true, false, not, cond, ◌&&◌, ◌||◌}
 use mathlib.Core.Logic.{⊎_elim}
-use mathlib.Core.List.{List}
+use mathlib.Core.List.{List, [], ◌∷◌}
 use native.Mathlib.Omega.{arith}
+use types.Run.{OneOf, miss}
+use denote.Enum.Declared.{tag_of}
 use lib.Dec.{eqb, ltb}
 use borrow.Author.Tests.{eqb-true, lt-ltb, le-ltb}
 use Rattle.lists.specs.Search.{first, all_from}
@@ -15,9 +17,12 @@ use Rattle.ports.specs.declared.size.Block.{Block}
 use Rattle.ports.specs.Lengths.{ports}
 use Rattle.netlist.specs.declared.row.Row.{Row}
 use Rattle.netlist.specs.Rows.{operand_of, arity_of}
+use Rattle.equations.specs.declared.drives.Drive.{Drive}
+use Rattle.equations.specs.declared.drives.Drive.TheVariants.{Nothing, Low, High, CellOut, CellLout, CellCout, CarryMux}
 use Rattle.equations.specs.Drives.{drive_of}
 use Rattle.equations.specs.WireRows.{row_of}
 use Rattle.equations.specs.Routed.{Routed}
+use Rattle.equations.specs.contracts.drives.Drive.{the_type}
 use Rattle.lists.proofs.GrowingSearch.{or_false, more_lower, more_higher}
 use Rattle.equations.proofs.WireRowLaws.{row_is}
 use Rattle.equations.proofs.ChainLaws.{reads_equation, read_lt}
@@ -101,10 +106,28 @@ module _ (B : Block) (t st : List ℕ) where
 
 -- ---- the leaves of the code
 
+-- the other drives are no carries
+pub disabled_other : (st : List ℕ) (d : Drive) → OneOf (0 ∷ 1 ∷ 2 ∷ 3 ∷ 4 ∷ 6 ∷ []) (tag_of the_type d) → false ≡ is_disabled_carry st d
+disabled_other st Nothing h = refl
+disabled_other st Low h = refl
+disabled_other st High h = refl
+disabled_other st (CellOut T i) h = refl
+disabled_other st (CellLout T i) h = refl
+disabled_other st (CellCout T i) h = absurd (miss (0 ∷ 1 ∷ 2 ∷ 3 ∷ 4 ∷ 6 ∷ []) 5 tt h)
+disabled_other st (CarryMux T) h = refl
+
 module _ (B : Block) (st : List ℕ) (low w : ℕ) where
   pub lower_carry_other : is_disabled_carry st (drive_of B w) ≡ false → low ≡ lower_carry B st low w
   unfolding lower_carry
   lower_carry_other e = rw e
+
+  pub lower_carry_lower : is_disabled_carry st (drive_of B w) ≡ true → w < low → w ≡ lower_carry B st low w
+  unfolding lower_carry
+  lower_carry_lower e l = rw (e, lt-ltb w low l)
+
+  pub lower_carry_higher : is_disabled_carry st (drive_of B w) ≡ true → low ≤ w → low ≡ lower_carry B st low w
+  unfolding lower_carry
+  lower_carry_higher e l = rw (e, le-ltb w low l)
 
   pub lower_carry_min : is_disabled_carry st (drive_of B w) ≡ true → min low w ≡ lower_carry B st low w
   unfolding lower_carry

@@ -10,3 +10,4 @@ pub mod Tracing  -- the loop of `walk`. end_traced: an end that a walk gets to i
 pub mod CarryPass  -- the loops of `carry_read_wire`
 pub mod CarryPorts  -- low_port_no_carry: a port before carry_in has no cout's wire
 pub mod SwitchTurns  -- the switch of a tile's group; sourced_tile: a tile's switches are done
+pub mod ClockTurns  -- the parts of the clock check: the arms of `clock_ok`, a search for a cell, what decides of a tile

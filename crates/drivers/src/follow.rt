@@ -23,7 +23,7 @@ pub enum Driver {
 
 // A walk from source to source: it ends at a wire with none, or comes again to a wire where it was. Neither is a failure, so it is no Result.
 #[derive(Clone, Copy)]
-enum Trace {
+pub enum Trace {
     End(u16),
     Again(u16),
 }

@@ -1,9 +1,11 @@
 -- What moves a cell: only the values of its tile's own ports. Main laws: `states_same`; `clock_of_settled` and `step_clocked`, by which clocking the
--- values that settling wrote is the step. Assumes nothing.
+-- values that settling wrote is the step; `next_kept`. Assumes nothing.
 use Prim.Native.Nat.{ℕ, ◌/◌, ◌%◌, ◌<◌}
 use mathlib.Core.Path.{◌≡◌, sym}
+use mathlib.Core.Bool.{false}
 use mathlib.Core.List.{List}
 use native.Mathlib.Omega.{arith}
+use lib.ListN.{get_or}
 use Rattle.lists.proofs.TableLaws.{tabulate_ext}
 use Rattle.ports.specs.declared.size.Size.{Size}
 use Rattle.ports.specs.declared.size.Block.{Block}
@@ -11,9 +13,10 @@ use Rattle.ports.specs.Block.{size_of, tile_count, port_of}
 use Rattle.ports.specs.Lengths.{ports_per_tile, state_length}
 use Rattle.ports.specs.PortIndex.{clk, cen, s_r, in_port}
 use Rattle.ports.proofs.BlockLaws.{port_of_lt}
+use Rattle.cell.specs.NextState.{next_state}
 use Rattle.stepper.specs.Settling.{port_values}
 use Rattle.stepper.specs.Clocking as step
-use Rattle.moments.specs.Clocking.{handed, of_wires, lookup_at, next_cell, next_states}
+use Rattle.moments.specs.Clocking.{handed, of_wires, cell_at, lookup_at, next_cell, next_states}
 use Rattle.moments.proofs.SpreadLaws.{port_values_at}
 
 -- the same value at every port of every tile
@@ -48,6 +51,11 @@ pub clock_of_settled : (B : Block) (st b a state : List ℕ)
 clock_of_settled B st b a state =
     states_same (size_of B) st (handed (port_values B b)) (of_wires B b) (handed (port_values B a)) (of_wires B a)
     (λ T q lT lq. port_values_at B b (port_of T q) (port_of_lt B T q lT lq)) (λ T q lT lq. port_values_at B a (port_of T q) (port_of_lt B T q lT lq)) state
+
+-- "without a flip-flop, keep"
+pub next_kept : (st : List ℕ) (b a : ℕ → ℕ → ℕ) (state : List ℕ) (c : ℕ) → (cell_at st (c / 8) (c % 8)).flipflop ≡ false → get_or state c 0 ≡ next_cell st b a state c
+unfolding next_cell next_state
+next_kept st b a state c e = rw e
 
 -- `stepper`'s step moves every cell as clocking does, of the values that settling writes before and after
 pub step_clocked : (B : Block) (st b a state : List ℕ)
